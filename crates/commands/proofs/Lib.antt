@@ -1,4 +1,3 @@
-pub mod Appended
 pub mod CsAnswers
 pub mod Exported
 pub mod Given

@@ -3,7 +3,7 @@ use Rattle.std.proofs.Common.{◌≡◌, ℕ, ◌<◌, Bool, true, false, cond, 
 use Rattle.std.specs.Prelude.{filter, flat_map, codes}
 use Rattle.std.proofs.lemmas.List.Elements.{filter_agree}
 use Rattle.std.proofs.lemmas.Slice.Eq.{bytes_eq-Decides}
-use Rattle.net_base.specs.declared.ndb.NdbPair.{NdbPair}
+use Rattle.net_base.specs.Ndb.{NdbPair}
 use Rattle.net_base.specs.declared.address.Proto.{Proto}
 use Rattle.net_base.specs.Networks.{own_networks, is_on}
 use Rattle.net_base.specs.Cs.{CsAnswer, Lines, Refused, Query, read_query, answer_read, cs_list, refused_where_empty, nets_of, host_words, address_texts, own_first, ports_of, cs_line, lines_of}

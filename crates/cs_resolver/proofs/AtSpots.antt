@@ -5,15 +5,16 @@ use Rattle.std.specs.Option.{option_map_or}
 use Rattle.std.specs.List.{position_from}
 use Rattle.std.proofs.lemmas.List.{take_more}
 use Rattle.std.proofs.lemmas.List.Concat.{flat_map-append}
-use Rattle.net_base.specs.declared.ndb.NdbPair.{NdbPair}
+use Rattle.net_base.specs.Ndb.{NdbPair}
 use Rattle.net_base.specs.Search.{line_has}
 use Rattle.net_base.specs.Networks.{own_networks, is_on}
 use Rattle.net_base.specs.Cs.{own_first}
 use Rattle.ndb_tuple.specs.declared.numbers.Kind.{Kind}
 use Rattle.ndb_tuple.specs.Numbers.{numbers_near, numbers_found}
 use Rattle.ndb_search.proofs.FoundNumbers.{found_at, found_joins, found_one}
-use Rattle.ndb_index.specs.declared.spot.Spot.{Spot}
-use Rattle.ndb_index.specs.Kept.{spot_at, spot_in, spots_from, spots_with}
+use Rattle.net_base.specs.declared.ndb.spot.Spot.{Spot}
+use Rattle.net_base.specs.Spots.{spot_at}
+use Rattle.ndb_index.specs.Kept.{spot_in, spots_from, spots_with}
 use Rattle.cs_resolver.specs.Probes.{IsSpot, AreSpots, numbers_at}
 
 abbrev pub Lines : Type 0

@@ -8,7 +8,7 @@ use Rattle.std.proofs.lemmas.List.Folds.{list_any-append}
 use Rattle.std.proofs.lemmas.List.Sums.{sum_by_push, sum_by-take-le}
 use Rattle.std.proofs.lemmas.List.Concat.{flat_map-append}
 use Rattle.std.proofs.lemmas.List.{map-append, take_more, take-map}
-use Rattle.net_base.specs.declared.ndb.NdbPair.{NdbPair}
+use Rattle.net_base.specs.Ndb.{NdbPair}
 use Rattle.net_base.specs.Addresses.{read_address}
 use Rattle.net_base.specs.Cs.{once_each, is_numeric, name_attr, word_addresses}
 use Rattle.net_base.specs.Search.{has_attr}
@@ -16,8 +16,8 @@ use Rattle.ndb_tuple.specs.declared.numbers.Kind.TheVariants.{Address}
 use Rattle.ndb_tuple.specs.Numbers.{numbers_on, numbers_in, numbers_near, numbers_found}
 use Rattle.ndb_tuple.proofs.Pieces.{near_on, near_in}
 use Rattle.ndb_tuple.proofs.Covered.{equal, itself}
-use Rattle.ndb_index.specs.declared.spot.Spot.{Spot}
-use Rattle.ndb_index.specs.Spots.{same_spot}
+use Rattle.net_base.specs.declared.ndb.spot.Spot.{Spot}
+use Rattle.net_base.specs.Spots.{same_spot}
 use Rattle.ndb_index.specs.Kept.{spots_with}
 use Rattle.ndb_index.specs.Index.{found}
 use Rattle.ndb_index.proofs.Nearby.{spots_count}

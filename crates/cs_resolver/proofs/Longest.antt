@@ -4,7 +4,7 @@ use Rattle.std.specs.Prelude.{filter, filter_map, flat_map, find, option_and_the
 use Rattle.std.specs.List.{list_any, cons_option, range_with_len}
 use Rattle.std.proofs.lemmas.List.Folds.{list_any-append}
 use Rattle.std.proofs.lemmas.Bool.Decides.{nat_tests}
-use Rattle.net_base.specs.declared.ndb.NdbPair.{NdbPair}
+use Rattle.net_base.specs.Ndb.{NdbPair}
 use Rattle.net_base.specs.Addresses.{read_address}
 use Rattle.net_base.specs.Networks.{Network, first_of, mask_of, mask_bits, read_mask, class_bits, bits_of, tuple_names, network_of, contains_address, addresses_of, own_networks, is_on, longest_first}
 use Rattle.net_base.specs.Search.{values_in}

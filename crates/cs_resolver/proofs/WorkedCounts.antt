@@ -4,7 +4,7 @@ use Rattle.std.specs.Prelude.{filter, filter_map, flat_map, codes}
 use Rattle.std.specs.List.{list_any, list_all}
 use Rattle.std.specs.Fmt.{digits}
 use Rattle.std.proofs.lemmas.List.Elements.{filter-append, filter_map-append}
-use Rattle.net_base.specs.declared.ndb.NdbPair.{NdbPair}
+use Rattle.net_base.specs.Ndb.{NdbPair}
 use Rattle.net_base.specs.declared.address.Proto.TheVariants.{Il, Udp}
 use Rattle.net_base.specs.Search.{tuple_has, tuples_with, values_in}
 use Rattle.net_base.specs.Addresses.{read_address}

@@ -2,12 +2,12 @@
 use Rattle.std.specs.Prelude.{◌≡◌, ℕ, true, List, ◌++◌, map, nat_eq, get_or, []}
 use Rattle.std.specs.Borrow.{Bor}
 use Rattle.std.specs.List.{list_any}
-use Rattle.net_base.specs.declared.ndb.NdbPair.{NdbPair}
+use Rattle.net_base.specs.Ndb.{NdbPair}
 use Rattle.net_base.specs.Cs.{once_each}
 use Rattle.ndb_tuple.specs.declared.numbers.Kind.TheVariants.{Address}
 use Rattle.ndb_tuple.specs.Numbers.{numbers_in}
-use Rattle.ndb_index.specs.declared.spot.Spot.{Spot}
-use Rattle.ndb_index.specs.Spots.{same_spot}
+use Rattle.net_base.specs.declared.ndb.spot.Spot.{Spot}
+use Rattle.net_base.specs.Spots.{same_spot}
 use Rattle.cs_resolver.specs.Probes.{numbers_at}
 
 -- with these numbers behind the old ones, each once, the list is the same

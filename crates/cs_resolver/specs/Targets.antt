@@ -1,7 +1,7 @@
 -- Where a line connects to, as the resolver keeps it.
 use Rattle.std.specs.Prelude.{◌≡◌, ℕ, ◌<◌, Bool, not, ◌||◌, List, ◌++◌, length, filter, map, flat_map, bytes_eq, codes}
 use Rattle.net_base.specs.declared.address.Proto.{Proto}
-use Rattle.net_base.specs.declared.ndb.NdbPair.{NdbPair}
+use Rattle.net_base.specs.Ndb.{NdbPair}
 use Rattle.net_base.specs.Addresses.{address_text}
 use Rattle.net_base.specs.Cs.{proto_name, host_words, word_addresses, once_each}
 use Rattle.ndb_tuple.specs.declared.prefixes.Prefix.{Prefix}

@@ -1,7 +1,7 @@
 -- A small network with systems more, for bounds that are worked by hand.
 use Rattle.std.specs.Prelude.{◌≡◌, ℕ, true, not, ◌&&◌, List, [], ◌∷◌, map, bytes_eq, codes}
 use Rattle.std.specs.List.{list_all}
-use Rattle.net_base.specs.declared.ndb.NdbPair.{NdbPair}
+use Rattle.net_base.specs.Ndb.{NdbPair}
 
 -- an attribute with its value
 abbrev pub pair : List ℕ → List ℕ → NdbPair

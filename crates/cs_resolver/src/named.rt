@@ -6,11 +6,10 @@ ghost use Rattle.ndb_tuple.specs.declared.numbers.Kind.TheVariants.{Address};
 ghost use Rattle.cs_resolver.specs.Gathering.{Gathers, TuplesRead, SpotsRead, words_seen};
 ghost use Rattle.cs_resolver.specs.Probes.{IsSpot, AreSpots, numbers_at, word_found};
 
-use crate::numbers::line_at;
 use crate::query::{is_numeric, name_attr};
 use indexmap::IndexSet;
 use ndb_index::{Index, Spot, Steps};
-use ndb_tuple::{Kind, add_numbers_in, add_numbers_on, line_names};
+use ndb_tuple::{Kind, add_numbers_in, add_numbers_on};
 use net_base::Octets;
 use std::alloc::{AllocError, Global};
 use std::sync::ledger::Ledger;
@@ -52,15 +51,15 @@ fn read_spot<L: Ledger>(
     ensures cost { steps.new ≤ steps.old + 1 }
 {
     let tuple = index.at(spot.place, steps);
-    let line = line_at(tuple, spot.line);
-    if line_names(Kind::Address.attr(), line) {
-        add_numbers_on(Kind::Address, line, ips)?;
+    let line = tuple.line(spot.line as usize);
+    if line.names(Kind::Address.attr()) {
+        add_numbers_on(Kind::Address, &line, ips)?;
         return Ok(());
     }
     if !tuples.insert(spot.place)? {
         return Ok(());
     }
-    add_numbers_in(Kind::Address, tuple, ips)?;
+    add_numbers_in(Kind::Address, &tuple, ips)?;
     Ok(())
 }
 
@@ -89,6 +88,7 @@ fn add_spot<L: Ledger>(
 
 /// Adds the addresses of a word, for at most a step for each tuple that is found.
 fn add_word<L: Ledger>(
+    alloc: Global,
     index: &Index,
     word: &[u8],
     read: &mut Read,
@@ -103,7 +103,8 @@ fn add_word<L: Ledger>(
     ensures cost { steps.new ≤ steps.old + word_found index.now word.now }
 {
     if !is_numeric(word) {
-        add_spots(index, index.spots(name_attr(word), word), read, ips, steps)?;
+        let spots = index.spots(alloc, name_attr(word), word)?;
+        add_spots(index, &spots, read, ips, steps)?;
         return Ok(());
     }
     if let Some(ip) = read_address(word) {
@@ -152,7 +153,7 @@ pub fn words_addresses<L: Ledger>(
     };
     let mut ips = Vec::new(alloc);
     for word in once.as_slice() {
-        add_word(index, *word, &mut read, &mut ips, steps)?;
+        add_word(alloc, index, *word, &mut read, &mut ips, steps)?;
     }
     Ok(ips)
 }

@@ -1,22 +1,13 @@
 //! Numbers beside pairs of an index.
-ghost use Rattle.std.specs.Prelude.{◌≡◌, ◌+◌, ◌<◌, ◌≤◌, ◌++◌, [], flat_map, get_or, length, IfOk, OnOk};
+ghost use Rattle.std.specs.Prelude.{◌≡◌, ◌+◌, ◌≤◌, ◌++◌, flat_map, length, IfOk, OnOk};
 ghost use Rattle.ndb_tuple.specs.Numbers.{numbers_found};
 ghost use Rattle.ndb_index.specs.Index.{found};
 ghost use Rattle.cs_resolver.specs.Probes.{IsSpot, AreSpots, numbers_at};
 
 use ndb_index::{Index, Spot, Steps};
 use ndb_tuple::{Kind, add_numbers_beside};
-use net_base::{Line, Tuple};
 use std::alloc::{AllocError, Global};
 use std::sync::ledger::Ledger;
-
-/// The line of a tuple at a place that a spot gives.
-pub fn line_at(tuple: &Tuple, line: u64) -> &Line
-    requires { line < length tuple.now }
-    ensures { result.now ≡ get_or tuple.now line [] }
-{
-    &tuple.as_slice()[line as usize]
-}
 
 /// Adds the numbers of a kind beside the pair that stands at a spot, for one step.
 fn add_at<L: Ledger>(
@@ -31,8 +22,8 @@ fn add_at<L: Ledger>(
     ensures cost { steps.new ≤ steps.old + 1 }
 {
     let tuple = index.at(spot.place, steps);
-    let line = line_at(tuple, spot.line);
-    add_numbers_beside(kind, line, tuple, numbers)?;
+    let line = tuple.line(spot.line as usize);
+    add_numbers_beside(kind, &line, &tuple, numbers)?;
     Ok(())
 }
 
@@ -68,6 +59,7 @@ pub fn numbers_beside<L: Ledger>(
     ensures cost { steps.new ≤ steps.old + found attr.now value.now index.now }
 {
     let mut numbers = Vec::new(alloc);
-    add_all(index, kind, index.spots(attr, value), &mut numbers, steps)?;
+    let spots = index.spots(alloc, attr, value)?;
+    add_all(index, kind, &spots, &mut numbers, steps)?;
     Ok(numbers)
 }

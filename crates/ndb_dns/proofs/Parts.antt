@@ -8,7 +8,7 @@ use Rattle.std.proofs.lemmas.List.{take_more, take_all, map-append, map_more, ge
 use Rattle.std.proofs.lemmas.List.Elements.{filter_map-append}
 use Rattle.std.proofs.lemmas.List.Concat.{flat_map-append}
 use Rattle.std.proofs.lemmas.Option.{none-some, same_Some, slice_get-map}
-use Rattle.net_base.specs.declared.ndb.NdbPair.{NdbPair}
+use Rattle.net_base.specs.Ndb.{NdbPair}
 use Rattle.net_base.specs.Addresses.{read_address}
 use Rattle.net_base.specs.Cs.{once_each}
 use Rattle.net_base.specs.NdbBundle.{each_once}
@@ -17,9 +17,9 @@ use Rattle.net_base.specs.Networks.{first_of}
 use Rattle.net_base.specs.Search.{all_beside, beside, or_where_empty, tuples_with}
 use Rattle.net_base.specs.Bytes.{word_at}
 use Rattle.ndb_reader.specs.Names.{names_seen, with_name, with_names}
-use Rattle.ndb_reader.proofs.Groups.{name_put}
+use Rattle.ndb_reader.proofs.Chosen.{name_put}
 use Rattle.ndb_reader.proofs.Once.{names_append}
-use Rattle.ndb_index.specs.declared.spot.Spot.{Spot}
+use Rattle.net_base.specs.declared.ndb.spot.Spot.{Spot}
 use Rattle.ndb_index.specs.Index.{found}
 use Rattle.ndb_index.specs.Kept.{spots_with}
 use Rattle.ndb_index.specs.Near.{spot_tuples}

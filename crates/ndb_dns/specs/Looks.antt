@@ -1,7 +1,7 @@
 -- How many tuples an answer looks at, at most.
 use Rattle.std.specs.Prelude.{ℕ, ◌+◌, ◌*◌, ◌==◌, List, Option, Some, None, codes, if◌then◌else◌}
 use Rattle.std.specs.Option.{option_map_or}
-use Rattle.net_base.specs.declared.ndb.NdbPair.{NdbPair}
+use Rattle.net_base.specs.Ndb.{NdbPair}
 use Rattle.ndb_index.specs.Index.{found}
 use Rattle.net_base.specs.declared.question.Question.{Question}
 use Rattle.net_base.specs.DomainAnswers.{Key, alias_of, host_address, key_of}

@@ -1,6 +1,6 @@
 //! What a message is answered.
 ghost use Rattle.std.specs.Prelude.{◌≡◌, ◌+◌, ◌<◌, ◌≤◌, ◌↔◌, ◌++◌, ◌⊎◌, List, length, if◌then◌else◌, IfOk, IsTrue};
-ghost use Rattle.net_base.specs.declared.ndb.NdbPair.{NdbPair};
+ghost use Rattle.net_base.specs.Ndb.{NdbPair};
 ghost use Rattle.net_base.specs.DomainAnswers as spec;
 ghost use Rattle.ndb_dns.specs.Looks.{looks_of, most_looks};
 ghost use Rattle.ndb_dns.specs.Refusals.{Refuses};
@@ -145,7 +145,8 @@ fn add_known<L: Ledger>(
     let Some(key) = key_of(alloc, question)? else {
         return Ok(3);
     };
-    if index.spots(key.attr, key.value.as_slice()).is_empty() {
+    let spots = index.spots(alloc, key.attr, key.value.as_slice())?;
+    if spots.is_empty() {
         return Ok(3);
     }
     add_found(alloc, index, question.kind, &key, records, steps)?;

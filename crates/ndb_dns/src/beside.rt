@@ -36,7 +36,7 @@ fn add_at_spots<L: Ledger>(
 {
     for spot in spots {
         let tuple = index.at(spot.place, steps);
-        add_beside(attr, value, other, tuple, values)?;
+        add_beside(attr, value, other, &tuple, values)?;
     }
     Ok(())
 }
@@ -53,16 +53,9 @@ fn values_beside<L: Ledger>(
     ensures values { IfOk result (λ values. values ≡ spec.all_beside attr.now value.now other.now index.now) }
     ensures cost { steps.new ≤ steps.old + found attr.now value.now index.now }
 {
+    let spots = index.spots(alloc, attr, value)?;
     let mut values = Lines::new(alloc);
-    add_at_spots(
-        index,
-        attr,
-        value,
-        other,
-        index.spots(attr, value),
-        &mut values,
-        steps,
-    )?;
+    add_at_spots(index, attr, value, other, &spots, &mut values, steps)?;
     Ok(values)
 }
 

@@ -5,7 +5,7 @@ use Rattle.std.specs.Option.{option_map_or}
 use Rattle.std.specs.List.{list_any, cons_option}
 use Rattle.std.proofs.lemmas.List.Folds.{list_any_more, Any-from_list_any, list_any_at}
 use Rattle.std.proofs.lemmas.Bool.Decides.{nat_tests}
-use Rattle.net_base.specs.declared.ndb.NdbPair.{NdbPair}
+use Rattle.net_base.specs.Ndb.{NdbPair}
 use Rattle.net_base.specs.Networks.{Network, network_of, contains_address, own_networks, addresses_of, is_on, is_filled}
 use Rattle.ndb_tuple.specs.Prefixes.{first_bits, prefix_of, is_prefix, is_on_prefix}
 use Rattle.ndb_tuple.specs.Places.{places_of}

@@ -1,5 +1,5 @@
+pub mod ByPair
 pub mod Covering
-pub mod Joined
 pub mod Nearby
 pub mod Notes
 pub mod Own

@@ -7,7 +7,7 @@ use Rattle.std.proofs.lemmas.Bool.Decides.{nat_tests}
 use Rattle.std.proofs.lemmas.List.Elements.{filter_map-append}
 use Rattle.std.proofs.lemmas.List.Concat.{flat_map-append}
 use Rattle.std.proofs.lemmas.List.{map-append, take_more}
-use Rattle.net_base.specs.declared.ndb.NdbPair.{NdbPair}
+use Rattle.net_base.specs.Ndb.{NdbPair}
 use Rattle.net_base.specs.Addresses.{read_address}
 use Rattle.net_base.specs.Search.{line_has, tuple_has, tuples_with, values_in}
 use Rattle.net_base.specs.Networks.{Network, network_of, bits_of, first_of, tuple_names, contains_address, own_networks, addresses_of, longest_first, is_filled, closest}
@@ -18,8 +18,9 @@ use Rattle.ndb_tuple.specs.Closest.{first_filled}
 use Rattle.ndb_tuple.proofs.Lists.{Joins}
 use Rattle.ndb_tuple.proofs.NonEmpty.{first_here, first_past, one_filled, none_filled, near_is}
 use Rattle.ndb_tuple.proofs.Covered.{equal}
-use Rattle.ndb_index.specs.declared.spot.Spot.{Spot}
-use Rattle.ndb_index.specs.Kept.{spot_at, spot_in, spots_from, spots_with}
+use Rattle.net_base.specs.declared.ndb.spot.Spot.{Spot}
+use Rattle.net_base.specs.Spots.{spot_at}
+use Rattle.ndb_index.specs.Kept.{spot_in, spots_from, spots_with}
 use Rattle.ndb_index.specs.Nets.{is_own, own_places, longest_places}
 use Rattle.ndb_index.specs.Index.{near_count}
 use Rattle.ndb_index.specs.Near.{AreWithin, Finds, SpotsWithin, tuples_at, spot_tuples, numbers_of}

@@ -12,7 +12,7 @@ use Rattle.std.specs.BTreeSet.{insert_key}
 use Rattle.std.proofs.lemmas.Bool.Decides.{nat_tests}
 use Rattle.std.proofs.lemmas.List.Folds.{list_any-append, Any-from_list_any, list_any_at}
 use Rattle.std.proofs.lemmas.List.{take_more}
-use Rattle.net_base.specs.declared.ndb.NdbPair.{NdbPair}
+use Rattle.net_base.specs.Ndb.{NdbPair}
 use Rattle.net_base.specs.Networks.{Network, network_of, contains_address, is_filled}
 use Rattle.ndb_tuple.specs.declared.prefixes.Prefix.{Prefix}
 use Rattle.ndb_tuple.specs.Prefixes.{first_bits, is_prefix, same_prefix}

@@ -1,19 +1,18 @@
--- What a `ShortHasher` computes.
+-- The buckets of pairs.
 use Rattle.std.specs.Prelude.{ℕ, ◌*◌, ◌%◌, ◌^◌, List, fold, bit_xor}
-use Rattle.ndb_index.specs.declared.hasher.ShortHasher.{ShortHasher}
+use Rattle.net_base.specs.Ndb.{NdbPair}
 
 -- the hash before any byte
-abbrev pub at_first : ShortHasher
-at_first = record { hash = 0xcbf2_9ce4_8422_2325 }
+abbrev pub at_first : ℕ
+at_first = 0xcbf2_9ce4_8422_2325
 
 -- the hash after one more byte
 abbrev pub step : ℕ → ℕ → ℕ
 step hash byte = (bit_xor hash byte * 0x100_0000_01b3) % 2 ^ 64
 
--- the hash after more bytes
-abbrev pub write : ShortHasher → List ℕ → ShortHasher
-write h bytes = record { hash = fold step h.hash bytes }
+-- the bucket of a pair, of so many
+unfoldable pub bucket_in : ℕ → List ℕ → List ℕ → ℕ
+bucket_in width attr value = fold step (fold step at_first attr) value % width
 
--- what is told at the end
-abbrev pub finish : ShortHasher → ℕ
-finish h = h.hash
+abbrev pub pair_bucket : ℕ → NdbPair → ℕ
+pair_bucket width pair = bucket_in width pair.attr pair.value

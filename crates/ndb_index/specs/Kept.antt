@@ -1,17 +1,13 @@
--- Where each pair stands, and what an index keeps of it.
+-- Where each pair stands, by tuples and by pairs in a row.
 use Rattle.std.specs.Prelude.{ℕ, ◌+◌, ◌-◌, Bool, false, ◌==◌, List, [], ◌∷◌, ◌++◌, length, slice_get, Option, option_map, option_to_list, unwrap_or, if◌then◌else◌}
 use Rattle.std.specs.Option.{option_map_or}
 use Rattle.std.specs.List.{position_from}
-use Rattle.std.specs.Map.{lookup}
-use Rattle.net_base.specs.declared.ndb.NdbPair.{NdbPair}
-use Rattle.net_base.specs.Search.{line_has}
-use Rattle.ndb_index.specs.declared.spot.Spot.{Spot}
-use Rattle.ndb_index.specs.Keys.{same_pair}
+use Rattle.net_base.specs.Ndb.{NdbPair}
+use Rattle.net_base.specs.Search.{is_pair, line_has}
+use Rattle.net_base.specs.Spots.{spot_at}
+use Rattle.net_base.specs.declared.ndb.spot.Spot.{Spot}
 
 -- A pair's spots.
-
-abbrev pub spot_at : ℕ → ℕ → Spot
-spot_at place line = record { place = place; line = line }
 
 -- where the pair stands in the tuple at this place, if it does: on the first line that has it
 abbrev pub spot_in : ℕ → List ℕ → List ℕ → List (List NdbPair) → Option Spot
@@ -27,19 +23,7 @@ spots_from place attr value (tuple ∷ tuples) =
 abbrev pub spots_with : List ℕ → List ℕ → List (List (List NdbPair)) → List Spot
 spots_with attr value db = spots_from 0 attr value db
 
--- What is kept.
-
--- the key is this pair
-abbrev pub is_key : List ℕ → List ℕ → NdbPair → Bool
-is_key attr value key = same_pair attr value key.attr key.value
-
--- the spots by a pair, if any were kept
-abbrev pub spots_found : List ℕ → List ℕ → List (NdbPair × List Spot) → Option (List Spot)
-spots_found attr value pairs = lookup (is_key attr value) pairs
-
--- the spots by a pair
-abbrev pub spots_kept : List ℕ → List ℕ → List (NdbPair × List Spot) → List Spot
-spots_kept attr value pairs = unwrap_or (spots_found attr value pairs) []
+-- What is found so far.
 
 -- the last spot is in the tuple at this place
 abbrev pub ends_at : ℕ → List Spot → Bool

@@ -2,10 +2,11 @@ pub use Rattle.net_base.specs.Networks
 pub use Rattle.net_base.specs.Search
 pub use Rattle.ndb_tuple.specs.Places
 pub use Rattle.ndb_tuple.specs.Prefixes
+pub mod Chained
 pub mod Hashing
 pub mod Index
-pub mod Keys
 pub mod Kept
 pub mod Near
 pub mod Nets
-pub mod Spots
+pub use Rattle.net_base.specs.Spots
+pub use Rattle.net_base.specs.Store

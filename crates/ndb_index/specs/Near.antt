@@ -1,10 +1,10 @@
 -- Tuples near a system, by their places.
 use Rattle.std.specs.Prelude.{◌≡◌, ℕ, ◌<◌, List, [], length, map, flat_map, get_or}
-use Rattle.net_base.specs.declared.ndb.NdbPair.{NdbPair}
+use Rattle.net_base.specs.Ndb.{NdbPair}
 use Rattle.net_base.specs.Search.{tuples_with}
 use Rattle.ndb_tuple.specs.declared.numbers.Kind.TheVariants.{Address}
 use Rattle.ndb_tuple.specs.Numbers.{numbers_in}
-use Rattle.ndb_index.specs.declared.spot.Spot.{Spot}
+use Rattle.net_base.specs.declared.ndb.spot.Spot.{Spot}
 
 -- the places are in the database
 abbrev pub AreWithin : List (List (List NdbPair)) → List ℕ → Type 0

@@ -3,7 +3,7 @@ use Rattle.std.specs.Prelude.{◌≡◌, ℕ, ◌-◌, Bool, true, false, ◌&&�
 use Rattle.std.specs.Option.{option_map_or}
 use Rattle.std.specs.List.{list_any, range_with_len}
 use Rattle.std.specs.Map.{lookup}
-use Rattle.net_base.specs.declared.ndb.NdbPair.{NdbPair}
+use Rattle.net_base.specs.Ndb.{NdbPair}
 use Rattle.net_base.specs.Networks.{Network, network_of, contains_address, is_filled}
 use Rattle.ndb_tuple.specs.declared.prefixes.Prefix.{Prefix}
 use Rattle.ndb_tuple.specs.Prefixes.{is_prefix, is_on_prefix, same_prefix, prefix_of}

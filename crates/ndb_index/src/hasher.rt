@@ -1,39 +1,28 @@
-//! The hash of a pair as a key.
-ghost use Rattle.std.specs.Prelude.{◌≡◌};
+//! The hash of a pair.
+ghost use Rattle.std.specs.Prelude.{◌≡◌, ◌<◌, fold};
 ghost use Rattle.ndb_index.specs.Hashing as spec;
 
-use std::hash::Hasher;
+/// The hash before any byte.
+const FIRST: u64 = 0xcbf2_9ce4_8422_2325;
 
-/// FNV-1a of 64 bits, a step a byte: for texts of some ten bytes it is far cheaper than std's hasher.
-#[derive(Clone, Copy)]
-pub struct ShortHasher {
-    hash: u64,
+/// The hash after more bytes: FNV-1a of 64 bits, a step a byte. For texts of some ten bytes it is far cheaper than std's hasher.
+fn hash_on(hash: u64, bytes: &[u8]) -> u64
+    ensures { result ≡ fold spec.step hash bytes.now }
+{
+    let mut hash = hash;
+    for byte in bytes {
+        hash = (hash ^ u64::from(*byte)).wrapping_mul(0x100_0000_01b3);
+    }
+    hash
 }
 
-impl Default for ShortHasher {
-    ghost is_default = { λ h. h ≡ spec.at_first };
-
-    fn default() -> ShortHasher {
-        ShortHasher {
-            hash: 0xcbf2_9ce4_8422_2325,
-        }
-    }
-}
-
-impl Hasher for ShortHasher {
-    ghost write = { spec.write };
-
-    ghost finish = { spec.finish };
-
-    fn finish(&self) -> u64 {
-        self.hash
-    }
-
-    fn write(&mut self, bytes: &[u8]) {
-        let mut hash = self.hash;
-        for byte in bytes {
-            hash = (hash ^ u64::from(*byte)).wrapping_mul(0x100_0000_01b3);
-        }
-        self.hash = hash;
-    }
+/// The bucket of a pair, of so many: by the hash of its attribute with its value behind it.
+#[tactic(auto, unfolding(crate::specs::Hashing::bucket_in))]
+pub fn bucket_of(width: usize, attr: &[u8], value: &[u8]) -> usize
+    requires { 0 < width }
+    ensures value { result ≡ spec.bucket_in width attr.now value.now }
+    ensures within { result < width }
+{
+    let hash = hash_on(hash_on(FIRST, attr), value);
+    (hash % width as u64) as usize
 }

@@ -3,19 +3,18 @@ ghost use Rattle.std.specs.Prelude.{◌≡◌, ◌+◌, ◌<◌, ◌≤◌, [], 
 ghost use Rattle.net_base.specs.Search as spec;
 ghost use Rattle.ndb_tuple.specs.Places.{places_with};
 ghost use Rattle.ndb_index.specs.Kept.{spots_with};
-ghost use Rattle.ndb_index.specs.Index.{HasSpots};
 ghost use Rattle.ndb_index.specs.Near.{Finds};
 ghost use Rattle.ndb_index.specs.Nets.{HasPlaces, HasAllLengths};
 
 use crate::networks::{self, Networks};
-use crate::pairs::{self, Pairs, spots_of};
-use crate::spot::Spot;
+use crate::pairs::{chains_of, spots_found};
+use crate::scan::places_at;
 use indexmap::{IndexMap, IndexSet};
+use ndb_chains::Chains;
 use ndb_reader::{Steps, Tuples};
 use ndb_tuple::{Places, add_beside};
-use net_base::{Db, Lines, Tuple};
+use net_base::{Db, Lines, Spot, Tuple};
 use std::alloc::{AllocError, Global};
-use std::hash::BuildHasherDefault;
 use std::marker::{Brand, Model};
 use std::sync::ledger::{Blank, Ledger};
 
@@ -23,39 +22,21 @@ use std::sync::ledger::{Blank, Ledger};
 #[derive(Drop)]
 pub struct Index {
     pub(crate) tuples: Tuples,
-    pub(crate) pairs: Pairs,
+    pub(crate) pairs: Option<Chains>,
     pub(crate) networks: Networks,
     pub(crate) lengths: IndexSet<u32>,
 }
 
 impl Model for Index {
     ghost use Rattle.std.specs.Prelude.{List};
-    ghost use Rattle.net_base.specs.declared.ndb.NdbPair.{NdbPair};
+    ghost use Rattle.net_base.specs.Ndb.{NdbPair};
     ghost use Rattle.ndb_index.specs.Index.{IsIndex};
 
     ghost Value = { List (List (List NdbPair)) };
 
     ghost view = { λ i. i.tuples };
 
-    ghost invariant = { λ i. IsIndex i.tuples i.pairs.entries i.networks.entries i.lengths.keys };
-}
-
-/// How many pairs of its own a tuple mostly has.
-const PAIRS: usize = 3;
-
-/// For the pairs of how many tuples room is made at once.
-const TUPLES: usize = 16384;
-
-/// The spots of all pairs.
-fn pairs_of(alloc: Global, db: &Db) -> Result<Pairs, AllocError>
-    ensures { IfOk result (λ pairs. HasSpots db.now pairs.entries) }
-{
-    let room = db.len().min(TUPLES) * PAIRS;
-    let mut pairs = IndexMap::with_capacity_and_hasher(alloc, room, BuildHasherDefault::new())?;
-    for (place, tuple) in db.as_slice().iter().enumerate() {
-        pairs::add_tuple(alloc, &mut pairs, tuple, place as u64)?;
-    }
-    Ok(pairs)
+    ghost invariant = { λ i. IsIndex i.tuples i.pairs i.networks.entries i.lengths.keys };
 }
 
 /// The places of all networks, and the numbers of bits that they share.
@@ -64,8 +45,9 @@ fn networks_of(alloc: Global, db: &Db) -> Result<(Networks, IndexSet<u32>), Allo
 {
     let mut networks = IndexMap::new(alloc);
     let mut lengths = IndexSet::new(alloc);
-    for (place, tuple) in db.as_slice().iter().enumerate() {
-        networks::add_tuple(alloc, &mut networks, &mut lengths, tuple, place as u64)?;
+    for place in 0..db.len() {
+        let tuple = db.tuple(place);
+        networks::add_tuple(alloc, &mut networks, &mut lengths, &tuple, place as u64)?;
     }
     Ok((networks, lengths))
 }
@@ -75,11 +57,24 @@ impl Index {
     pub fn new(alloc: Global, db: Db) -> Result<Index, AllocError>
         ensures { IfOk result (λ index. index ≡ db) }
     {
-        let pairs = pairs_of(alloc, &db)?;
+        let pairs = chains_of(alloc, &db)?;
         let (networks, lengths) = networks_of(alloc, &db)?;
         Ok(Index {
             tuples: Tuples::new(db),
-            pairs,
+            pairs: Some(pairs),
+            networks,
+            lengths,
+        })
+    }
+
+    /// The same for one who asks a few times: each search goes once over all pairs.
+    pub fn scanned(alloc: Global, db: Db) -> Result<Index, AllocError>
+        ensures { IfOk result (λ index. index ≡ db) }
+    {
+        let (networks, lengths) = networks_of(alloc, &db)?;
+        Ok(Index {
+            tuples: Tuples::new(db),
+            pairs: None,
             networks,
             lengths,
         })
@@ -93,19 +88,20 @@ impl Index {
     }
 
     /// The tuple at a place, for one step.
-    pub fn at<L: Ledger>(&self, place: u64, steps: &mut Steps<L>) -> &Tuple
+    pub fn at<L: Ledger>(&self, place: u64, steps: &mut Steps<L>) -> Tuple<'_>
         requires { place < length self.now }
-        ensures tuple { result.now ≡ get_or self.now place [] }
+        ensures tuple { result ≡ get_or self.now place [] }
         ensures cost { steps.new ≡ steps.old + 1 }
     {
         self.tuples.at(place, steps)
     }
 
-    /// Where a pair stands, in each tuple that contains it. It looks at no tuple and takes no memory.
-    pub fn spots(&self, attr: &[u8], value: &[u8]) -> &[Spot]
-        ensures { result.now ≡ spots_with attr.now value.now self.now }
+    /// Where a pair stands, in each tuple that contains it. It looks at no tuple.
+    pub fn spots(&self, alloc: Global, attr: &[u8], value: &[u8]) -> Result<Vec<Spot>, AllocError>
+        ensures { IfOk result (λ spots. spots.items ≡ spots_with attr.now value.now self.now) }
     {
-        spots_of(&self.pairs, attr, value)
+        let spots = spots_found(alloc, &self.tuples, &self.pairs, attr, value)?;
+        Ok(spots)
     }
 
     /// The places of the tuples that contain the pair, in order.
@@ -115,10 +111,8 @@ impl Index {
             ≡ spec.tuples_with attr.now value.now self.now) }
         ensures found { IfOk result (Finds self.now attr.now value.now) }
     {
-        let mut places = Places::new(alloc);
-        for spot in self.spots(attr, value) {
-            places.push(spot.place)?;
-        }
+        let spots = self.spots(alloc, attr, value)?;
+        let places = places_at(alloc, &spots)?;
         Ok(places)
     }
 
@@ -155,7 +149,8 @@ impl Index {
         ensures cost { steps.new ≤ steps.old + 1 }
     {
         let mut values = Lines::new(alloc);
-        add_beside(attr, value, other, self.at(place, steps), &mut values)?;
+        let tuple = self.at(place, steps);
+        add_beside(attr, value, other, &tuple, &mut values)?;
         Ok(values)
     }
 

@@ -3,14 +3,13 @@
 
 mod hasher;
 mod index;
-mod key;
 mod near;
 mod networks;
 mod pairs;
-mod spot;
-mod spots;
+mod scan;
 
 pub use index::Index;
 pub use ndb_reader::{Steps, Tuples};
 pub use ndb_tuple::{Places, Prefixes};
-pub use spot::Spot;
+pub use net_base::Spot;
+pub use scan::search_scanned;

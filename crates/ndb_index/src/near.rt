@@ -9,10 +9,9 @@ ghost use Rattle.ndb_index.specs.Nets.{longest_places};
 
 use crate::index::Index;
 use crate::networks::{own_places, prefixes_of};
-use crate::spot::Spot;
 use ndb_reader::Steps;
 use ndb_tuple::{Kind, Prefixes, add_numbers_in, filled_in};
-use net_base::Lines;
+use net_base::{Lines, Spot};
 use std::alloc::{AllocError, Global};
 use std::marker::Brand;
 use std::sync::ledger::{Blank, Ledger};
@@ -35,11 +34,11 @@ impl Index {
     {
         for spot in mine {
             let tuple = self.at(spot.place, steps);
-            let values = filled_in(alloc, attr, tuple)?;
+            let values = filled_in(alloc, attr, &tuple)?;
             if values.len() != 0 {
                 return Ok(Some(values));
             }
-            add_numbers_in(Kind::Address, tuple, ips)?;
+            add_numbers_in(Kind::Address, &tuple, ips)?;
         }
         Ok(None)
     }
@@ -58,7 +57,7 @@ impl Index {
     {
         for place in places {
             let tuple = self.at(*place, steps);
-            let values = filled_in(alloc, attr, tuple)?;
+            let values = filled_in(alloc, attr, &tuple)?;
             if values.len() != 0 {
                 return Ok(Some(values));
             }
@@ -86,8 +85,8 @@ impl Index {
         ensures cost { steps.new ≤ steps.old + near_count me.now self.now }
     {
         let mut ips = Vec::new(alloc);
-        let mine = self.spots(b"sys", me);
-        if let Some(values) = self.closest_of(alloc, mine, attr, &mut ips, steps)? {
+        let mine = self.spots(alloc, b"sys", me)?;
+        if let Some(values) = self.closest_of(alloc, &mine, attr, &mut ips, steps)? {
             return Ok(values);
         }
         let places = self.own_places(alloc, &ips)?;
@@ -110,7 +109,7 @@ impl Index {
     {
         for spot in mine {
             let tuple = self.at(spot.place, steps);
-            add_numbers_in(Kind::Address, tuple, ips)?;
+            add_numbers_in(Kind::Address, &tuple, ips)?;
         }
         Ok(())
     }
@@ -126,7 +125,8 @@ impl Index {
         ensures cost { steps.new ≤ steps.old + own_count me.now self.now }
     {
         let mut ips = Vec::new(alloc);
-        self.add_addresses(self.spots(b"sys", me), &mut ips, steps)?;
+        let mine = self.spots(alloc, b"sys", me)?;
+        self.add_addresses(&mine, &mut ips, steps)?;
         Ok(ips)
     }
 

@@ -1,7 +1,7 @@
 //! The networks of a database by their first bits.
 ghost use Rattle.std.specs.Prelude.{◌≡◌, ℕ, ◌||◌, ◌++◌, List, None, nat_eq, IfOk, OnOk};
 ghost use Rattle.std.specs.List.{list_any};
-ghost use Rattle.net_base.specs.declared.ndb.NdbPair.{NdbPair};
+ghost use Rattle.net_base.specs.Ndb.{NdbPair};
 ghost use Rattle.ndb_tuple.specs.declared.prefixes.Prefix.{Prefix as Seen};
 ghost use Rattle.ndb_tuple.specs.Prefixes.{covers, same_prefix};
 ghost use Rattle.ndb_index.specs.Nets.{places_kept, places_found, place_noted, has_prefix, has_length, is_covered, is_among, prefix, HasPlaces, HasAllLengths, own_places, longest_places};
@@ -64,7 +64,7 @@ pub fn add_tuple(
     alloc: Global,
     networks: &mut Networks,
     lengths: &mut IndexSet<u32>,
-    tuple: &Tuple,
+    tuple: &Tuple<'_>,
     place: u64,
 ) -> Result<(), AllocError>
     ensures places { OnOk result ((asked : Seen) → places_kept asked networks.new.entries

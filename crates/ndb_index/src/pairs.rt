@@ -1,28 +1,31 @@
 //! Where each pair of a database stands.
-ghost use Rattle.std.specs.Prelude.{◌≡◌, ℕ, List, OnOk};
-ghost use Rattle.net_base.specs.Search.{is_pair, line_has};
+ghost use Rattle.std.specs.Prelude.{◌≡◌, ◌<◌, length, get_or, IfOk, OnOk};
+ghost use Rattle.net_base.specs.Ndb.{NdbPair};
+ghost use Rattle.net_base.specs.Search.{is_pair};
+ghost use Rattle.net_base.specs.Spots.{pair_spots};
+ghost use Rattle.net_base.specs.Store.{all_pairs};
+ghost use Rattle.net_base.specs.declared.ndb.spot.Spot.{Spot as Seen};
+ghost use Rattle.ndb_index.specs.Chained.{AreByPair, HasPairs};
 ghost use Rattle.ndb_index.specs.Kept as spec;
 
-use crate::hasher::ShortHasher;
-use crate::key::{Asked, Key};
-use crate::spot::Spot;
-use crate::spots::Spots;
-use indexmap::IndexMap;
-use net_base::{Line, NdbPair, Tuple};
+use crate::hasher::bucket_of;
+use ndb_chains::Chains;
+use ndb_reader::Tuples;
+use net_base::{Db, Spot};
 use std::alloc::{AllocError, Global};
-use std::hash::BuildHasherDefault;
 
-/// The spots of each pair.
-pub type Pairs = IndexMap<Key, Spots, BuildHasherDefault<ShortHasher>>;
-
-/// The spots of a pair.
-pub fn spots_of<'a>(pairs: &'a Pairs, attr: &[u8], value: &[u8]) -> &'a [Spot]
-    ensures { result.now ≡ spec.spots_kept attr.now value.now pairs.now.entries }
+/// All pairs by their buckets, of which there are about half as many.
+pub fn chains_of(alloc: Global, db: &Db) -> Result<Chains, AllocError>
+    ensures { IfOk result (AreByPair db.now) }
 {
-    match pairs.get(Asked { attr, value }) {
-        Some(spots) => spots.as_slice(),
-        None => &[],
+    let count = db.pair_count();
+    let width = count / 2 + 1;
+    let mut chains = Chains::new(alloc, width, count)?;
+    for back in 0..count {
+        let pair = db.pair(count - 1 - back);
+        chains.push(bucket_of(width, pair.attr(), pair.value()))?;
     }
+    Ok(chains)
 }
 
 /// Whether the last spot is in the tuple at a place.
@@ -36,54 +39,86 @@ fn ends_at(spots: &[Spot], place: u64) -> bool
 }
 
 /// Adds a spot, where the pair isn't noted for its tuple yet.
-fn add_spot(spots: &mut Spots, spot: Spot) -> Result<(), AllocError>
-    ensures { OnOk result (spots.new ≡ spec.with_spot spot spots.old) }
+fn add_spot(spot: Spot, spots: &mut Vec<Spot>) -> Result<(), AllocError>
+    ensures { OnOk result (spots.new.items ≡ spec.with_spot spot spots.old.items) }
 {
-    if ends_at(spots.as_slice(), spot.place) {
+    if ends_at(spots, spot.place) {
         return Ok(());
     }
-    spots.push(spot)
-}
-
-/// Notes that a pair stands at a spot.
-fn add_pair(alloc: Global, pairs: &mut Pairs, pair: &NdbPair, spot: Spot) -> Result<(), AllocError>
-    ensures { OnOk result ((attr value : List ℕ) → spec.spots_kept attr value pairs.new.entries
-        ≡ spec.noted (is_pair attr value pair.now) spot (spec.spots_kept attr value pairs.old.entries)) }
-{
-    let spots = pairs
-        .entry(Key::of(alloc, pair)?)?
-        .or_insert(Spots::new(alloc));
-    add_spot(spots, spot)?;
+    spots.push(spot)?;
     Ok(())
 }
 
-/// Notes the pairs of a line.
-fn add_line(alloc: Global, pairs: &mut Pairs, line: &Line, spot: Spot) -> Result<(), AllocError>
-    ensures { OnOk result ((attr value : List ℕ) → spec.spots_kept attr value pairs.new.entries
-        ≡ spec.noted (line_has attr value line.now) spot (spec.spots_kept attr value pairs.old.entries)) }
-{
-    for pair in line.as_slice() {
-        add_pair(alloc, pairs, pair, spot)?;
-    }
-    Ok(())
-}
-
-/// Notes the pairs of the tuple at a place.
-pub fn add_tuple(
-    alloc: Global,
-    pairs: &mut Pairs,
-    tuple: &Tuple,
-    place: u64,
+/// Adds where the pair with this number stands, if it is the one that is asked for.
+fn add_found(
+    tuples: &Tuples,
+    number: usize,
+    attr: &[u8],
+    value: &[u8],
+    spots: &mut Vec<Spot>,
 ) -> Result<(), AllocError>
-    ensures { OnOk result ((attr value : List ℕ) → spec.spots_kept attr value pairs.new.entries
-        ≡ spec.lines_noted place 0 attr value tuple.now (spec.spots_kept attr value pairs.old.entries)) }
+    requires { number < length (all_pairs tuples.now) }
+    ensures { OnOk result ((p : NdbPair) (s : Seen) → spots.new.items
+        ≡ spec.noted (is_pair attr.now value.now (get_or (all_pairs tuples.now) number p))
+        (get_or (pair_spots tuples.now) number s) spots.old.items) }
 {
-    for (line, pairs_on) in tuple.as_slice().iter().enumerate() {
-        let spot = Spot {
-            place,
-            line: line as u64,
-        };
-        add_line(alloc, pairs, pairs_on, spot)?;
+    if !tuples.pair(number).is(attr, value) {
+        return Ok(());
     }
+    add_spot(tuples.spot(number), spots)?;
     Ok(())
+}
+
+/// The spots of a pair by chains. Pairs with its bucket are compared in the database itself.
+fn spots_of(
+    alloc: Global,
+    tuples: &Tuples,
+    chains: &Chains,
+    attr: &[u8],
+    value: &[u8],
+) -> Result<Vec<Spot>, AllocError>
+    requires { AreByPair tuples.now chains.now }
+    ensures { IfOk result (λ spots. spots.items ≡ spec.spots_with attr.now value.now tuples.now) }
+{
+    let count = tuples.pair_count();
+    let mut spots = Vec::new(alloc);
+    let mut left = chains.first(bucket_of(chains.width(), attr, value));
+    while left != 0 {
+        add_found(tuples, count - left, attr, value, &mut spots)?;
+        left = chains.next(left);
+    }
+    Ok(spots)
+}
+
+/// The same by one pass over all pairs.
+pub fn spots_scanned(
+    alloc: Global,
+    tuples: &Tuples,
+    attr: &[u8],
+    value: &[u8],
+) -> Result<Vec<Spot>, AllocError>
+    ensures { IfOk result (λ spots. spots.items ≡ spec.spots_with attr.now value.now tuples.now) }
+{
+    let mut spots = Vec::new(alloc);
+    for number in 0..tuples.pair_count() {
+        add_found(tuples, number, attr, value, &mut spots)?;
+    }
+    Ok(spots)
+}
+
+/// The spots of a pair: by chains, or where there are none by one pass over all pairs.
+pub fn spots_found(
+    alloc: Global,
+    tuples: &Tuples,
+    chains: &Option<Chains>,
+    attr: &[u8],
+    value: &[u8],
+) -> Result<Vec<Spot>, AllocError>
+    requires { HasPairs tuples.now chains.now }
+    ensures { IfOk result (λ spots. spots.items ≡ spec.spots_with attr.now value.now tuples.now) }
+{
+    match chains {
+        Some(chains) => spots_of(alloc, tuples, chains, attr, value),
+        None => spots_scanned(alloc, tuples, attr, value),
+    }
 }

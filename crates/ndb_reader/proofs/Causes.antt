@@ -1,10 +1,8 @@
 -- The least cause of a line, by tests in a row.
-use Rattle.std.proofs.Common.{◌≡◌, ℕ, Bool, true, false, not, ◌&&◌, ◌||◌, cond, List, [], ◌∷◌, ◌++◌, map, refl, sym, ap, ◌∙◌, Option, Some, None}
+use Rattle.std.proofs.Common.{◌≡◌, ℕ, Bool, true, false, not, ◌&&◌, cond, List, ◌++◌, refl, sym, ap, ◌∙◌, Option, Some, None}
 use Rattle.std.specs.List.{list_any}
-use Rattle.net_base.specs.declared.ndb.NdbPair.{NdbPair}
-use Rattle.net_base.specs.NdbText.{is_white, is_percent, is_zero, begins, is_empty, Word, words_of, pair_of, goes_on}
+use Rattle.net_base.specs.NdbText.{is_white, is_percent, is_zero, begins, is_empty, Word, words_of, goes_on}
 use Rattle.net_base.specs.NdbBundle.{cause, causes_of, least, is_nameless, is_file_line}
-use Rattle.ndb_text.proofs.NdbFiles.{is_empty-map}
 use Rattle.ndb_reader.specs.declared.words.Words.{Words}
 use Rattle.ndb_reader.specs.Told.{AreWords}
 
@@ -27,10 +25,6 @@ least-picked false false false false true d = refl
 least-picked false false false false false true = refl
 least-picked false false false false false false = refl
 
-any-map : {X Y : Type 0} (q : Y → Bool) (f : X → Y) (xs : List X) → list_any q (map f xs) ≡ list_any (λ x. q (f x)) xs
-any-map q f [] = refl
-any-map q f (x ∷ xs) = ap (λ b. q (f x) || b) (any-map q f xs)
-
 and-three : (a b c : Bool) → ((a && b) && c) ≡ (a && (b && c))
 and-three true b c = refl
 and-three false b c = refl
@@ -38,9 +32,9 @@ and-three false b c = refl
 -- what the tests of a line and its words pick is its least cause
 pub picked-least : (has : Bool) (line : List ℕ) (kept : Words) (a u n f z d : Bool)
     → AreWords kept (words_of line)
-    → (not (is_empty kept.pairs.items) && (begins is_white line && not has)) ≡ a
+    → (kept.some && (begins is_white line && not has)) ≡ a
     → kept.unclosed ≡ u
-    → list_any (λ pair. is_empty pair.attr) kept.pairs.items ≡ n
+    → kept.nameless ≡ n
     → kept.followed ≡ f
     → list_any is_zero line ≡ z
     → (begins is_percent line && not (is_file_line line)) ≡ d
@@ -49,9 +43,9 @@ picked-least has line kept a u n f z d are ea eu en ef ez ed =
     let words : List Word = words_of line in
     let alone : (goes_on line && not has) ≡ a =
     and-three (not (is_empty words)) (begins is_white line) (not has)
-    ∙ ap (λ b. not b && (begins is_white line && not has)) (sym (is_empty-map pair_of words) ∙ ap is_empty (sym are.pairs)) ∙ ea in
+    ∙ ap (λ b. b && (begins is_white line && not has)) (sym are.some) ∙ ea in
     let nameless : list_any is_nameless words ≡ n =
-    sym (any-map (λ pair. is_empty pair.attr) pair_of words) ∙ (ap (list_any (λ (pair : NdbPair). is_empty pair.attr)) (sym are.pairs) ∙ en) in
+    sym are.nameless ∙ en in
     let unclosed : list_any (λ (word : Word). word.unclosed) words ≡ u = sym are.unclosed ∙ eu in
     let followed : list_any (λ (word : Word). word.followed) words ≡ f = sym are.followed ∙ ef in
     sym (least-picked _ _ _ _ _ _

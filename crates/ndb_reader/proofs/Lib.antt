@@ -1,7 +1,15 @@
 pub mod Bundles
 pub mod Causes
-pub mod Groups
+pub mod Chained
+pub mod Chosen
+pub mod Copied
+pub mod Filing
 pub mod Headed
+pub mod Local
 pub mod Once
 pub mod Reading
 pub mod Rests
+pub mod Turns
+pub mod Lined
+pub mod Breaks
+pub mod Choosing

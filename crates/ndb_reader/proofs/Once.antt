@@ -19,7 +19,7 @@ among n ns = list_any (λ m. bytes_eq m n) ns
 pub is_one : (a b : List ℕ) → bytes_eq a b ≡ true → a ≡ b
 is_one a b e = grind (arith, bytes_eq-Decides a b, e)
 
-itself : (a : List ℕ) → bytes_eq a a ≡ true
+pub itself : (a : List ℕ) → bytes_eq a a ≡ true
 itself a = grind (arith, bytes_eq-Decides a a)
 
 pub turned : (x n : List ℕ) → bytes_eq x n ≡ bytes_eq n x

@@ -1,13 +1,13 @@
 -- A text that is read line by line.
 use Rattle.std.proofs.Common.{◌≡◌, ℕ, ◌+◌, ◌-◌, ◌<◌, ◌≤◌, Bool, true, false, not, ◌&&◌, ◌||◌, cond, List, [], ◌∷◌, ◌++◌, length, take, drop, get_or, refl, sym, ap, subst, ◌∙◌, arith, Option, Some, None, append_assoc, append-nil, length-take}
-use Rattle.std.specs.List.{list_any, before_first, after_last, suffix_len}
+use Rattle.std.specs.List.{list_any, before_first, suffix_len}
 use Rattle.std.specs.Option.{option_map}
 use Rattle.std.specs.Prelude.{is_none}
 use Rattle.std.proofs.Math.Seq.{drop-append-le, drop-length}
 use Rattle.std.proofs.lemmas.List.{at_drop_more, at_drop_all, take_more}
 use Rattle.std.proofs.lemmas.List.Folds.{list_any-append}
-use Rattle.std.proofs.lemmas.List.Sums.{suffix_len-take_no, suffix_len-take_yes, suffix_len-le-length}
-use Rattle.net_base.specs.declared.ndb.NdbPair.{NdbPair}
+use Rattle.std.proofs.lemmas.List.Sums.{suffix_len-take_no, suffix_len-take_yes}
+use Rattle.net_base.specs.Ndb.{NdbPair}
 use Rattle.net_base.specs.NdbText.{is_white, begins, is_empty, pairs_of, starts, goes_on, going_on, tuples_of, lines_of}
 use Rattle.net_base.specs.NdbBundle.{File, local_name, local_file, named_files, file_of, file_name, is_file_line, has_tuple, cause, causes_of, least, told, first_bad, bad_line, reading, database}
 use Rattle.ndb_text.proofs.NdbPlain.{one_add}
@@ -15,7 +15,8 @@ use Rattle.ndb_text.proofs.NdbLists.{some_none}
 use Rattle.ndb_text.proofs.NdbFiles.{starts-at, goes_on-at}
 use Rattle.ndb_reader.specs.declared.fault.NdbError.{NdbError}
 use Rattle.ndb_reader.specs.declared.fault.NdbError.TheVariants.{Memory, Bad}
-use Rattle.ndb_reader.specs.Told.{Tells, tuple_of}
+use Rattle.ndb_reader.specs.Told.{Tells}
+use Rattle.ndb_reader.specs.Filed.{tuple_of}
 
 -- the tuples of what is left, where a tuple of these lines goes on
 abbrev pub resumed : List (List NdbPair) → List (List ℕ) → List (List (List NdbPair))

@@ -1,16 +1,18 @@
 -- A line that is read word by word.
-use Rattle.std.proofs.Common.{◌≡◌, ℕ, zero, suc, ◌+◌, ◌-◌, ◌<◌, ◌≤◌, ◌≢◌, Bool, true, false, not, ◌||◌, cond, List, [], ◌∷◌, ◌++◌, map, length, take, drop, get_or, min, refl, sym, ap, ◌∙◌, arith, append_assoc, append-nil, length-take, length-drop}
+use Rattle.std.proofs.Common.{◌≡◌, ℕ, zero, suc, ◌+◌, ◌-◌, ◌<◌, ◌≤◌, ◌≢◌, Bool, true, false, not, ◌||◌, cond, List, [], ◌∷◌, map, length, take, drop, get_or, refl, sym, ap, ◌∙◌, arith, append_assoc, append-nil, length-take, length-drop}
 use Rattle.std.specs.List.{list_any, position_or_len, before_first, after_first}
 use Rattle.std.proofs.Math.Seq.{drop-drop, take-take}
 use Rattle.std.proofs.Math.ListN.{drop_of_length-le}
 use Rattle.std.proofs.lemmas.List.Sums.{prefix_len-le-length}
 use Rattle.std.proofs.lemmas.Bool.Decides.{nat_tests}
-use Rattle.net_base.specs.declared.ndb.NdbPair.{NdbPair}
+use Rattle.net_base.specs.Ndb.{NdbPair}
 use Rattle.net_base.specs.NdbText.{is_white, is_hash, is_equals, is_quote, is_empty, begins, Word, plain_word, quoted_word, word_of, words_behind, pair_of}
 use Rattle.ndb_text.proofs.NdbPlain.{before_first-cons, words-word, words-hash, words-white}
 use Rattle.ndb_reader.specs.declared.words.Word.{Word as Kept}
 use Rattle.ndb_reader.specs.declared.words.Words.{Words}
 use Rattle.ndb_reader.specs.Told.{IsRead, AreWords}
+use Rattle.net_base.specs.NdbBundle.{is_nameless}
+use Rattle.net_base.specs.Store.{Grown, with_pair, with_pairs}
 
 -- the words behind so many bytes are those of what is left then
 behind-dropped : (n : ℕ) (line : List ℕ) → words_behind n line ≡ words_behind 0 (drop n line)
@@ -36,14 +38,17 @@ drop-one : (n b : ℕ) (bytes : List ℕ) → 0 < n → drop (n - 1) bytes ≡ d
 drop-one zero b bytes some = absurd (omega arith)
 drop-one (suc n) b bytes some = let e : suc n - 1 ≡ n = omega arith in ap (λ k. drop k bytes) e
 
--- the words that were read, and what is left of the line
-pub record Parsed (line : List ℕ) (kept : Words) (rest : List ℕ) : Type 0 where
-  pub pairs : map pair_of (words_behind 0 line) ≡ kept.pairs.items ++ map pair_of (words_behind 0 rest)
+-- what is still to come of a line's words, and of their pairs
+pub record Parsed (old now : Grown) (line : List ℕ) (kept : Words) (rest : List ℕ) : Type 0 where
+  pub pairs : with_pairs (map pair_of (words_behind 0 line)) old ≡ with_pairs (map pair_of (words_behind 0 rest)) now
+  pub some : not (is_empty (words_behind 0 line)) ≡ (kept.some || not (is_empty (words_behind 0 rest)))
+  pub nameless : list_any is_nameless (words_behind 0 line) ≡ (kept.nameless || list_any is_nameless (words_behind 0 rest))
   pub unclosed : list_any (λ (word : Word). word.unclosed) (words_behind 0 line) ≡ (kept.unclosed || list_any (λ (word : Word). word.unclosed) (words_behind 0 rest))
   pub followed : list_any (λ (word : Word). word.followed) (words_behind 0 line) ≡ (kept.followed || list_any (λ (word : Word). word.followed) (words_behind 0 rest))
 
 or-nothing : (a b : Bool) → a ≡ false → b ≡ (a || b)
-or-nothing a b e = sym (ap (λ c. c || b) e)
+or-nothing true b e = absurd cc
+or-nothing false b e = refl
 
 or-none : (a : Bool) → (a || false) ≡ a
 or-none true = refl
@@ -53,32 +58,43 @@ or-three : (a b c : Bool) → (a || (b || c)) ≡ ((a || b) || c)
 or-three true b c = refl
 or-three false b c = refl
 
-pub parsed-none : (line : List ℕ) (kept : Words) → AreWords kept [] → Parsed line kept line
-parsed-none line kept none = record {
-  pairs = sym (ap (λ (ps : List NdbPair). ps ++ map pair_of (words_behind 0 line)) none.pairs);
+pub parsed-none : (old : Grown) (line : List ℕ) (kept : Words) → AreWords kept [] → Parsed old old line kept line
+parsed-none old line kept none = record {
+  pairs = refl;
+  some = or-nothing _ _ none.some;
+  nameless = or-nothing _ _ none.nameless;
   unclosed = or-nothing _ _ none.unclosed;
   followed = or-nothing _ _ none.followed;
 }
 
 -- what is left may change where its words don't
-moved : (line : List ℕ) (kept : Words) (rest other : List ℕ) → Parsed line kept rest → words_behind 0 rest ≡ words_behind 0 other → Parsed line kept other
-moved line kept rest other p e = record {
-  pairs = p.pairs ∙ ap (λ (ws : List Word). kept.pairs.items ++ map pair_of ws) e;
+moved : (old now : Grown) (line : List ℕ) (kept : Words) (rest other : List ℕ) → Parsed old now line kept rest → words_behind 0 rest ≡ words_behind 0 other → Parsed old now line kept other
+moved old now line kept rest other p e = record {
+  pairs = p.pairs ∙ ap (λ (ws : List Word). with_pairs (map pair_of ws) now) e;
+  some = p.some ∙ ap (λ (ws : List Word). kept.some || not (is_empty ws)) e;
+  nameless = p.nameless ∙ ap (λ (ws : List Word). kept.nameless || list_any is_nameless ws) e;
   unclosed = p.unclosed ∙ ap (λ (ws : List Word). kept.unclosed || list_any (λ (word : Word). word.unclosed) ws) e;
   followed = p.followed ∙ ap (λ (ws : List Word). kept.followed || list_any (λ (word : Word). word.followed) ws) e;
 }
 
-pub parsed-white : (line : List ℕ) (kept : Words) (rest : List ℕ) → Parsed line kept rest → 0 < length rest → is_white (get_or rest 0 0) ≡ true → Parsed line kept (drop 1 rest)
-parsed-white line kept [] p some white = absurd (omega arith)
-parsed-white line kept (b ∷ bytes) p some white = moved line kept (b ∷ bytes) bytes p (words-white b bytes white)
+pub parsed-white : (old now : Grown) (line : List ℕ) (kept : Words) (rest : List ℕ) → Parsed old now line kept rest → 0 < length rest → is_white (get_or rest 0 0) ≡ true → Parsed old now line kept (drop 1 rest)
+parsed-white old now line kept [] p some white = absurd (omega arith)
+parsed-white old now line kept (b ∷ bytes) p some white = moved old now line kept (b ∷ bytes) bytes p (words-white b bytes white)
+
+no-more : (g : Grown) → with_pairs [] g ≡ g
+no-more g = ap (λ (ps : List NdbPair). record { tuples = g.tuples; lines = g.lines; pairs = ps }) (append-nil g.pairs)
 
 -- no words are left
-pub parsed-end : (line : List ℕ) (kept : Words) (rest : List ℕ) → Parsed line kept rest → words_behind 0 rest ≡ [] → AreWords kept (words_behind 0 line)
-parsed-end line kept rest p none = record {
-  pairs = sym (p.pairs ∙ ap (λ (ws : List Word). kept.pairs.items ++ map pair_of ws) none ∙ append-nil kept.pairs.items);
-  unclosed = sym (p.unclosed ∙ ap (λ (ws : List Word). kept.unclosed || list_any (λ (word : Word). word.unclosed) ws) none ∙ or-none kept.unclosed);
-  followed = sym (p.followed ∙ ap (λ (ws : List Word). kept.followed || list_any (λ (word : Word). word.followed) ws) none ∙ or-none kept.followed);
-}
+pub parsed-end : (old now : Grown) (line : List ℕ) (kept : Words) (rest : List ℕ) → Parsed old now line kept rest → words_behind 0 rest ≡ [] → AreWords kept (words_behind 0 line) × (now ≡ with_pairs (map pair_of (words_behind 0 line)) old)
+parsed-end old now line kept rest p none = (
+  record {
+    some = sym (p.some ∙ ap (λ (ws : List Word). kept.some || not (is_empty ws)) none ∙ or-none kept.some);
+    nameless = sym (p.nameless ∙ ap (λ (ws : List Word). kept.nameless || list_any is_nameless ws) none ∙ or-none kept.nameless);
+    unclosed = sym (p.unclosed ∙ ap (λ (ws : List Word). kept.unclosed || list_any (λ (word : Word). word.unclosed) ws) none ∙ or-none kept.unclosed);
+    followed = sym (p.followed ∙ ap (λ (ws : List Word). kept.followed || list_any (λ (word : Word). word.followed) ws) none ∙ or-none kept.followed);
+  },
+  sym (p.pairs ∙ ap (λ (ws : List Word). with_pairs (map pair_of ws) now) none ∙ no-more now),
+)
 
 pub left-none : (rest : List ℕ) → length rest ≡ 0 → words_behind 0 rest ≡ []
 left-none [] e = refl
@@ -91,31 +107,47 @@ left-hash (b ∷ bytes) some hash =
     let black : is_white b ≡ false = ap is_white hash in
     words-hash b bytes black is
 
+or-true : (a : Bool) → (a || true) ≡ true
+or-true true = refl
+or-true false = refl
+
+-- a pair and more behind it
+with-more : (g : Grown) (pair : NdbPair) (pairs : List NdbPair) → with_pairs (pair ∷ pairs) g ≡ with_pairs pairs (with_pair pair g)
+with-more g pair pairs = ap (λ (ps : List NdbPair). record { tuples = g.tuples; lines = g.lines; pairs = ps }) (sym (append_assoc g.pairs (pair ∷ []) pairs))
+
 -- one more word
-pub parsed-word : (line : List ℕ) (kept after : Words) (rest : List ℕ) (read : Kept) → Parsed line kept rest → 0 < length rest → get_or rest 0 0 ≢ 35 → is_white (get_or rest 0 0) ≡ false → IsRead read rest (word_of rest)
-    → after.pairs.items ≡ kept.pairs.items ++ record { attr = read.attr.now; value = read.value.now } ∷ []
+pub parsed-word : (old now then : Grown) (line : List ℕ) (kept after : Words) (rest : List ℕ) (read : Kept) → Parsed old now line kept rest → 0 < length rest → get_or rest 0 0 ≢ 35 → is_white (get_or rest 0 0) ≡ false → IsRead read rest (word_of rest)
+    → then ≡ with_pair (record { attr = read.attr.now; value = read.value.now }) now
+    → after.some ≡ true
+    → after.nameless ≡ (kept.nameless || is_empty read.attr.now)
     → after.unclosed ≡ (kept.unclosed || read.unclosed)
     → after.followed ≡ (kept.followed || read.followed)
-    → Parsed line after read.rest.now
-parsed-word line kept after [] read p some hash white is pairs unclosed followed = absurd (omega arith)
-parsed-word line kept after (b ∷ bytes) read p some hash white is pairs unclosed followed =
+    → Parsed old then line after read.rest.now
+parsed-word old now then line kept after [] read p some hash white is pairs any nameless unclosed followed = absurd (omega arith)
+parsed-word old now then line kept after (b ∷ bytes) read p some hash white is pairs any nameless unclosed followed =
     let word : Word = word_of (b ∷ bytes) in
     let no_hash : is_hash b ≡ false = grind (arith, nat_tests) in
-    let next : words_behind 0 (b ∷ bytes) ≡ word ∷ words_behind 0 read.rest.now =
+    let behind : List Word = words_behind 0 read.rest.now in
+    let next : words_behind 0 (b ∷ bytes) ≡ word ∷ behind =
     words-word b bytes white no_hash
     ∙ ap (λ (ws : List Word). word ∷ ws) (behind-dropped (word.takes - 1) bytes ∙ ap (words_behind 0) (drop-one word.takes b bytes (takes-some b bytes white) ∙ sym is.rest)) in
     let pair : record { attr = read.attr.now; value = read.value.now } ≡ pair_of word =
     ap (λ attr. record { attr = attr; value = read.value.now }) is.attr ∙ ap (λ value. record { attr = word.attr; value = value }) is.value in
     record {
-      pairs = p.pairs ∙ ap (λ (ws : List Word). kept.pairs.items ++ map pair_of ws) next
-          ∙ sym (append_assoc kept.pairs.items (pair_of word ∷ []) (map pair_of (words_behind 0 read.rest.now)))
-          ∙ ap (λ (ps : List NdbPair). ps ++ map pair_of (words_behind 0 read.rest.now)) (sym (pairs ∙ ap (λ (q : NdbPair). kept.pairs.items ++ q ∷ []) pair));
+      pairs = p.pairs ∙ ap (λ (ws : List Word). with_pairs (map pair_of ws) now) next
+          ∙ with-more now (pair_of word) (map pair_of behind)
+          ∙ ap (λ (g : Grown). with_pairs (map pair_of behind) g) (sym (pairs ∙ ap (λ (q : NdbPair). with_pair q now) pair));
+      some = p.some ∙ ap (λ (ws : List Word). kept.some || not (is_empty ws)) next ∙ or-true kept.some
+          ∙ ap (λ (c : Bool). c || not (is_empty behind)) (sym any);
+      nameless = p.nameless ∙ ap (λ (ws : List Word). kept.nameless || list_any is_nameless ws) next
+          ∙ or-three kept.nameless (is_empty word.attr) _
+          ∙ ap (λ c. c || list_any is_nameless behind) (sym (nameless ∙ ap (λ (a : List ℕ). kept.nameless || is_empty a) is.attr));
       unclosed = p.unclosed ∙ ap (λ (ws : List Word). kept.unclosed || list_any (λ (w : Word). w.unclosed) ws) next
           ∙ or-three kept.unclosed word.unclosed _
-          ∙ ap (λ c. c || list_any (λ (w : Word). w.unclosed) (words_behind 0 read.rest.now)) (sym (unclosed ∙ ap (λ c. kept.unclosed || c) is.unclosed));
+          ∙ ap (λ c. c || list_any (λ (w : Word). w.unclosed) behind) (sym (unclosed ∙ ap (λ c. kept.unclosed || c) is.unclosed));
       followed = p.followed ∙ ap (λ (ws : List Word). kept.followed || list_any (λ (w : Word). w.followed) ws) next
           ∙ or-three kept.followed word.followed _
-          ∙ ap (λ c. c || list_any (λ (w : Word). w.followed) (words_behind 0 read.rest.now)) (sym (followed ∙ ap (λ c. kept.followed || c) is.followed));
+          ∙ ap (λ c. c || list_any (λ (w : Word). w.followed) behind) (sym (followed ∙ ap (λ c. kept.followed || c) is.followed));
     }
 
 -- The word at the front.

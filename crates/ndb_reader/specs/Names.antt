@@ -1,9 +1,9 @@
 -- Names of files, each once, as they are put in a row, and the tuples of the files that have them.
-use Rattle.std.specs.Prelude.{◌≡◌, ℕ, List, [], ◌∷◌, ◌++◌, Vec, vec_items, map, bytes_eq, unwrap_or, if◌then◌else◌}
-use Rattle.std.specs.List.{list_any}
-use Rattle.std.specs.Map.{lookup}
-use Rattle.net_base.specs.declared.ndb.NdbPair.{NdbPair}
-use Rattle.net_base.specs.NdbBundle.{File, tuples_named}
+use Rattle.std.specs.Prelude.{◌≡◌, ℕ, ◌+◌, List, [], ◌∷◌, ◌++◌, Vec, vec_items, length, map, bytes_eq, if◌then◌else◌}
+use Rattle.std.specs.List.{list_any, position_or_len}
+use Rattle.net_base.specs.NdbBundle.{File}
+use Rattle.ndb_chains.specs.declared.chains.Chains.{Chains}
+use Rattle.ndb_chains.specs.Chains.{width_of, AreChains}
 
 -- the names with one more, unless it stands among them
 abbrev pub with_name : List (List ℕ) → List ℕ → List (List ℕ)
@@ -14,15 +14,16 @@ abbrev pub with_names : List (List ℕ) → List (List ℕ) → List (List ℕ)
 with_names names [] = names
 with_names names (name ∷ more) = with_names (with_name names name) more
 
+-- the number of a name among the names, or how many they are
+abbrev pub bucket_in : List (List ℕ) → List ℕ → ℕ
+bucket_in names name = position_or_len (bytes_eq name) names
+
+-- the chains hold these files by the numbers of their names
+pub record AreByName (names : List (List ℕ)) (files : List File) (chains : Chains) : Type 0 where
+  pub width : width_of chains ≡ length names + 1
+  pub are : AreChains chains (map (λ file. bucket_in names file.name) files)
+
 module _ {Z : Type 0} where
   -- the names of these keys
   abbrev pub names_seen : List (Vec ℕ Z) → List (List ℕ)
   names_seen keys = map vec_items keys
-
-  -- the tuples that stand by this name, or none
-  abbrev pub tuples_at : List (Vec ℕ Z × List (List (List NdbPair))) → Vec ℕ Z → List (List (List NdbPair))
-  tuples_at groups name = unwrap_or (lookup (λ other. bytes_eq (vec_items name) (vec_items other)) groups) []
-
-  -- by each name stand the tuples of the files that have it
-  abbrev pub AreGrouped : List File → List (Vec ℕ Z × List (List (List NdbPair))) → Type 0
-  AreGrouped files groups = (name : Vec ℕ Z) → tuples_at groups name ≡ tuples_named files (vec_items name)

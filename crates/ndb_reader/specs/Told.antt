@@ -1,12 +1,10 @@
--- What the reader tells of a bad line, and what it has so far.
-use Rattle.std.specs.Prelude.{◌≡◌, ℕ, List, [], ◌∷◌, map, drop, Option, Some, ⊤}
+-- What the reader has of a line's words, and what it tells of a bad line.
+use Rattle.std.specs.Prelude.{◌≡◌, ℕ, Bool, ◌||◌, List, drop, not, Option, Some, ⊤}
 use Rattle.std.specs.List.{list_any}
-use Rattle.net_base.specs.declared.ndb.NdbPair.{NdbPair}
 use Rattle.net_base.specs.NdbText as text
 use Rattle.net_base.specs.NdbBundle as bundle
 use Rattle.ndb_reader.specs.declared.fault.NdbError.{NdbError}
 use Rattle.ndb_reader.specs.declared.fault.NdbError.TheVariants.{Memory, Bad}
-use Rattle.ndb_reader.specs.declared.files.File.{File}
 use Rattle.ndb_reader.specs.declared.words.Word.{Word}
 use Rattle.ndb_reader.specs.declared.words.Words.{Words}
 
@@ -15,10 +13,9 @@ abbrev pub Tells : NdbError → Option (ℕ × ℕ) → Type 0
 Tells Memory bad = ⊤
 Tells (Bad line cause) bad = bad ≡ Some (line, cause)
 
--- the tuple of these lines, where there are any
-abbrev pub tuple_of : List (List NdbPair) → List (List (List NdbPair))
-tuple_of [] = []
-tuple_of (line ∷ lines) = (line ∷ lines) ∷ []
+-- a word or its attribute ends before this byte
+abbrev pub is_break : ℕ → Bool
+is_break byte = text.is_equals byte || text.is_white byte
 
 -- the word at the front of these bytes is this one, and the rest stands behind it
 pub record IsRead (read : Word) (bytes : List ℕ) (word : text.Word) : Type 0 where
@@ -28,12 +25,9 @@ pub record IsRead (read : Word) (bytes : List ℕ) (word : text.Word) : Type 0 w
   pub unclosed : read.unclosed ≡ word.unclosed
   pub followed : read.followed ≡ word.followed
 
--- what is kept of these words
+-- what is kept of these words; their pairs are kept elsewhere
 pub record AreWords (kept : Words) (words : List text.Word) : Type 0 where
-  pub pairs : kept.pairs.items ≡ map text.pair_of words
+  pub some : kept.some ≡ not (text.is_empty words)
+  pub nameless : kept.nameless ≡ list_any bundle.is_nameless words
   pub unclosed : kept.unclosed ≡ list_any (λ (word : text.Word). word.unclosed) words
   pub followed : kept.followed ≡ list_any (λ (word : text.Word). word.followed) words
-
--- the file that is kept so
-abbrev pub file_seen : File → bundle.File
-file_seen file = record { name = file.name; tuples = file.tuples }

@@ -1,46 +1,47 @@
 //! The choice of a bundle's files.
-ghost use Rattle.std.specs.Prelude.{◌≡◌, ◌<◌, ◌∷◌, ◌++◌, [], List, length, map, flat_map, codes, bytes_eq, unwrap_or, option_copied, IfOk, OnOk};
+ghost use Rattle.std.specs.Prelude.{◌≡◌, ◌≤◌, ◌<◌, ◌∷◌, ◌+◌, [], List, Some, None, true, length, take, flat_map, get_or, codes, bytes_eq, MatchOption, IfOk, OnOk};
 ghost use Rattle.net_base.specs.NdbBundle as spec;
-ghost use Rattle.net_base.specs.Networks.{tuple_names};
-ghost use Rattle.net_base.specs.Search.{values_in, values_on};
-ghost use Rattle.ndb_reader.specs.Told.{file_seen};
-ghost use Rattle.ndb_reader.specs.Names.{with_name, with_names, names_seen, AreGrouped};
+ghost use Rattle.net_base.specs.Search.{has_attr, values_in, values_on};
+ghost use Rattle.net_base.specs.Store.{all_pairs, with_tuples};
 ghost use Rattle.std.specs.List.{list_any};
+ghost use Rattle.ndb_reader.specs.Filed.{files_of, AreBundled};
+ghost use Rattle.ndb_reader.specs.Names.{with_name, with_names, names_seen, bucket_in, AreByName};
 
-use crate::files::File;
-use indexmap::{IndexMap, IndexSet};
-use net_base::{Db, Line, Tuple};
+use crate::bundle::Bundle;
+use crate::copy::add_tuples;
+use indexmap::IndexSet;
+use ndb_chains::Chains;
+use net_base::{Db, Growing, Line, NdbPair, Tuple};
 use std::alloc::{AllocError, Global};
 
-/// Tuples by the names of their files.
-type Groups = IndexMap<Vec<u8>, Db>;
-
-/// Whether a tuple has the attribute `database`.
-fn chooses(tuple: &Tuple) -> bool
-    ensures { result ≡ tuple_names (codes "database") tuple.now }
-{
-    tuple.as_slice().iter().any(|line| has_database(line))
-}
-
-/// Whether a line has the attribute `database`, which has eight bytes.
-fn has_database(line: &Line) -> bool
-    ensures { result ≡ list_any (λ pair. bytes_eq pair.attr (codes "database")) line.now }
-{
-    line.as_slice().iter().any(|pair| pair.attr.len() == 8
-        && pair.attr.as_slice() == b"database".as_slice())
-}
-
 /// Adds the names of files on a line to those so far, each once.
-fn add_names_on(alloc: Global, line: &Line, names: &mut IndexSet<Vec<u8>>) -> Result<(), AllocError>
+fn add_names_on(
+    alloc: Global,
+    line: &Line<'_>,
+    names: &mut IndexSet<Vec<u8>>,
+) -> Result<(), AllocError>
     ensures { OnOk result (names_seen names.new.keys
         ≡ with_names (names_seen names.old.keys) (values_on (codes "file") line.now)) }
 {
-    for pair in line.as_slice() {
-        if pair.attr.as_slice() == b"file".as_slice() {
-            add_name(alloc, pair.value.as_slice(), names)?;
-        }
+    for number in 0..line.len() {
+        add_name_of(alloc, &line.pair(number), names)?;
     }
     Ok(())
+}
+
+/// Adds the name of a file that a pair gives, if it does.
+fn add_name_of(
+    alloc: Global,
+    pair: &NdbPair<'_>,
+    names: &mut IndexSet<Vec<u8>>,
+) -> Result<(), AllocError>
+    ensures { OnOk result (names_seen names.new.keys
+        ≡ with_names (names_seen names.old.keys) (values_on (codes "file") (pair.now ∷ []))) }
+{
+    if !pair.has_attr(b"file") {
+        return Ok(());
+    }
+    add_name(alloc, pair.value(), names)
 }
 
 /// Adds a name that doesn't stand among these.
@@ -53,121 +54,140 @@ fn add_name(alloc: Global, name: &[u8], names: &mut IndexSet<Vec<u8>>) -> Result
 }
 
 /// The names that a tuple gives by its `file` values, each once.
-fn names_in(alloc: Global, tuple: &Tuple) -> Result<IndexSet<Vec<u8>>, AllocError>
+fn names_in(alloc: Global, tuple: &Tuple<'_>) -> Result<IndexSet<Vec<u8>>, AllocError>
     ensures { IfOk result (λ names. names_seen names.keys ≡ spec.each_once (values_in (codes "file") tuple.now)) }
 {
     let mut names = IndexSet::new(alloc);
-    for line in tuple.as_slice() {
-        add_names_on(alloc, line, &mut names)?;
+    for number in 0..tuple.len() {
+        add_names_on(alloc, &tuple.line(number), &mut names)?;
     }
     Ok(names)
 }
 
-/// The tuple that chooses: the first with the attribute `database`.
-fn choosing(local: &Db) -> Option<&Tuple>
-    ensures { option_copied result ≡ spec.choosing local.now }
+/// Whether the attribute `database` stands anywhere. Few texts have it, and one pass over all pairs is cheaper than one over their tuples.
+fn has_database(db: &Db) -> bool
+    ensures { result ≡ list_any (has_attr (codes "database")) (all_pairs db.now) }
 {
-    local.as_slice().iter().find(|tuple| chooses(tuple))
+    db.names(b"database")
 }
 
-/// The names of the files that a file chooses.
-fn names_of(alloc: Global, local: &Db) -> Result<IndexSet<Vec<u8>>, AllocError>
-    ensures { IfOk result (λ names. names_seen names.keys ≡ spec.names_of (spec.choosing local.now)) }
+/// The place of the first of so many tuples that has the attribute `database`.
+fn choosing(db: &Db, end: usize) -> Option<usize>
+    requires { end ≤ length db.now }
+    ensures { MatchOption result (spec.choosing (take end db.now) ≡ None)
+        (λ place. (place < length db.now) × (spec.choosing (take end db.now) ≡ Some (get_or db.now place []))) }
 {
-    let Some(tuple) = choosing(local) else {
+    if !has_database(db) {
+        return None;
+    }
+    for place in 0..end {
+        if db.tuple(place).names(b"database") {
+            return Some(place);
+        }
+    }
+    None
+}
+
+/// The names of the files that the first of so many tuples choose.
+fn names_of(alloc: Global, db: &Db, end: usize) -> Result<IndexSet<Vec<u8>>, AllocError>
+    requires { end ≤ length db.now }
+    ensures { IfOk result (λ names. names_seen names.keys ≡ spec.names_of (spec.choosing (take end db.now))) }
+{
+    let Some(place) = choosing(db, end) else {
         return Ok(IndexSet::new(alloc));
     };
-    let names = names_in(alloc, tuple)?;
-    Ok(names)
+    names_in(alloc, &db.tuple(place))
 }
 
-/// Moves tuples behind others.
-fn add_tuples(tuples: Db, all: &mut Db) -> Result<(), AllocError>
-    ensures { OnOk result (all.new ≡ all.old ++ tuples) }
+/// The number of a name among the names, or how many they are.
+fn bucket_of(names: &IndexSet<Vec<u8>>, name: &[u8]) -> usize
+    ensures value { result ≡ bucket_in (names_seen names.now.keys) name.now }
+    ensures within { result < length (names_seen names.now.keys) + 1 }
 {
-    let tuples = tuples.into_vec();
-    for tuple in tuples {
-        all.push(tuple)?;
+    names.get_index_of(name).unwrap_or(names.len())
+}
+
+/// The files by the numbers of their names.
+fn chains_of(
+    alloc: Global,
+    bundle: &Bundle,
+    names: &IndexSet<Vec<u8>>,
+) -> Result<Chains, AllocError>
+    requires { AreBundled bundle.now }
+    ensures { IfOk result (AreByName (names_seen names.now.keys) (files_of bundle.now)) }
+{
+    let count = bundle.len();
+    let mut chains = Chains::new(alloc, names.len() + 1, count)?;
+    for back in 0..count {
+        chains.push(bucket_of(names, bundle.name(count - 1 - back)))?;
+    }
+    Ok(chains)
+}
+
+/// Adds the tuples of the files with one of the names.
+fn add_named(
+    bundle: &Bundle,
+    names: &IndexSet<Vec<u8>>,
+    chains: &Chains,
+    name: &[u8],
+    out: &mut Growing,
+) -> Result<(), AllocError>
+    requires sound { AreBundled bundle.now }
+    requires files { AreByName (names_seen names.now.keys) (files_of bundle.now) chains.now }
+    requires one { list_any (bytes_eq name.now) (names_seen names.now.keys) ≡ true }
+    requires lines { out.old.lines ≡ [] }
+    requires pairs { out.old.pairs ≡ [] }
+    ensures { OnOk result (out.new ≡ with_tuples (spec.tuples_named (files_of bundle.now) name.now) out.old) }
+{
+    let count = bundle.len();
+    let mut left = chains.first(bucket_of(names, name));
+    while left != 0 {
+        bundle.add(count - left, out)?;
+        left = chains.next(left);
     }
     Ok(())
-}
-
-/// Moves the tuples that stand by a name, if any, behind others.
-fn add_group(group: Option<Db>, all: &mut Db) -> Result<(), AllocError>
-    ensures { OnOk result (all.new ≡ all.old ++ unwrap_or group []) }
-{
-    match group {
-        Some(group) => add_tuples(group, all),
-        None => Ok(()),
-    }
-}
-
-/// The tuples that stand by a name, if any, and these behind them.
-fn with_more(group: Option<Db>, tuples: Db) -> Result<Db, AllocError>
-    ensures { IfOk result (λ db. db ≡ unwrap_or group [] ++ tuples) }
-{
-    let Some(mut group) = group else {
-        return Ok(tuples);
-    };
-    add_tuples(tuples, &mut group)?;
-    Ok(group)
-}
-
-/// Adds the tuples of a file to those by its name.
-fn add_file(file: File, groups: &mut Groups) -> Result<(), AllocError>
-    ensures { OnOk result ((files : List spec.File) → AreGrouped files groups.old.entries
-        → AreGrouped (files ++ file_seen file ∷ []) groups.new.entries) }
-{
-    let File { name, tuples } = file;
-    let name = name.into_vec();
-    let group = with_more(groups.swap_remove(&name), tuples)?;
-    groups.insert(name, group)?;
-    Ok(())
-}
-
-/// The tuples of all files by their names.
-fn by_name(alloc: Global, files: Vec<File>) -> Result<Groups, AllocError>
-    ensures { IfOk result (λ groups. AreGrouped (map file_seen files.items) groups.entries) }
-{
-    let mut groups = IndexMap::new(alloc);
-    for file in files {
-        add_file(file, &mut groups)?;
-    }
-    Ok(groups)
 }
 
 /// The tuples of all files with these names.
-fn all_named(alloc: Global, files: Vec<File>, names: &IndexSet<Vec<u8>>) -> Result<Db, AllocError>
-    ensures { IfOk result (λ db. db
-        ≡ flat_map (spec.tuples_named (map file_seen files.items)) (names_seen names.now.keys)) }
+fn all_named(alloc: Global, bundle: &Bundle, names: &IndexSet<Vec<u8>>) -> Result<Db, AllocError>
+    requires { AreBundled bundle.now }
+    ensures { IfOk result (λ db. db ≡ flat_map (spec.tuples_named (files_of bundle.now)) (names_seen names.now.keys)) }
 {
-    let mut groups = by_name(alloc, files)?;
-    let mut all = Db::new(alloc);
+    let chains = chains_of(alloc, bundle, names)?;
+    let mut out = Growing::new(alloc);
     for name in names.as_slice() {
-        add_group(groups.swap_remove(name), &mut all)?;
+        add_named(bundle, names, &chains, name, &mut out)?;
     }
-    Ok(all)
+    Ok(out.finish())
 }
 
-/// The tuples of the first file.
-fn first_of(files: Vec<File>) -> Db
-    requires { 0 < length files.items }
-    ensures { (local : spec.File) (others : List spec.File) → map file_seen files.items ≡ local ∷ others → result ≡ local.tuples }
+/// The first tuples of a database, so many.
+fn first_of(alloc: Global, db: Db, end: usize) -> Result<Db, AllocError>
+    requires { end ≤ length db }
+    ensures { IfOk result (λ first. first ≡ take end db) }
 {
-    let mut files = files;
-    let File { name: _, tuples } = files.swap_remove(0);
-    tuples
+    if end == db.len() {
+        return Ok(db);
+    }
+    let mut out = Growing::new(alloc);
+    add_tuples(&db, 0, end, &mut out)?;
+    Ok(out.finish())
 }
 
 /// The tuples of the files that the first one chooses, or its own.
-pub(crate) fn choose(alloc: Global, files: Vec<File>) -> Result<Db, AllocError>
-    requires { 0 < length files.items }
+pub(crate) fn choose(alloc: Global, bundle: Bundle) -> Result<Db, AllocError>
+    requires some { 0 < length bundle.ends.items }
+    requires sound { AreBundled bundle }
     ensures { IfOk result (λ db. (local : spec.File) (others : List spec.File)
-        → map file_seen files.items ≡ local ∷ others → db ≡ spec.chosen local others) }
+        → files_of bundle ≡ local ∷ others → db ≡ spec.chosen local others) }
 {
-    let names = names_of(alloc, &files[0].tuples)?;
+    let end = bundle.ends[0].tuple as usize;
+    let names = names_of(alloc, &bundle.db, end)?;
     if names.len() == 0 {
-        return Ok(first_of(files));
+        let Bundle { db, .. } = bundle;
+        let first = first_of(alloc, db, end)?;
+        return Ok(first);
     }
-    all_named(alloc, files, &names)
+    let db = all_named(alloc, &bundle, &names)?;
+    Ok(db)
 }

@@ -2,10 +2,11 @@
 //! counts looks at its tuples.
 #![tactic(auto)]
 
+mod bundle;
 mod choice;
+mod copy;
 mod fault;
 mod files;
-mod growing;
 mod line;
 mod reader;
 mod steps;
@@ -18,4 +19,4 @@ pub use net_base::{Db, NdbPair};
 pub use reader::read_ndb;
 pub use steps::Steps;
 pub use tuples::Tuples;
-pub use writer::{put_pairs, write_ndb};
+pub use writer::{put_line, write_ndb};

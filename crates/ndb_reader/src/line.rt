@@ -1,29 +1,23 @@
 //! A line of a text: its pairs, or the least cause for which it is bad.
-ghost use Rattle.std.specs.Prelude.{◌≡◌, ℕ, not, ◌&&◌, MatchOption, true, false, codes, None, IfOk, IfErr};
+ghost use Rattle.std.specs.Prelude.{◌≡◌, ℕ, OnOk, not, ◌&&◌, MatchOption, true, false, codes, None, IfOk, IfErr};
 ghost use Rattle.std.specs.List.{list_any};
 ghost use Rattle.std.specs.Option.{option_map};
 ghost use Rattle.net_base.specs.NdbText as spec;
 ghost use Rattle.net_base.specs.NdbText.{begins_with};
 ghost use Rattle.net_base.specs.NdbBundle.{causes_of, is_file_line, file_name, least};
+ghost use Rattle.net_base.specs.Store.{with_pairs};
 ghost use Rattle.ndb_reader.specs.Told.{Tells, AreWords};
 
 use crate::fault::NdbError;
 use crate::words::{Words, is_white, read_words};
-use net_base::NdbPair;
-use std::alloc::{AllocError, Global};
+use net_base::Growing;
+use std::alloc::AllocError;
 
 /// Whether a line begins with white space.
 pub(crate) fn is_indented(line: &[u8]) -> bool
     ensures { result ≡ spec.begins spec.is_white line.now }
 {
     !line.is_empty() && is_white(line[0])
-}
-
-/// Whether a line has no words.
-pub(crate) fn is_blank(pairs: &[NdbPair]) -> bool
-    ensures { result ≡ spec.is_empty pairs.now }
-{
-    pairs.is_empty()
 }
 
 /// The name of the file that a line begins.
@@ -56,43 +50,45 @@ fn has_white(bytes: &[u8]) -> bool
     bytes.iter().any(|byte| is_white(*byte))
 }
 
-/// The pairs of the line with this number, in a file that has a tuple before it or has none, of a text that has
-/// zero bytes or has none.
+/// Reads the line with this number onto the line that is open, in a file that has a tuple before it or has none, of a text that has
+/// zero bytes or has none; tells whether it has words.
 pub(crate) fn read_line(
-    alloc: Global,
+    growing: &mut Growing,
     line: &[u8],
     number: u64,
     has_tuple: bool,
     zeros: bool,
-) -> Result<Vec<NdbPair>, NdbError>
+) -> Result<bool, NdbError>
     requires { list_any spec.is_zero line.now ≡ true → zeros ≡ true }
-    ensures good { IfOk result (λ pairs. least (causes_of has_tuple line.now) ≡ None) }
-    ensures pairs { IfOk result (λ pairs. pairs.items ≡ spec.pairs_of line.now) }
+    ensures good { OnOk result (least (causes_of has_tuple line.now) ≡ None) }
+    ensures pairs { OnOk result (growing.new ≡ with_pairs (spec.pairs_of line.now) growing.old) }
+    ensures some { IfOk result (λ some. some ≡ not (spec.is_empty (spec.words_of line.now))) }
     ensures bad { IfErr result (λ e. Tells e (option_map (λ (c : ℕ). (number, c)) (least (causes_of has_tuple line.now)))) }
 {
-    let words = words_of(alloc, line)?;
-    match least_cause(line, &words, has_tuple, zeros) {
+    let words = words_of(line, growing)?;
+    match least_cause(line, words, has_tuple, zeros) {
         Some(cause) => Err(NdbError::Bad {
             line: number,
             cause,
         }),
-        None => Ok(words.into_pairs()),
+        None => Ok(words.some),
     }
 }
 
 /// The words of a line; one that begins with `%` has none.
-fn words_of(alloc: Global, line: &[u8]) -> Result<Words, AllocError>
-    ensures { IfOk result (λ words. AreWords words (spec.words_of line.now)) }
+fn words_of(line: &[u8], growing: &mut Growing) -> Result<Words, AllocError>
+    ensures words { IfOk result (λ words. AreWords words (spec.words_of line.now)) }
+    ensures pairs { OnOk result (growing.new ≡ with_pairs (spec.pairs_of line.now) growing.old) }
 {
     if is_percent(line) {
-        return Ok(Words::new(alloc));
+        return Ok(Words::new());
     }
-    read_words(alloc, line)
+    read_words(line, growing)
 }
 
 /// The least cause for which a line with these words is bad.
-fn least_cause(line: &[u8], words: &Words, has_tuple: bool, zeros: bool) -> Option<u32>
-    requires words { AreWords words.now (spec.words_of line.now) }
+fn least_cause(line: &[u8], words: Words, has_tuple: bool, zeros: bool) -> Option<u32>
+    requires words { AreWords words (spec.words_of line.now) }
     requires zeros { list_any spec.is_zero line.now ≡ true → zeros ≡ true }
     ensures { result ≡ least (causes_of has_tuple line.now) }
 {
@@ -100,7 +96,7 @@ fn least_cause(line: &[u8], words: &Words, has_tuple: bool, zeros: bool) -> Opti
         Some(1)
     } else if words.unclosed {
         Some(2)
-    } else if has_nameless(words) {
+    } else if words.nameless {
         Some(3)
     } else if words.followed {
         Some(4)
@@ -114,10 +110,10 @@ fn least_cause(line: &[u8], words: &Words, has_tuple: bool, zeros: bool) -> Opti
 }
 
 /// Whether a line goes on with a tuple where there is none.
-fn goes_on_alone(line: &[u8], words: &Words, has_tuple: bool) -> bool
-    ensures { result ≡ (not (spec.is_empty words.now.pairs.items) && (spec.begins spec.is_white line.now && not has_tuple)) }
+fn goes_on_alone(line: &[u8], words: Words, has_tuple: bool) -> bool
+    ensures { result ≡ (words.some && (spec.begins spec.is_white line.now && not has_tuple)) }
 {
-    !is_blank(&words.pairs) && is_indented(line) && !has_tuple
+    words.some && is_indented(line) && !has_tuple
 }
 
 /// Whether a line begins with `%` and begins no file.
@@ -146,14 +142,4 @@ fn is_percent(line: &[u8]) -> bool
     ensures { result ≡ spec.begins spec.is_percent line.now }
 {
     !line.is_empty() && line[0] == b'%'
-}
-
-/// Whether a word begins with `=`.
-fn has_nameless(words: &Words) -> bool
-    ensures { result ≡ list_any (λ pair. spec.is_empty pair.attr) words.now.pairs.items }
-{
-    words
-        .pairs
-        .iter()
-        .any(|pair| pair.attr.as_slice().is_empty())
 }

@@ -8,7 +8,7 @@ ghost use Rattle.ndb_reader.specs.Told.{Tells};
 use crate::choice::choose;
 use crate::fault::NdbError;
 use crate::files::Files;
-use crate::line::{begun_file, has_zero, is_blank, is_indented, read_line};
+use crate::line::{begun_file, has_zero, is_indented};
 use net_base::Db;
 use std::alloc::Global;
 
@@ -25,18 +25,18 @@ pub fn read_ndb(alloc: Global, bytes: &[u8]) -> Result<Db, NdbError>
     let mut number: u64 = 0;
     for line in bytes.split(|byte| *byte == b'\n') {
         number += 1;
-        let pairs = read_line(alloc, line, number, !files.is_empty(), zeros)?;
+        let has_words = files.read(line, number, zeros)?;
         if let Some(name) = begun_file(line) {
-            files.begin(alloc, name)?;
+            files.begin(name)?;
             continue;
         }
-        if is_blank(pairs.as_slice()) {
+        if !has_words {
             continue;
         }
         if is_indented(line) {
-            files.go_on(pairs)?;
+            files.go_on()?;
         } else {
-            files.start(alloc, pairs)?;
+            files.start()?;
         }
     }
     Ok(choose(alloc, files.finish()?)?)

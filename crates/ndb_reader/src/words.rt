@@ -1,11 +1,12 @@
 //! The words of a line, each an attribute with its value.
-ghost use Rattle.std.specs.Prelude.{◌≡◌, ◌≤◌, ◌+◌, ◌++◌, ◌∷◌, ◌||◌, [], length, take, drop, IfOk, OnOk};
+ghost use Rattle.std.specs.Prelude.{◌≡◌, true, map, ◌≤◌, ◌+◌, ◌++◌, ◌∷◌, ◌||◌, [], length, take, drop, IfOk, OnOk};
 ghost use Rattle.std.specs.List.{list_any, position_or_len};
 ghost use Rattle.net_base.specs.NdbText as spec;
-ghost use Rattle.ndb_reader.specs.Told.{AreWords, IsRead};
+ghost use Rattle.net_base.specs.Store.{with_pairs};
+ghost use Rattle.ndb_reader.specs.Told.{AreWords, IsRead, is_break};
 
-use net_base::{NdbPair, Octets};
-use std::alloc::{AllocError, Global};
+use net_base::Growing;
+use std::alloc::AllocError;
 
 /// White space is blank, tab and carriage return.
 pub(crate) fn is_white(byte: u8) -> bool
@@ -14,10 +15,11 @@ pub(crate) fn is_white(byte: u8) -> bool
     byte == b' ' || byte == b'\t' || byte == b'\r'
 }
 
-/// The pairs of a line, and whether a quote isn't closed or is followed by something.
-#[derive(Drop)]
+/// Whether a line has words, whether one begins with `=`, and whether a quote isn't closed or is followed by something.
+#[derive(Clone, Copy, Debug, Drop)]
 pub(crate) struct Words {
-    pub(crate) pairs: Vec<NdbPair>,
+    pub(crate) some: bool,
+    pub(crate) nameless: bool,
     pub(crate) unclosed: bool,
     pub(crate) followed: bool,
 }
@@ -33,65 +35,38 @@ pub(crate) struct Word<'a> {
 }
 
 impl Words {
-    /// No words, which take no memory yet.
-    pub(crate) fn new(alloc: Global) -> Words
+    /// No words.
+    pub(crate) fn new() -> Words
         ensures { AreWords result [] }
     {
         Words {
-            pairs: Vec::new(alloc),
+            some: false,
+            nameless: false,
             unclosed: false,
             followed: false,
         }
     }
 
-    /// No words, and memory for so many.
-    fn with_capacity(alloc: Global, count: usize) -> Result<Words, AllocError>
-        ensures { IfOk result (λ words. AreWords words []) }
+    /// Counts one more word.
+    fn add(&mut self, word: Word<'_>)
+        ensures some { self.new.some ≡ true }
+        ensures nameless { self.new.nameless ≡ (self.old.nameless || spec.is_empty word.entry.attr.now) }
+        ensures unclosed { self.new.unclosed ≡ (self.old.unclosed || word.entry.unclosed) }
+        ensures followed { self.new.followed ≡ (self.old.followed || word.entry.followed) }
     {
-        Ok(Words {
-            pairs: Vec::with_capacity(alloc, count)?,
-            unclosed: false,
-            followed: false,
-        })
-    }
-
-    /// The pairs alone.
-    pub(crate) fn into_pairs(self) -> Vec<NdbPair>
-        ensures { result.items ≡ self.pairs.items }
-    {
-        let Words { pairs, .. } = self;
-        pairs
-    }
-
-    /// Adds a word.
-    fn push(&mut self, alloc: Global, word: Word<'_>) -> Result<(), AllocError>
-        ensures pairs { OnOk result (self.new.pairs.items
-            ≡ self.old.pairs.items ++ record { attr = word.entry.attr.now; value = word.entry.value.now } ∷ []) }
-        ensures unclosed { OnOk result (self.new.unclosed ≡ (self.old.unclosed || word.entry.unclosed)) }
-        ensures followed { OnOk result (self.new.followed ≡ (self.old.followed || word.entry.followed)) }
-    {
-        self.pairs.push(NdbPair {
-            attr: Octets::from_slice(alloc, word.attr)?,
-            value: Octets::from_slice(alloc, word.value)?,
-        })?;
+        self.some = true;
+        self.nameless = self.nameless || is_nothing(word.attr);
         self.unclosed = self.unclosed || word.unclosed;
         self.followed = self.followed || word.followed;
-        Ok(())
     }
 }
 
-/// How many words a line seems to have, one for each sixteen bytes, or 4 where there are more.
-fn likely_count(line: &[u8]) -> usize
-    ensures { result ≤ 4 }
+/// The words of a line that doesn't begin with `%`, up to one that begins with `#`. Their pairs go onto the line that is open.
+pub(crate) fn read_words(line: &[u8], growing: &mut Growing) -> Result<Words, AllocError>
+    ensures words { IfOk result (λ words. AreWords words (spec.words_behind 0 line.now)) }
+    ensures pairs { OnOk result (growing.new ≡ with_pairs (map spec.pair_of (spec.words_behind 0 line.now)) growing.old) }
 {
-    (line.len().min(64) + 15) / 16
-}
-
-/// The words of a line that doesn't begin with `%`, up to one that begins with `#`.
-pub(crate) fn read_words(alloc: Global, line: &[u8]) -> Result<Words, AllocError>
-    ensures { IfOk result (λ words. AreWords words (spec.words_behind 0 line.now)) }
-{
-    let mut words = Words::with_capacity(alloc, likely_count(line))?;
+    let mut words = Words::new();
     let mut rest = line;
     while !rest.is_empty() {
         if rest[0] == b'#' {
@@ -102,7 +77,8 @@ pub(crate) fn read_words(alloc: Global, line: &[u8]) -> Result<Words, AllocError
             continue;
         }
         let word = word_at(rest);
-        words.push(alloc, word)?;
+        growing.push(word.attr, word.value)?;
+        words.add(word);
         rest = word.rest;
     }
     Ok(words)
@@ -112,16 +88,15 @@ pub(crate) fn read_words(alloc: Global, line: &[u8]) -> Result<Words, AllocError
 fn word_at(bytes: &[u8]) -> Word<'_>
     ensures { IsRead result bytes.now (spec.word_of bytes.now) }
 {
-    let len = word_len(bytes);
-    let run = &bytes[..len];
-    let end = attr_len(run);
-    if is_quoted(run, end) {
-        return quoted_at(bytes, end);
+    let ends = ends_of(bytes);
+    let run = &bytes[..ends.word];
+    if is_quoted(run, ends.attr) {
+        return quoted_at(bytes, ends.attr);
     }
     Word {
-        attr: &run[..end],
-        value: behind(run, end),
-        rest: from(bytes, len),
+        attr: &run[..ends.attr],
+        value: behind(run, ends.attr),
+        rest: from(bytes, ends.word),
         unclosed: false,
         followed: false,
     }
@@ -190,14 +165,43 @@ fn word_len(bytes: &[u8]) -> usize
         .unwrap_or(bytes.len())
 }
 
-/// How many bytes stand before the first `=`.
-fn attr_len(word: &[u8]) -> usize
-    ensures value { result ≡ position_or_len spec.is_equals word.now }
-    ensures within { result ≤ length word.now }
+/// How many bytes a word has, and its attribute.
+#[derive(Clone, Copy)]
+struct Ends {
+    word: usize,
+    attr: usize,
+}
+
+/// How many bytes stand before white space, and of these before the first `=`. Each byte is looked at once.
+fn ends_of(bytes: &[u8]) -> Ends
+    ensures word { result.word ≡ position_or_len spec.is_white bytes.now }
+    ensures attr { result.attr ≡ position_or_len spec.is_equals (take result.word bytes.now) }
+    ensures within { result.word ≤ length bytes.now }
 {
-    word.iter()
-        .position(|byte| *byte == b'=')
-        .unwrap_or(word.len())
+    let attr = attr_len(bytes);
+    let value = word_len(from(bytes, attr));
+    Ends {
+        word: attr + value,
+        attr,
+    }
+}
+
+/// How many bytes stand before the first `=` or white space.
+fn attr_len(bytes: &[u8]) -> usize
+    ensures value { result ≡ position_or_len is_break bytes.now }
+    ensures within { result ≤ length bytes.now }
+{
+    bytes
+        .iter()
+        .position(|byte| is_break(*byte))
+        .unwrap_or(bytes.len())
+}
+
+/// Whether a word or its attribute ends before this byte.
+fn is_break(byte: u8) -> bool
+    ensures { result ≡ is_break byte }
+{
+    byte == b'=' || is_white(byte)
 }
 
 /// How many bytes stand before the first quote.

@@ -1,6 +1,7 @@
 //! A database as it is written.
-ghost use Rattle.std.specs.Prelude.{◌≡◌, ◌++◌, length, ◌<◌, IfOk, OnOk};
+ghost use Rattle.std.specs.Prelude.{◌≡◌, ◌++◌, ◌∷◌, [], List, drop, IfOk, OnOk};
 ghost use Rattle.std.specs.List.{list_any};
+ghost use Rattle.net_base.specs.Ndb.{NdbPair as Seen};
 ghost use Rattle.net_base.specs.NdbText.{is_white};
 ghost use Rattle.ndb_reader.specs.Written as spec;
 
@@ -16,63 +17,90 @@ fn has_white(value: &[u8]) -> bool
 }
 
 /// Adds a pair, whose value stands in quotes where it has white space.
-fn put_pair(out: &mut Octets, pair: &NdbPair) -> Result<(), AllocError>
+fn put_pair(out: &mut Octets, pair: &NdbPair<'_>) -> Result<(), AllocError>
     ensures { OnOk result (out.new ≡ out.old ++ spec.pair_text pair.now) }
 {
-    out.append(pair.attr.as_slice())?;
+    out.append(pair.attr())?;
     out.append(b"=")?;
-    if !has_white(pair.value.as_slice()) {
-        return out.append(pair.value.as_slice());
+    if !has_white(pair.value()) {
+        return out.append(pair.value());
     }
     out.append(b"\"")?;
-    out.append(pair.value.as_slice())?;
+    out.append(pair.value())?;
     out.append(b"\"")
 }
 
-/// Adds pairs with a blank before each.
-fn put_more(out: &mut Octets, pairs: &[NdbPair]) -> Result<(), AllocError>
-    ensures { OnOk result (out.new ≡ out.old ++ spec.more_pairs pairs.now) }
+/// Adds the pairs of a line from the second one on, with a blank before each.
+fn put_more(out: &mut Octets, line: &Line<'_>) -> Result<(), AllocError>
+    ensures { OnOk result (out.new ≡ out.old ++ spec.more_pairs (drop 1 line.now)) }
 {
-    for pair in pairs {
+    for number in 1..line.len() {
         out.append(b" ")?;
-        put_pair(out, pair)?;
+        put_pair(out, &line.pair(number))?;
     }
     Ok(())
 }
 
 /// Adds the pairs of a line with a blank between them.
-pub fn put_pairs(out: &mut Octets, pairs: &[NdbPair]) -> Result<(), AllocError>
-    ensures { OnOk result (out.new ≡ out.old ++ spec.line_text pairs.now) }
+fn put_pairs(out: &mut Octets, line: &Line<'_>) -> Result<(), AllocError>
+    ensures { OnOk result (out.new ≡ out.old ++ spec.line_text line.now) }
 {
-    let [first, more @ ..] = pairs else {
+    if line.len() == 0 {
         return Ok(());
-    };
-    put_pair(out, first)?;
-    put_more(out, more)
+    }
+    put_pair(out, &line.pair(0))?;
+    put_more(out, line)?;
+    Ok(())
+}
+
+/// Adds a pair behind others, with a blank between them.
+fn put_next(out: &mut Octets, pair: &NdbPair<'_>) -> Result<(), AllocError>
+    ensures { OnOk result ((pairs : List Seen) → out.old ≡ spec.line_text pairs
+        → out.new ≡ spec.line_text (pairs ++ pair.now ∷ [])) }
+{
+    if out.len() == 0 {
+        put_pair(out, pair)?;
+        return Ok(());
+    }
+    out.append(b" ")?;
+    put_pair(out, pair)?;
+    Ok(())
+}
+
+/// Adds the pairs of a line behind others, with a blank between them.
+pub fn put_line(out: &mut Octets, line: &Line<'_>) -> Result<(), AllocError>
+    ensures { OnOk result ((pairs : List Seen) → out.old ≡ spec.line_text pairs
+        → out.new ≡ spec.line_text (pairs ++ line.now)) }
+{
+    for number in 0..line.len() {
+        put_next(out, &line.pair(number))?;
+    }
+    Ok(())
 }
 
 /// Adds the lines of a tuple behind its first one.
-fn put_lines(out: &mut Octets, lines: &[Line]) -> Result<(), AllocError>
-    ensures { OnOk result (out.new ≡ out.old ++ spec.more_lines lines.now) }
+fn put_lines(out: &mut Octets, tuple: &Tuple<'_>) -> Result<(), AllocError>
+    ensures { OnOk result (out.new ≡ out.old ++ spec.more_lines (drop 1 tuple.now)) }
 {
-    for line in lines {
+    for number in 1..tuple.len() {
         out.append(b"\t")?;
-        put_pairs(out, line.as_slice())?;
+        put_pairs(out, &tuple.line(number))?;
         out.append(b"\n")?;
     }
     Ok(())
 }
 
 /// Adds a tuple.
-fn put_tuple(out: &mut Octets, tuple: &Tuple) -> Result<(), AllocError>
+fn put_tuple(out: &mut Octets, tuple: &Tuple<'_>) -> Result<(), AllocError>
     ensures { OnOk result (out.new ≡ out.old ++ spec.tuple_text tuple.now) }
 {
-    let [first, more @ ..] = tuple.as_slice() else {
+    if tuple.len() == 0 {
         return Ok(());
-    };
-    put_pairs(out, first.as_slice())?;
+    }
+    put_pairs(out, &tuple.line(0))?;
     out.append(b"\n")?;
-    put_lines(out, more)
+    put_lines(out, tuple)?;
+    Ok(())
 }
 
 /// The text of a database.
@@ -80,8 +108,8 @@ pub fn write_ndb(alloc: Global, db: &Db) -> Result<Octets, AllocError>
     ensures { IfOk result (λ text. text ≡ spec.db_text db.now) }
 {
     let mut out = Octets::new(alloc);
-    for tuple in db.as_slice() {
-        put_tuple(&mut out, tuple)?;
+    for place in 0..db.len() {
+        put_tuple(&mut out, &db.tuple(place))?;
     }
     Ok(out)
 }

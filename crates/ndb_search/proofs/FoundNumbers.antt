@@ -1,9 +1,9 @@
 -- The numbers beside a pair, a tuple at a time.
-use Rattle.std.proofs.Common.{◌≡◌, ℕ, ◌+◌, ◌<◌, Bool, true, false, cond, List, [], ◌∷◌, ◌++◌, length, get_or, take, refl, ap, ◌∙◌, Option, Some, None, append-nil, is_some}
+use Rattle.std.proofs.Common.{◌≡◌, ℕ, ◌+◌, ◌<◌, cond, List, [], ◌∷◌, ◌++◌, length, get_or, take, refl, ap, ◌∙◌, Option, Some, None, append-nil, is_some}
 use Rattle.std.specs.Prelude.{filter, filter_map, flat_map, find}
 use Rattle.std.proofs.lemmas.List.Elements.{filter-append, filter_map-append}
 use Rattle.std.proofs.lemmas.List.Concat.{flat_map-append}
-use Rattle.net_base.specs.declared.ndb.NdbPair.{NdbPair}
+use Rattle.net_base.specs.Ndb.{NdbPair}
 use Rattle.net_base.specs.Search.{line_has, tuple_has, values_in, or_where_empty, values_on_found, beside}
 use Rattle.ndb_tuple.specs.declared.numbers.Kind.{Kind}
 use Rattle.ndb_tuple.specs.Numbers.{attr_of, read_of, numbers_near, numbers_found}

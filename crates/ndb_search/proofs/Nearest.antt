@@ -1,14 +1,15 @@
 -- The first of a system's tuples that has values, and the first of its networks.
-use Rattle.std.proofs.Common.{◌≡◌, ℕ, ◌+◌, ◌<◌, Bool, true, false, cond, List, [], ◌∷◌, length, get_or, take, map, refl, ap, ◌∙◌, Option, Some, None}
+use Rattle.std.proofs.Common.{◌≡◌, ℕ, ◌+◌, ◌<◌, Bool, true, false, cond, List, [], ◌∷◌, length, get_or, take, map, refl, sym, ap, ◌∙◌, Option, Some, None, zero, suc, subst, arith}
 use Rattle.std.specs.Prelude.{filter, codes}
 use Rattle.std.proofs.lemmas.List.Elements.{filter-append}
 use Rattle.std.proofs.lemmas.List.{map-append}
-use Rattle.net_base.specs.declared.ndb.NdbPair.{NdbPair}
+use Rattle.net_base.specs.Ndb.{NdbPair}
 use Rattle.net_base.specs.Search.{tuple_has, tuples_with, values_in}
 use Rattle.net_base.specs.Networks.{is_filled}
 use Rattle.ndb_tuple.specs.Closest.{first_filled}
 use Rattle.ndb_tuple.specs.Prefixes.{network_seen}
 use Rattle.ndb_tuple.specs.declared.network.Network.{Network}
+use Rattle.net_base.proofs.Among.{own-default}
 use Rattle.ndb_tuple.proofs.Lists.{Joins}
 use Rattle.ndb_tuple.proofs.NonEmpty.{first_here, first_past, one_filled, none_filled}
 
@@ -47,12 +48,29 @@ tuples_joins = record {
 }
 
 -- among networks: one whose tuple has values, and one whose tuple has none
-pub among_first : (attr : List ℕ) (networks : List Network) (i : ℕ) (network : Network) → i < length networks → network ≡ get_or networks i network → first_filled attr (map (λ network. network.tuple) (map network_seen (take i networks))) ≡ None → 0 < length (filter is_filled (values_in attr network.tuple.now)) → first_filled attr (map (λ network. network.tuple) (map network_seen networks)) ≡ Some (filter is_filled (values_in attr network.tuple.now))
+pub among_first : (attr : List ℕ) (networks : List Network) (i : ℕ) (network : Network) → i < length networks → network ≡ get_or networks i network → first_filled attr (map (λ network. network.tuple) (map network_seen (take i networks))) ≡ None → 0 < length (filter is_filled (values_in attr network.tuple)) → first_filled attr (map (λ network. network.tuple) (map network_seen networks)) ≡ Some (filter is_filled (values_in attr network.tuple))
 unfolding tuples_of
 among_first attr networks i network within here none some =
-    first_here attr tuples_of tuples_joins networks i network (filter is_filled (values_in attr network.tuple.now)) within here none (one_filled attr network.tuple.now some)
+    first_here attr tuples_of tuples_joins networks i network (filter is_filled (values_in attr network.tuple)) within here none (one_filled attr network.tuple some)
 
-pub among_less : (attr : List ℕ) (networks : List Network) (i : ℕ) (network : Network) → i < length networks → network ≡ get_or networks i network → first_filled attr (map (λ network. network.tuple) (map network_seen (take i networks))) ≡ None → length (filter is_filled (values_in attr network.tuple.now)) ≡ 0 → first_filled attr (map (λ network. network.tuple) (map network_seen (take (i + 1) networks))) ≡ None
+pub among_less : (attr : List ℕ) (networks : List Network) (i : ℕ) (network : Network) → i < length networks → network ≡ get_or networks i network → first_filled attr (map (λ network. network.tuple) (map network_seen (take i networks))) ≡ None → length (filter is_filled (values_in attr network.tuple)) ≡ 0 → first_filled attr (map (λ network. network.tuple) (map network_seen (take (i + 1) networks))) ≡ None
 unfolding tuples_of
 among_less attr networks i network within here none empty =
-    first_past attr tuples_of tuples_joins networks i network within here none (none_filled attr network.tuple.now empty)
+    first_past attr tuples_of tuples_joins networks i network within here none (none_filled attr network.tuple empty)
+
+-- The same by what was read.
+
+some-values : (n : ℕ) → (n ≡ 0 → ⊥) → 0 < n
+some-values zero some = absurd (some refl)
+some-values (suc n) some = omega arith
+
+pub of_here : (attr me : List ℕ) (db : List (List (List NdbPair))) (i : ℕ) (tuple : List (List NdbPair)) (values : List (List ℕ)) → i < length db → tuple ≡ get_or db i [] → first_filled attr (tuples_with (codes "sys") me (take i db)) ≡ None
+    → tuple_has (codes "sys") me tuple ≡ true → values ≡ filter is_filled (values_in attr tuple) → (length values ≡ 0 → ⊥) → Some values ≡ first_filled attr (tuples_with (codes "sys") me db)
+of_here attr me db i tuple values within here none named is some =
+    ap Some is
+    ∙ sym (of_first attr me db i tuple within (own-default db i tuple [] within here) none named (subst (λ (vs : List (List ℕ)). 0 < length vs) is (some-values (length values) some)))
+
+pub of_empty : (attr me : List ℕ) (db : List (List (List NdbPair))) (i : ℕ) (tuple : List (List NdbPair)) (values : List (List ℕ)) → i < length db → tuple ≡ get_or db i [] → first_filled attr (tuples_with (codes "sys") me (take i db)) ≡ None
+    → tuple_has (codes "sys") me tuple ≡ true → values ≡ filter is_filled (values_in attr tuple) → length values ≡ 0 → first_filled attr (tuples_with (codes "sys") me (take (i + 1) db)) ≡ None
+of_empty attr me db i tuple values within here none named is empty =
+    of_less attr me db i tuple within (own-default db i tuple [] within here) none named (ap (λ (vs : List (List ℕ)). length vs) (sym is) ∙ empty)

@@ -1,23 +1,21 @@
 -- A system's addresses and its own networks, a tuple at a time.
-use Rattle.std.proofs.Common.{◌≡◌, ◌≢◌, ℕ, ◌+◌, ◌<◌, ◌==◌, ◌||◌, ◌&&◌, nat_eq, arith, zero, suc, Bool, true, false, cond, List, [], ◌∷◌, ◌++◌, length, get_or, take, map, refl, sym, ap, ◌∙◌, Option, Some, None, append-nil, is_some}
-use Rattle.std.specs.Prelude.{filter, filter_map, flat_map, find, option_map, codes}
-use Rattle.std.specs.List.{list_any, cons_option, range_with_len}
-use Rattle.std.proofs.lemmas.List.Folds.{list_any_more}
+use Rattle.std.proofs.Common.{◌≡◌, ◌≢◌, ℕ, ◌+◌, ◌<◌, ◌==◌, ◌||◌, ◌&&◌, nat_eq, arith, Bool, true, false, cond, List, [], ◌∷◌, ◌++◌, length, get_or, take, map, refl, sym, ap, ◌∙◌, Option, Some, None, append-nil}
+use Rattle.std.specs.Prelude.{filter, filter_map, flat_map, option_map, codes}
+use Rattle.std.specs.List.{list_any, cons_option}
 use Rattle.std.proofs.lemmas.Bool.Decides.{nat_tests}
 use Rattle.std.proofs.lemmas.List.Elements.{filter-append, filter_map-append}
 use Rattle.std.proofs.lemmas.List.Concat.{flat_map-append}
 use Rattle.std.proofs.lemmas.List.{map-append}
-use Rattle.net_base.specs.declared.ndb.NdbPair.{NdbPair}
+use Rattle.net_base.specs.Ndb.{NdbPair}
 use Rattle.net_base.specs.Networks.{Network, network_of, addresses_of, contains_address}
 use Rattle.net_base.specs.Addresses.{read_address}
-use Rattle.net_base.specs.Search.{line_has, tuple_has, values_in}
+use Rattle.net_base.specs.Search.{tuple_has, values_in}
 use Rattle.ndb_tuple.specs.declared.network.Network.{Network as Kept}
 use Rattle.ndb_tuple.specs.declared.numbers.Kind.TheVariants.{Address}
 use Rattle.ndb_tuple.specs.Numbers.{numbers_in}
 use Rattle.ndb_tuple.specs.Prefixes.{network_seen, first_bits}
 use Rattle.ndb_search.specs.Own.{own_at}
 use Rattle.ndb_tuple.proofs.Lists.{Joins, joins_more}
-use Rattle.ndb_tuple.proofs.Pieces.{any_find}
 use Rattle.ndb_tuple.proofs.Firsts.{contained}
 
 addresses_joins : (me : List ℕ) → Joins (addresses_of me)
@@ -32,17 +30,17 @@ addresses_at : List (List NdbPair) → Bool → List ℕ
 addresses_at tuple holds = filter_map read_address (flat_map (values_in (codes "ip")) (cond holds (tuple ∷ []) []))
 
 -- one more tuple, of the system and of another
-pub addresses_more : (me : List ℕ) (db : List (List (List NdbPair))) (i : ℕ) (tuple : List (List NdbPair)) (line : List NdbPair) → i < length db → tuple ≡ get_or db i tuple → find (line_has (codes "sys") me) tuple ≡ Some line → addresses_of me (take (i + 1) db) ≡ addresses_of me (take i db) ++ numbers_in Address tuple
+pub addresses_more : (me : List ℕ) (db : List (List (List NdbPair))) (i : ℕ) (tuple : List (List NdbPair)) → i < length db → tuple ≡ get_or db i tuple → tuple_has (codes "sys") me tuple ≡ true → addresses_of me (take (i + 1) db) ≡ addresses_of me (take i db) ++ numbers_in Address tuple
 unfolding addresses_at
-addresses_more me db i tuple line within here named =
+addresses_more me db i tuple within here named =
     joins_more (addresses_of me) (addresses_joins me) db i tuple within here
-    ∙ ap (λ piece. addresses_of me (take i db) ++ piece) (ap (addresses_at tuple) (any_find (line_has (codes "sys") me) tuple ∙ ap is_some named) ∙ ap (filter_map read_address) (append-nil (values_in (codes "ip") tuple)))
+    ∙ ap (λ piece. addresses_of me (take i db) ++ piece) (ap (addresses_at tuple) named ∙ ap (filter_map read_address) (append-nil (values_in (codes "ip") tuple)))
 
-pub addresses_less : (me : List ℕ) (db : List (List (List NdbPair))) (i : ℕ) (tuple : List (List NdbPair)) → i < length db → tuple ≡ get_or db i tuple → find (line_has (codes "sys") me) tuple ≡ None → addresses_of me (take (i + 1) db) ≡ addresses_of me (take i db)
+pub addresses_less : (me : List ℕ) (db : List (List (List NdbPair))) (i : ℕ) (tuple : List (List NdbPair)) → i < length db → tuple ≡ get_or db i tuple → tuple_has (codes "sys") me tuple ≡ false → addresses_of me (take (i + 1) db) ≡ addresses_of me (take i db)
 unfolding addresses_at
 addresses_less me db i tuple within here named =
     joins_more (addresses_of me) (addresses_joins me) db i tuple within here
-    ∙ ap (λ piece. addresses_of me (take i db) ++ piece) (ap (addresses_at tuple) (any_find (line_has (codes "sys") me) tuple ∙ ap is_some named))
+    ∙ ap (λ piece. addresses_of me (take i db) ++ piece) (ap (addresses_at tuple) named)
     ∙ append-nil (addresses_of me (take i db))
 
 network_at : Option Network → List Network

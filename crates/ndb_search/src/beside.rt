@@ -18,8 +18,8 @@ pub fn value_beside(
     requires within { place < length db.now }
     ensures { IfOk result (λ values. values ≡ spec.beside attr.now value.now other.now (get_or db.now place [])) }
 {
-    let tuple = &db.as_slice()[place as usize];
+    let tuple = db.tuple(place as usize);
     let mut values = Lines::new(alloc);
-    add_beside(attr, value, other, tuple, &mut values)?;
+    add_beside(attr, value, other, &tuple, &mut values)?;
     Ok(values)
 }

@@ -6,20 +6,20 @@ ghost use Rattle.ndb_tuple.specs.Prefixes.{network_seen};
 ghost use Rattle.ndb_tuple.specs.Closest.{first_filled};
 
 use crate::networks::own_networks;
-use ndb_tuple::{Network, filled_in, tuple_has};
+use ndb_tuple::{Network, filled_in};
 use net_base::{Db, Lines};
 use std::alloc::{AllocError, Global};
 
 /// The values of the first of a system's tuples that has any.
-#[tactic(auto, using(crate::proofs::Nearest::of_first, crate::proofs::Nearest::of_less, crate::proofs::Nearest::of_other))]
 fn closest_of(alloc: Global, db: &Db, me: &[u8], attr: &[u8]) -> Result<Option<Lines>, AllocError>
     ensures { IfOk result (λ values. values ≡ first_filled attr.now (tuples_with (codes "sys") me.now db.now)) }
 {
-    for tuple in db.as_slice() {
-        if !tuple_has(b"sys", me, tuple) {
+    for place in 0..db.len() {
+        let tuple = db.tuple(place);
+        if !tuple.has(b"sys", me) {
             continue;
         }
-        let values = filled_in(alloc, attr, tuple)?;
+        let values = filled_in(alloc, attr, &tuple)?;
         if values.len() != 0 {
             return Ok(Some(values));
         }
@@ -38,7 +38,7 @@ fn closest_among(
         ≡ first_filled attr.now (map (λ network. network.tuple) (map network_seen networks.now))) }
 {
     for network in networks {
-        let values = filled_in(alloc, attr, network.tuple)?;
+        let values = filled_in(alloc, attr, &network.tuple)?;
         if values.len() != 0 {
             return Ok(Some(values));
         }

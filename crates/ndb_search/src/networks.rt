@@ -5,7 +5,7 @@ ghost use Rattle.net_base.specs.Networks as spec;
 ghost use Rattle.ndb_tuple.specs.Prefixes.{network_seen, first_bits};
 ghost use Rattle.ndb_search.specs.Own.{own_at};
 
-use ndb_tuple::{Kind, Network, add_numbers_in, first_bits, firsts_of, line_with, network_of};
+use ndb_tuple::{Kind, Network, add_numbers_in, first_bits, firsts_of, network_of};
 use net_base::Db;
 use std::alloc::{AllocError, Global};
 
@@ -14,8 +14,8 @@ pub fn all_networks(alloc: Global, db: &Db) -> Result<Vec<Network<'_>>, AllocErr
     ensures { IfOk result (λ networks. map network_seen networks.items ≡ filter_map spec.network_of db.now) }
 {
     let mut networks = Vec::new(alloc);
-    for tuple in db.as_slice() {
-        let Some(network) = network_of(tuple) else {
+    for place in 0..db.len() {
+        let Some(network) = network_of(&db.tuple(place)) else {
             continue;
         };
         networks.push(network)?;
@@ -24,15 +24,16 @@ pub fn all_networks(alloc: Global, db: &Db) -> Result<Vec<Network<'_>>, AllocErr
 }
 
 /// The addresses of a system.
-#[tactic(auto, using(crate::proofs::Owned::addresses_more, crate::proofs::Owned::addresses_less))]
 pub fn addresses_of(alloc: Global, me: &[u8], db: &Db) -> Result<Vec<u32>, AllocError>
     ensures { IfOk result (λ ips. ips.items ≡ spec.addresses_of me.now db.now) }
 {
     let mut ips = Vec::new(alloc);
-    for tuple in db.as_slice() {
-        if let Some(_) = line_with(b"sys", me, tuple) {
-            add_numbers_in(Kind::Address, tuple, &mut ips)?;
+    for place in 0..db.len() {
+        let tuple = db.tuple(place);
+        if !tuple.has(b"sys", me) {
+            continue;
         }
+        add_numbers_in(Kind::Address, &tuple, &mut ips)?;
     }
     Ok(ips)
 }
@@ -67,7 +68,7 @@ fn add_own<'a>(
         if !firsts.contains(&first_bits(bits, network.ip)) {
             continue;
         }
-        own.push(*network)?;
+        own.push(network.again())?;
     }
     Ok(())
 }

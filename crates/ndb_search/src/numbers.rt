@@ -7,7 +7,6 @@ use net_base::Db;
 use std::alloc::{AllocError, Global};
 
 /// The numbers of a kind beside the pair, in all tuples that contain it.
-#[tactic(auto, using(crate::proofs::FoundNumbers::found_more, crate::proofs::FoundNumbers::found_less))]
 pub fn numbers_found(
     alloc: Global,
     attr: &[u8],
@@ -19,10 +18,12 @@ pub fn numbers_found(
         ≡ spec.numbers_found attr.now value.now kind db.now) }
 {
     let mut numbers = Vec::new(alloc);
-    for tuple in db.as_slice() {
-        if let Some(line) = line_with(attr, value, tuple) {
-            add_numbers_beside(kind, line, tuple, &mut numbers)?;
-        }
+    for place in 0..db.len() {
+        let tuple = db.tuple(place);
+        let Some(line) = line_with(attr, value, &tuple) else {
+            continue;
+        };
+        add_numbers_beside(kind, &line, &tuple, &mut numbers)?;
     }
     Ok(numbers)
 }

@@ -3,7 +3,7 @@ ghost use Rattle.std.specs.Prelude.{◌≡◌, filter_map, slice_get, IfOk};
 ghost use Rattle.net_base.specs.Search as spec;
 ghost use Rattle.ndb_tuple.specs.Places.{places_with};
 
-use ndb_tuple::{Places, tuple_has};
+use ndb_tuple::Places;
 use net_base::Db;
 use std::alloc::{AllocError, Global};
 
@@ -14,8 +14,8 @@ pub fn search(alloc: Global, db: &Db, attr: &[u8], value: &[u8]) -> Result<Place
         ≡ spec.tuples_with attr.now value.now db.now) }
 {
     let mut places = Places::new(alloc);
-    for (place, tuple) in db.as_slice().iter().enumerate() {
-        if tuple_has(attr, value, tuple) {
+    for place in 0..db.len() {
+        if db.tuple(place).has(attr, value) {
             places.push(place as u64)?;
         }
     }

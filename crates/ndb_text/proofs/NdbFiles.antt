@@ -5,7 +5,7 @@ use Rattle.std.proofs.lemmas.Bool.Decides.{nat_tests}
 use Rattle.std.proofs.Common.{arith}
 use Rattle.std.specs.List.{list_any}
 use Rattle.std.proofs.lemmas.List.Folds.{list_any-append}
-use Rattle.net_base.specs.declared.ndb.NdbPair.{NdbPair}
+use Rattle.net_base.specs.Ndb.{NdbPair}
 use Rattle.net_base.specs.NdbText.{is_white, is_percent, begins, begins_with, is_empty, lines_of, Word, words_behind, words_of, pair_of, pairs_of, starts, goes_on, going_on, tuples_of}
 use Rattle.net_base.specs.NdbBundle.{is_file_line, is_nameless, has_tuple, cause, causes_of, least, told, first_bad, bad_line}
 use Rattle.ndb_text.specs.NdbSpelling.{ReadsWords, ReadsLine, ReadsTuples, ReadsFile}

@@ -1,7 +1,7 @@
 -- How the lines of a database's text spell their pairs, as a relation of bytes to pairs.
 use Rattle.std.specs.Prelude.{◌≡◌, ◌<◌, ◌⊎◌, ℕ, Bool, true, false, List, [], ◌∷◌, ◌++◌, length, codes}
 use Rattle.std.specs.List.{list_any}
-use Rattle.net_base.specs.declared.ndb.NdbPair.{NdbPair}
+use Rattle.net_base.specs.Ndb.{NdbPair}
 use Rattle.net_base.specs.NdbText.{is_white, is_hash, is_percent, is_equals, is_quote, is_zero, begins}
 use Rattle.net_base.specs.NdbBundle.{File, local_name, chosen}
 

@@ -2,7 +2,7 @@
 use Rattle.std.proofs.Common.{◌≡◌, ℕ, ◌+◌, Bool, true, false, cond, List, [], ◌∷◌, ◌++◌, length, refl, sym, ap, ◌∙◌, Some, arith, append_assoc, length-append, slice_get}
 use Rattle.std.specs.Prelude.{filter, filter_map}
 use Rattle.std.specs.List.{cons_option}
-use Rattle.net_base.specs.declared.ndb.NdbPair.{NdbPair}
+use Rattle.net_base.specs.Ndb.{NdbPair}
 use Rattle.ndb_tuple.specs.Places.{places_of}
 
 get_behind : (before : List (List (List NdbPair))) (tuple : List (List NdbPair)) (db : List (List (List NdbPair))) → slice_get (before ++ tuple ∷ db) (length before) ≡ Some tuple

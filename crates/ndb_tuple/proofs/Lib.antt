@@ -5,3 +5,4 @@ pub mod Firsts
 pub mod Found
 pub mod Lists
 pub mod Pieces
+pub mod Behind

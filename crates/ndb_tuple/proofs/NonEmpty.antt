@@ -1,18 +1,16 @@
 -- Values without empty ones, an element at a time, and the first tuple that has any.
-use Rattle.std.proofs.Common.{◌≡◌, ℕ, ◌+◌, ◌<◌, Bool, true, false, cond, List, [], ◌∷◌, ◌++◌, length, get_or, take, drop, map, refl, sym, ap, ◌∙◌, Option, Some, None, append-nil, arith, unwrap_or}
-use Rattle.std.specs.Prelude.{filter, flat_map, find, codes}
+use Rattle.std.proofs.Common.{◌≡◌, ℕ, ◌+◌, ◌<◌, Bool, true, false, cond, List, [], ◌∷◌, ◌++◌, length, get_or, take, drop, map, refl, sym, ap, ◌∙◌, Some, None, append-nil, arith, unwrap_or}
+use Rattle.std.specs.Prelude.{filter, find, codes}
 use Rattle.std.specs.Option.{option_or}
 use Rattle.std.proofs.lemmas.List.Elements.{filter-append}
 use Rattle.std.proofs.lemmas.List.Folds.{find-append}
 use Rattle.std.proofs.lemmas.List.Concat.{flat_map-append}
 use Rattle.std.proofs.lemmas.List.{map-append}
 use Rattle.std.proofs.lemmas.Bool.Decides.{nat_tests}
-use Rattle.net_base.specs.declared.ndb.NdbPair.{NdbPair}
-use Rattle.net_base.specs.Search.{has_attr, tuple_has, tuples_with, values_on, values_in}
+use Rattle.net_base.specs.Ndb.{NdbPair}
+use Rattle.net_base.specs.Search.{has_attr, tuples_with, values_on, values_in}
 use Rattle.net_base.specs.Networks.{is_filled, longest_first, own_networks, closest}
 use Rattle.ndb_tuple.specs.Closest.{first_filled}
-use Rattle.ndb_tuple.specs.Prefixes.{network_seen}
-use Rattle.ndb_tuple.specs.declared.network.Network.{Network}
 use Rattle.ndb_tuple.proofs.Lists.{Joins, joins_more, at_place}
 use Rattle.ndb_tuple.proofs.Copied.{on_joins}
 

@@ -1,15 +1,15 @@
 -- The numbers of a line, a tuple and a database, an element at a time.
 use Rattle.std.proofs.Common.{◌≡◌, ℕ, ◌+◌, ◌<◌, Bool, true, false, cond, ◌||◌, List, [], ◌∷◌, ◌++◌, length, get_or, take, map, refl, ap, ◌∙◌, Option, Some, None, append-nil, is_some}
-use Rattle.std.specs.Prelude.{option_to_list, filter, filter_map, flat_map, find}
+use Rattle.std.specs.Prelude.{option_to_list, filter, filter_map, find}
 use Rattle.std.specs.List.{list_any, cons_option}
 use Rattle.std.proofs.lemmas.List.Elements.{filter-append, filter_map-append}
 use Rattle.std.proofs.lemmas.List.Concat.{flat_map-append}
 use Rattle.std.proofs.lemmas.List.{map-append}
-use Rattle.net_base.specs.declared.ndb.NdbPair.{NdbPair}
+use Rattle.net_base.specs.Ndb.{NdbPair}
 use Rattle.net_base.specs.Networks.{first_of}
-use Rattle.net_base.specs.Search.{has_attr, line_has, tuple_has, values_on, values_in, or_where_empty, values_on_found, beside}
+use Rattle.net_base.specs.Search.{has_attr, values_on, values_in, or_where_empty}
 use Rattle.ndb_tuple.specs.declared.numbers.Kind.{Kind}
-use Rattle.ndb_tuple.specs.Numbers.{attr_of, read_of, pair_number, numbers_on, numbers_in, numbers_near, numbers_found}
+use Rattle.ndb_tuple.specs.Numbers.{attr_of, read_of, pair_number, numbers_on, numbers_in, numbers_near}
 use Rattle.ndb_tuple.proofs.Lists.{Joins, joins_more, joins_first, empty_from_first}
 
 as_list : {X : Type 0} (o : Option X) → cons_option o [] ≡ option_to_list o

@@ -1,6 +1,6 @@
 -- What is closest to a system, by tuples that are asked in turn.
 use Rattle.std.specs.Prelude.{ℕ, List, map, filter, find, Option}
-use Rattle.net_base.specs.declared.ndb.NdbPair.{NdbPair}
+use Rattle.net_base.specs.Ndb.{NdbPair}
 use Rattle.net_base.specs.Search.{values_in}
 use Rattle.net_base.specs.Networks.{is_filled}
 

@@ -1,6 +1,6 @@
 -- The numbers that the resolver takes out of the database: values of one kind, as they are read.
 use Rattle.std.specs.Prelude.{ℕ, List, filter_map, Option, None, if◌then◌else◌, codes}
-use Rattle.net_base.specs.declared.ndb.NdbPair.{NdbPair}
+use Rattle.net_base.specs.Ndb.{NdbPair}
 use Rattle.net_base.specs.Addresses.{read_address, read_port}
 use Rattle.net_base.specs.Networks as networks
 use Rattle.net_base.specs.Search.{has_attr, values_on, values_in, or_where_empty, beside, all_beside}

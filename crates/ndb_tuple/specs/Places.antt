@@ -1,6 +1,6 @@
 -- Tuples by their places in the database.
 use Rattle.std.specs.Prelude.{ℕ, ◌+◌, Bool, List, [], ◌∷◌, if◌then◌else◌}
-use Rattle.net_base.specs.declared.ndb.NdbPair.{NdbPair}
+use Rattle.net_base.specs.Ndb.{NdbPair}
 use Rattle.net_base.specs.Search.{tuple_has}
 
 -- the places of the tuples that pass a test, where the first tuple has this place

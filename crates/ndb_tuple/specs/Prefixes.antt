@@ -1,5 +1,5 @@
 -- Networks as the searches keep them, and the first bits that they share.
-use Rattle.std.specs.Prelude.{◌≡◌, ℕ, ◌/◌, ◌-◌, ◌^◌, Bool, true, ◌&&◌, ◌==◌, nat_eq, List, filter}
+use Rattle.std.specs.Prelude.{◌≡◌, ℕ, ◌/◌, ◌-◌, ◌^◌, Bool, true, ◌&&◌, ◌==◌, nat_eq, List}
 use Rattle.std.specs.List.{list_any}
 use Rattle.net_base.specs.Networks as networks
 use Rattle.ndb_tuple.specs.declared.network.Network.{Network}
@@ -7,7 +7,7 @@ use Rattle.ndb_tuple.specs.declared.prefixes.Prefix.{Prefix}
 
 -- the network that is kept so
 abbrev pub network_seen : Network → networks.Network
-network_seen network = record { ip = network.ip; bits = network.bits; tuple = network.tuple.now }
+network_seen network = record { ip = network.ip; bits = network.bits; tuple = network.tuple }
 
 -- the first so many bits of an address
 abbrev pub first_bits : ℕ → ℕ → ℕ

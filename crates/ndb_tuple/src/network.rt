@@ -5,17 +5,29 @@ ghost use Rattle.net_base.specs.Networks as spec;
 ghost use Rattle.ndb_tuple.specs.Prefixes.{network_seen, first_bits};
 
 use crate::numbers::{Kind, first_in};
-use crate::pairs::tuple_names;
 use indexmap::IndexSet;
 use net_base::Tuple;
 use std::alloc::{AllocError, Global};
 
 /// A network: an address, how many of its first bits the network shares, and the tuple that says so.
-#[derive(Clone, Copy)]
+#[derive(Drop)]
 pub struct Network<'a> {
     pub ip: u32,
     pub bits: u32,
-    pub tuple: &'a Tuple,
+    pub tuple: Tuple<'a>,
+}
+
+impl<'a> Network<'a> {
+    /// The same network, lent once more.
+    pub fn again(&self) -> Network<'a>
+        ensures { network_seen result ≡ network_seen self.now }
+    {
+        Network {
+            ip: self.ip,
+            bits: self.bits,
+            tuple: self.tuple.again(),
+        }
+    }
 }
 
 /// The first so many bits of an address.
@@ -38,15 +50,19 @@ pub fn class_bits(ip: u32) -> u32
 }
 
 /// The network of a tuple with `ipnet` and an address as `ip`.
-pub fn network_of(tuple: &Tuple) -> Option<Network<'_>>
+pub fn network_of<'a>(tuple: &Tuple<'a>) -> Option<Network<'a>>
     ensures { option_map network_seen result ≡ spec.network_of tuple.now }
 {
-    if !tuple_names(b"ipnet", tuple) {
+    if !tuple.names(b"ipnet") {
         return None;
     }
     let ip = first_in(Kind::Address, tuple)?;
     let bits = first_in(Kind::Mask, tuple).unwrap_or(class_bits(ip));
-    Some(Network { ip, bits, tuple })
+    Some(Network {
+        ip,
+        bits,
+        tuple: tuple.again(),
+    })
 }
 
 /// The first so many bits of these addresses, each once.

@@ -3,7 +3,6 @@ ghost use Rattle.std.specs.Prelude.{◌≡◌, ◌++◌, OnOk};
 ghost use Rattle.net_base.specs.Networks.{first_of};
 ghost use Rattle.ndb_tuple.specs.Numbers as spec;
 
-use crate::pairs::{has_attr, line_names};
 use net_base::{Line, NdbPair, Tuple};
 use std::alloc::{AllocError, Global};
 use words::{read_address, read_mask, read_port};
@@ -48,23 +47,22 @@ impl Kind {
 
 /// The number of a kind that a pair holds.
 #[tactic(auto, unfolding(crate::specs::Numbers::pair_number))]
-fn number_of(kind: Kind, pair: &NdbPair) -> Option<u32>
+fn number_of(kind: Kind, pair: &NdbPair<'_>) -> Option<u32>
     ensures { result ≡ spec.pair_number kind pair.now }
 {
-    if has_attr(kind.attr(), pair) {
-        kind.read(pair.value.as_slice())
+    if pair.has_attr(kind.attr()) {
+        kind.read(pair.value())
     } else {
         None
     }
 }
 
 /// The first number of a kind on a line.
-#[tactic(auto, using(crate::proofs::Pieces::on_less, crate::proofs::Pieces::on_first))]
-pub fn first_on(kind: Kind, line: &Line) -> Option<u32>
+pub fn first_on(kind: Kind, line: &Line<'_>) -> Option<u32>
     ensures { result ≡ first_of (spec.numbers_on kind line.now) }
 {
-    for pair in line.as_slice() {
-        if let Some(number) = number_of(kind, pair) {
+    for place in 0..line.len() {
+        if let Some(number) = number_of(kind, &line.pair(place)) {
             return Some(number);
         }
     }
@@ -72,12 +70,11 @@ pub fn first_on(kind: Kind, line: &Line) -> Option<u32>
 }
 
 /// The first number of a kind in a tuple.
-#[tactic(auto, using(crate::proofs::Pieces::in_none, crate::proofs::Pieces::in_first))]
-pub fn first_in(kind: Kind, tuple: &Tuple) -> Option<u32>
+pub fn first_in(kind: Kind, tuple: &Tuple<'_>) -> Option<u32>
     ensures { result ≡ first_of (spec.numbers_in kind tuple.now) }
 {
-    for line in tuple.as_slice() {
-        if let Some(number) = first_on(kind, line) {
+    for place in 0..tuple.len() {
+        if let Some(number) = first_on(kind, &tuple.line(place)) {
             return Some(number);
         }
     }
@@ -85,25 +82,24 @@ pub fn first_in(kind: Kind, tuple: &Tuple) -> Option<u32>
 }
 
 /// Adds the numbers of a kind on a line.
-#[tactic(auto, using(crate::proofs::Pieces::on_more, crate::proofs::Pieces::on_less, std::proofs::Common::append_assoc))]
-pub fn add_on(kind: Kind, line: &Line, numbers: &mut Vec<u32>) -> Result<(), AllocError>
+pub fn add_on(kind: Kind, line: &Line<'_>, numbers: &mut Vec<u32>) -> Result<(), AllocError>
     ensures { OnOk result (numbers.new.items ≡ numbers.old.items ++ spec.numbers_on kind line.now) }
 {
-    for pair in line.as_slice() {
-        if let Some(number) = number_of(kind, pair) {
-            numbers.push(number)?;
-        }
+    for place in 0..line.len() {
+        let Some(number) = number_of(kind, &line.pair(place)) else {
+            continue;
+        };
+        numbers.push(number)?;
     }
     Ok(())
 }
 
 /// Adds the numbers of a kind in a tuple.
-#[tactic(auto, using(crate::proofs::Pieces::in_more, std::proofs::Common::append_assoc))]
-pub fn add_in(kind: Kind, tuple: &Tuple, numbers: &mut Vec<u32>) -> Result<(), AllocError>
+pub fn add_in(kind: Kind, tuple: &Tuple<'_>, numbers: &mut Vec<u32>) -> Result<(), AllocError>
     ensures { OnOk result (numbers.new.items ≡ numbers.old.items ++ spec.numbers_in kind tuple.now) }
 {
-    for line in tuple.as_slice() {
-        add_on(kind, line, numbers)?;
+    for place in 0..tuple.len() {
+        add_on(kind, &tuple.line(place), numbers)?;
     }
     Ok(())
 }
@@ -112,14 +108,14 @@ pub fn add_in(kind: Kind, tuple: &Tuple, numbers: &mut Vec<u32>) -> Result<(), A
 #[tactic(auto, using(crate::proofs::Pieces::near_on, crate::proofs::Pieces::near_in))]
 pub fn add_beside(
     kind: Kind,
-    line: &Line,
-    tuple: &Tuple,
+    line: &Line<'_>,
+    tuple: &Tuple<'_>,
     numbers: &mut Vec<u32>,
 ) -> Result<(), AllocError>
     ensures { OnOk result (numbers.new.items
         ≡ numbers.old.items ++ spec.numbers_near kind line.now tuple.now) }
 {
-    if line_names(kind.attr(), line) {
+    if line.names(kind.attr()) {
         add_on(kind, line, numbers)
     } else {
         add_in(kind, tuple, numbers)

@@ -1,2 +1,10 @@
+pub mod Cuts
+pub mod Marks
+pub mod Growth
+pub mod Found
+pub mod Flat
+pub mod Among
+pub mod Spots
 pub mod Laid
 pub mod Texts
+pub mod Alike

@@ -1,7 +1,7 @@
 -- The answer of a server whose zone is the database (RFC 1035, sections 3.2 to 3.4 and 4.1): header, question and records.
 use Rattle.std.specs.Prelude.{ℕ, ◌+◌, ◌-◌, ◌*◌, ◌/◌, ◌%◌, ◌==◌, Bool, true, not, ◌&&◌, ◌||◌, nat_lt, nat_le, List, [], ◌∷◌, ◌++◌, length, map, filter_map, flat_map, take, drop, Option, Some, None, is_none, option_map, option_and_then, if◌then◌else◌, bytes_eq, codes}
 use Rattle.std.specs.Int.{bytes_high_first}
-use Rattle.net_base.specs.declared.ndb.NdbPair.{NdbPair}
+use Rattle.net_base.specs.Ndb.{NdbPair}
 use Rattle.net_base.specs.Addresses.{parts_at, read_address}
 use Rattle.net_base.specs.Cs.{once_each}
 use Rattle.net_base.specs.NdbBundle.{each_once}

@@ -1,3 +1,7 @@
+pub mod Ndb
+pub mod Parts
+pub mod Store
+pub mod Spots
 pub mod Mirror
 pub mod Number
 pub mod Numeral

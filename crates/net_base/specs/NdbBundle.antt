@@ -1,7 +1,7 @@
 -- Bundles of files in one text of a database, their bad lines, and the choice of files.
 use Rattle.std.specs.Prelude.{ℕ, ◌+◌, Bool, not, ◌&&◌, List, [], ◌∷◌, ◌++◌, length, drop, bytes_eq, codes, Option, Some, None, is_none, if◌then◌else◌}
 use Rattle.std.specs.List.{list_any, filter, flat_map, find, before_first, after_last}
-use Rattle.net_base.specs.declared.ndb.NdbPair.{NdbPair}
+use Rattle.net_base.specs.Ndb.{NdbPair}
 use Rattle.net_base.specs.Networks.{tuple_names}
 use Rattle.net_base.specs.Search.{values_in}
 use Rattle.net_base.specs.NdbText.{is_white, is_percent, is_zero, begins, begins_with, is_empty, lines_of, Word, words_of, starts, goes_on, tuples_of}

@@ -1,7 +1,7 @@
 -- The text of a database, ndb(6): lines of words, which make tuples of lines of pairs.
 use Rattle.std.specs.Prelude.{ℕ, zero, suc, ◌+◌, ◌-◌, ◌==◌, Bool, true, false, not, ◌&&◌, ◌||◌, List, [], ◌∷◌, map, length, take, drop, bytes_eq, if◌then◌else◌}
 use Rattle.std.specs.List.{list_any, filter, slice_split, before_first, after_first, take_while}
-use Rattle.net_base.specs.declared.ndb.NdbPair.{NdbPair}
+use Rattle.net_base.specs.Ndb.{NdbPair}
 
 -- Bytes.
 

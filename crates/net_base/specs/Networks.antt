@@ -1,7 +1,7 @@
 -- The networks that the database describes, those of one system, and the values that are closest to it.
 use Rattle.std.specs.Prelude.{ℕ, ◌-◌, ◌/◌, ◌^◌, Bool, ◌==◌, nat_lt, List, [], ◌++◌, length, map, filter, filter_map, flat_map, find, slice_get, Option, None, unwrap_or, option_map, option_and_then, if◌then◌else◌, codes}
 use Rattle.std.specs.List.{list_any, range_with_len}
-use Rattle.net_base.specs.declared.ndb.NdbPair.{NdbPair}
+use Rattle.net_base.specs.Ndb.{NdbPair}
 use Rattle.net_base.specs.Search.{has_attr, tuples_with, values_in}
 use Rattle.net_base.specs.Addresses.{read_address}
 

@@ -1,7 +1,7 @@
 -- Searches of the database by an attribute with its value, ndb(2).
 use Rattle.std.specs.Prelude.{ℕ, Bool, ◌&&◌, bytes_eq, List, [], ◌∷◌, map, filter, flat_map, find, Option, Some, None}
 use Rattle.std.specs.List.{list_any}
-use Rattle.net_base.specs.declared.ndb.NdbPair.{NdbPair}
+use Rattle.net_base.specs.Ndb.{NdbPair}
 
 -- the pair has this attribute, byte for byte
 abbrev pub has_attr : List ℕ → NdbPair → Bool

@@ -1,6 +1,6 @@
 -- The databases of a world: from when each is in force, and which one is at a moment.
 use Rattle.std.specs.Prelude.{ℕ, ◌+◌, ◌<◌, ◌≤◌, ◌≡◌, ◌==◌, ◌&&◌, Bool, true, false, List, [], ◌∷◌, map, get_or, slice_get, Some, nat_le, nat_lt, if◌then◌else◌}
-use Rattle.net_base.specs.declared.ndb.NdbPair.{NdbPair}
+use Rattle.net_base.specs.Ndb.{NdbPair}
 use Rattle.net_base.specs.declared.world.Version.{Version}
 
 -- the tuples of a database

@@ -30,7 +30,7 @@ pub use history::{Entry, History, Outcome, Taken, With, Work};
 pub use il::{Cause, IlKind, IlMsg, IlState, StateName};
 pub use left::{Left, Remote, Remotes};
 pub use names::{Ctl, FileName, Mode, Node};
-pub use ndb::{Db, Line, NdbPair, Tuple};
+pub use ndb::{Db, Growing, Line, NdbPair, Spot, Tuple};
 pub use ninep::{Qid, Qids, Rmsg, Target, Tmsg};
 pub use noted::{Noted, Number};
 pub use numbers::number;

@@ -1,19 +1,15 @@
-//! The network database: tuples of lines of pairs, ndb(6).
-use crate::octets::Octets;
-use crate::sequence::Sequence;
+//! The network database, ndb(6), in one piece: one run of bytes, and three runs of places in it.
+mod db;
+mod growing;
+mod line;
+mod pair;
+mod runs;
+mod spot;
+mod tuple;
 
-/// An attribute with its value, perhaps empty.
-#[derive(Clone, Debug, PartialEq, Eq, Drop)]
-pub struct NdbPair {
-    pub attr: Octets,
-    pub value: Octets,
-}
-
-/// A line of a tuple, which contracts see as the list of its pairs.
-pub type Line = Sequence<NdbPair>;
-
-/// A tuple, which contracts see as the list of its lines.
-pub type Tuple = Sequence<Line>;
-
-/// A database, which contracts see as the list of its tuples.
-pub type Db = Sequence<Tuple>;
+pub use db::Db;
+pub use growing::Growing;
+pub use line::Line;
+pub use pair::NdbPair;
+pub use spot::Spot;
+pub use tuple::Tuple;

@@ -11,6 +11,17 @@ use std::marker::Model;
 /// Texts in order, which contracts see as a list of lists of bytes.
 pub type Lines = Sequence<Octets>;
 
+impl Sequence<Octets> {
+    /// Adds a copy of these bytes at the end.
+    pub fn add(&mut self, bytes: &[u8]) -> Result<(), AllocError>
+        ensures ok { OnOk result (self.new ≡ self.old ++ bytes.now ∷ []) }
+        ensures err { OnErr result (self.new ≡ self.old) }
+    {
+        let text = Octets::from_slice(self.allocator(), bytes)?;
+        self.push(text)
+    }
+}
+
 /// Bytes, which contracts see as a list.
 #[derive(Debug, Drop)]
 pub struct Octets {

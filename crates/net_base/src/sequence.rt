@@ -50,6 +50,11 @@ impl<T> Sequence<T> {
         self.items.as_slice()
     }
 
+    /// Where its memory comes from.
+    pub fn allocator(&self) -> Global {
+        *self.items.allocator()
+    }
+
     /// How many values there are.
     pub fn len(&self) -> usize
         ensures { result ≡ length self.now }

@@ -5,7 +5,7 @@ use Rattle.std.specs.List.{list_any, before_first}
 use Rattle.std.proofs.Math.Seq.{take-append_seam}
 use Rattle.std.proofs.lemmas.Bool.Decides.{nat_tests}
 use Rattle.std.proofs.lemmas.List.{take_all}
-use Rattle.net_base.specs.declared.ndb.NdbPair.{NdbPair}
+use Rattle.net_base.specs.Ndb.{NdbPair}
 use Rattle.net_base.specs.NdbText.{is_percent, begins, begins_with, is_empty, lines_of, pairs_of, starts, goes_on, tuples_of}
 use Rattle.net_base.specs.NdbBundle.{File, file_of, is_file_line, named_files, has_tuple, cause, causes_of, least, told, first_bad, bad_line, chosen, reading, database}
 use Rattle.ndb_text.specs.NdbSpelling.{ReadsLine, ReadsTuples, ReadsFiles, ReadsBundle, IsFileName}

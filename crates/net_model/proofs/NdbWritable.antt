@@ -4,7 +4,7 @@ use Rattle.std.specs.Prelude.{codes}
 use Rattle.std.specs.List.{list_any, filter, flat_map, slice_split, onto_first}
 use Rattle.std.proofs.lemmas.List.Folds.{list_any-append}
 use Rattle.std.proofs.lemmas.List.Splits.{slice_split-cons_no, slice_split-cons_yes}
-use Rattle.net_base.specs.declared.ndb.NdbPair.{NdbPair}
+use Rattle.net_base.specs.Ndb.{NdbPair}
 use Rattle.net_base.specs.NdbText.{is_white, is_newline, is_percent, is_quote, is_zero, begins, lines_of}
 use Rattle.net_base.specs.NdbBundle.{File, tuples_named, tuples_chosen, names_of, choosing}
 use Rattle.ndb_text.specs.NdbSpelling.{None_of, IsAttr, Way, alone, plain, quoted, spelled, Suits, IsWord, IsWhite, ReadsWords, ReadsLine, ReadsTuples, ReadsFiles, ReadsBundle}

@@ -3,7 +3,7 @@ use Rattle.std.proofs.Common.{◌≡◌, ℕ, ◌⊎◌, inl, inr, Bool, true, f
 use Rattle.std.specs.List.{list_any, onto_first}
 use Rattle.std.proofs.lemmas.List.Folds.{list_any-append}
 use Rattle.std.proofs.lemmas.List.Splits.{slice_split-cons_no}
-use Rattle.net_base.specs.declared.ndb.NdbPair.{NdbPair}
+use Rattle.net_base.specs.Ndb.{NdbPair}
 use Rattle.net_base.specs.NdbText.{is_white, is_newline, is_percent, is_quote, is_zero, begins, lines_of}
 use Rattle.ndb_text.specs.NdbSpelling.{None_of, IsAttr, plain, quoted, EndsWord, IsWord, ReadsWords, ReadsLine, ReadsTuples}
 use Rattle.ndb_text.proofs.NdbPlain.{or_false, or_false_first, or_false_rest}

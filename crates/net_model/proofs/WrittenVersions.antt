@@ -4,7 +4,7 @@ use Rattle.std.specs.Prelude.{⊤, codes, decimal, flat_map, is_none, nat_le, na
 use Rattle.std.specs.List.{All, before_first, onto_first}
 use Rattle.std.proofs.lemmas.Bool.{and_parts, eqb-true, false≢true, leb-true}
 use Rattle.std.proofs.lemmas.Option.{none-some, same_Some}
-use Rattle.net_base.specs.declared.ndb.NdbPair.{NdbPair}
+use Rattle.net_base.specs.Ndb.{NdbPair}
 use Rattle.net_base.specs.declared.world.Version.{Version}
 use Rattle.net_base.specs.NdbBundle.{File, bad_line, causes_of, chosen, database, file_name, file_of, first_bad, has_tuple, is_file_line, least, local_file, named_files, reading, told}
 use Rattle.net_base.specs.NdbText.{going_on, goes_on, is_newline, lines_of, pairs_of, starts, tuples_of}

@@ -1,6 +1,6 @@
 -- Tuples of worked texts.
 use Rattle.std.specs.Prelude.{ℕ, List, [], ◌∷◌}
-use Rattle.net_base.specs.declared.ndb.NdbPair.{NdbPair}
+use Rattle.net_base.specs.Ndb.{NdbPair}
 
 -- an attribute with its value
 abbrev pub pair : List ℕ → List ℕ → NdbPair

@@ -1,7 +1,7 @@
 -- Databases that stand in one file as a whole.
 use Rattle.std.specs.Prelude.{ℕ, Bool, true, ◌||◌, List, [], ◌∷◌, bytes_eq, codes, Option, Some, None}
 use Rattle.std.specs.List.{list_any}
-use Rattle.net_base.specs.declared.ndb.NdbPair.{NdbPair}
+use Rattle.net_base.specs.Ndb.{NdbPair}
 use Rattle.net_base.specs.NdbText.{is_empty}
 use Rattle.net_base.specs.NdbBundle.{local_name, choosing}
 use Rattle.net_base.specs.Search.{values_in}

@@ -5,7 +5,7 @@ ghost use Rattle.net_model.specs.CsExample.{anna_gets};
 ghost use Rattle.net_model.specs.CsOrder.{OnFirst};
 ghost use Rattle.net_base.specs.Networks.{own_networks};
 ghost use Rattle.net_base.specs.declared.address.Proto.{Proto};
-ghost use Rattle.net_base.specs.declared.ndb.NdbPair.{NdbPair};
+ghost use Rattle.net_base.specs.Ndb.{NdbPair};
 
 /// No line of an answer stands twice, whatever the database says twice.
 pub fn no_line_stands_twice()

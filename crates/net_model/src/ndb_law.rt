@@ -1,7 +1,7 @@
 //! Laws of the text of a database.
 ghost use Rattle.std.specs.Prelude.{◌≡◌, ◌≢◌, ◌∷◌, ℕ, List, Bool, false, true, [], Option, None, Some, codes};
 ghost use Rattle.std.specs.List.{list_any};
-ghost use Rattle.net_base.specs.declared.ndb.NdbPair.{NdbPair};
+ghost use Rattle.net_base.specs.Ndb.{NdbPair};
 ghost use Rattle.net_base.specs.NdbText.{is_quote, words_of, plain_words_of, pairs_of, lines_of, tuples_of};
 ghost use Rattle.net_base.specs.NdbBundle.{local_file, is_file_line, causes_of, bad_line, reading};
 ghost use Rattle.net_model.specs.NdbFirst.{IsFirstBad};

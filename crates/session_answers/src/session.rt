@@ -18,7 +18,7 @@ use crate::replied::replied_bytes;
 use crate::replies::Replies;
 use crate::said::said_bytes;
 use ndb_versions::IndexedVersions;
-use net_base::{Event, Mode, Octets, Reply, Sequence, Step, Version};
+use net_base::{Db, Event, Mode, Octets, Reply, Step, Version};
 use ninep_wire::Tmsg;
 use script_task::{Effect, Names, Request, effects_settle, is_accepted, plan};
 use session_script::{Table, step_of};
@@ -181,7 +181,7 @@ fn no_names(alloc: Global) -> Result<Names, AllocError>
 {
     let empty = Version {
         moment: 0,
-        db: Sequence::new(alloc),
+        db: Db::new(alloc),
     };
     let dbs = IndexedVersions::new(alloc, &[empty])?;
     Ok(Names::new(alloc, Arc::new(alloc, dbs)?))

@@ -7,7 +7,7 @@ use Rattle.net_base.specs.declared.address.Proto.TheVariants as proto
 use Rattle.net_base.specs.declared.event.Event.{Event}
 use Rattle.net_base.specs.declared.history.Entry.{Entry}
 use Rattle.net_base.specs.declared.il.IlKind.{IlKind}
-use Rattle.net_base.specs.declared.ndb.NdbPair.{NdbPair}
+use Rattle.net_base.specs.Ndb.{NdbPair}
 use Rattle.net_base.specs.declared.packet.BodyHeader.TheVariants as shown
 use Rattle.net_base.specs.declared.packet.Header.{Header}
 use Rattle.net_base.specs.declared.reply.Reply.{Reply}

@@ -6,7 +6,7 @@ use Rattle.std.proofs.lemmas.Option.{none-some, same_Some}
 use Rattle.std.proofs.lemmas.List.Splits.{length-slice_split}
 use Rattle.std.proofs.lemmas.List.Sums.{count_by-le-length}
 use Rattle.net_base.specs.NdbText.{is_newline, lines_of}
-use Rattle.net_base.specs.declared.ndb.NdbPair.{NdbPair}
+use Rattle.net_base.specs.Ndb.{NdbPair}
 use Rattle.net_base.specs.NdbBundle.{first_bad, told, least, has_tuple, causes_of, bad_line, database, reading}
 use Rattle.world_text.specs.WorldLines.{Draft, Verdict, line_verdict}
 use Rattle.world_text.specs.WorldText.{Cut, with_first, cuts_of, judged, reading_from}

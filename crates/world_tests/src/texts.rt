@@ -20,30 +20,31 @@ il=9fs port=17008\n\
 udp=echo port=7\n";
 
 /// Adds the pairs of a line with `;` behind each.
-fn put_line(line: &Line, out: &mut Vec<u8>) -> Result<(), AllocError> {
-    for pair in line.as_slice() {
-        out.extend_from_slice(pair.attr.as_slice())?;
+fn put_line(line: &Line<'_>, out: &mut Vec<u8>) -> Result<(), AllocError> {
+    for number in 0..line.len() {
+        let pair = line.pair(number);
+        out.extend_from_slice(pair.attr())?;
         out.push(b'=')?;
-        out.extend_from_slice(pair.value.as_slice())?;
+        out.extend_from_slice(pair.value())?;
         out.push(b';')?;
     }
     Ok(())
 }
 
 /// Adds the lines of a tuple in brackets.
-fn put_tuple(tuple: &Tuple, out: &mut Vec<u8>) -> Result<(), AllocError> {
-    for line in tuple.as_slice() {
+fn put_tuple(tuple: &Tuple<'_>, out: &mut Vec<u8>) -> Result<(), AllocError> {
+    for number in 0..tuple.len() {
         out.push(b'[')?;
-        put_line(line, out)?;
+        put_line(&tuple.line(number), out)?;
         out.push(b']')?;
     }
     Ok(())
 }
 
 fn put_tuples(db: &Db, out: &mut Vec<u8>) -> Result<(), AllocError> {
-    for tuple in db.as_slice() {
+    for place in 0..db.len() {
         out.push(b'<')?;
-        put_tuple(tuple, out)?;
+        put_tuple(&db.tuple(place), out)?;
         out.push(b'>')?;
     }
     Ok(())

@@ -1,8 +1,8 @@
 //! The file of a world with each kind of line.
 use net_base::{
-    Db, Fate, FateRange, Fates, HostSpec, Hosts, Iface, Ifaces, Line, Media, MediumSpec, Mode,
-    NdbPair, Nets, Octets, Proto, RouteLine, RouteLines, Script, Scripts, Starts, Step, StepList,
-    Timers, Tuple, Version, Versions, World,
+    Db, Fate, FateRange, Fates, Growing, HostSpec, Hosts, Iface, Ifaces, Media, MediumSpec, Mode,
+    Nets, Octets, Proto, RouteLine, RouteLines, Script, Scripts, Starts, Step, StepList, Timers,
+    Version, Versions, World,
 };
 use std::alloc::{AllocError, Global};
 use world_writer::write_world;
@@ -220,19 +220,13 @@ fn script(alloc: Global) -> Result<Script, AllocError> {
     Ok(Script { host: 0, steps })
 }
 
-fn put_line(alloc: Global, tuple: &mut Tuple) -> Result<(), AllocError> {
-    let attr = text(alloc, b"sys")?;
-    let value = text(alloc, b"a gate")?;
-    let mut line = Line::new(alloc);
-    line.push(NdbPair { attr, value })?;
-    tuple.push(line)
-}
-
-/// Adds a tuple of one pair.
-fn put_tuple(alloc: Global, db: &mut Db) -> Result<(), AllocError> {
-    let mut tuple = Tuple::new(alloc);
-    put_line(alloc, &mut tuple)?;
-    db.push(tuple)
+/// A database of one tuple of one pair.
+fn one_pair(alloc: Global) -> Result<Db, AllocError> {
+    let mut db = Growing::new(alloc);
+    db.push(b"sys", b"a gate")?;
+    db.end_line()?;
+    db.end_tuple()?;
+    Ok(db.finish())
 }
 
 fn put_media(alloc: Global, media: &mut Media) -> Result<(), AllocError> {
@@ -244,9 +238,10 @@ fn put_parts(alloc: Global, world: &mut World) -> Result<(), AllocError> {
     put_media(alloc, &mut world.media)?;
     world.hosts.push(gate(alloc)?)?;
     world.scripts.push(script(alloc)?)?;
-    let mut db = Db::new(alloc);
-    put_tuple(alloc, &mut db)?;
-    world.dbs.push(Version { moment: 0, db })?;
+    world.dbs.push(Version {
+        moment: 0,
+        db: one_pair(alloc)?,
+    })?;
     world.dbs.push(Version {
         moment: 20,
         db: Db::new(alloc),

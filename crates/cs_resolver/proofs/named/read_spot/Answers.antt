@@ -11,25 +11,25 @@ use Rattle.cs_resolver.proofs.named.read_spot.Goals as goal
 pub at-tuple-requires : goal.at-tuple-requires
 at-tuple-requires g c = c.requires.spot.0
 
-pub line_at-line-requires : goal.line_at-line-requires
-line_at-line-requires g c = omega (arith, c.requires.spot.1, ap (λ (lines : Lines). length lines) c.at-tuple.ensures.tuple)
+pub line-line-requires : goal.line-line-requires
+line-line-requires g c = omega (arith, c.requires.spot.1, ap (λ (lines : Lines). length lines) c.at-tuple.ensures.tuple)
 
-pub returns-then-line_names-clause-ips : goal.returns-then-line_names-clause-ips
-returns-then-line_names-clause-ips g c =
-    gather_line c.args.index.now c.args.spot c.at-tuple.result.now c.line_at-line.result.now c.args.ips.now.items c.add_on.new.numbers.items c.at-tuple.ensures.tuple c.line_at-line.ensures
-    (ap (λ (attr : List ℕ). list_any (has_attr attr) c.line_at-line.result.now) (sym c.attr.ensures) ∙ sym c.line_names.ensures ∙ c.if-line_names.true) c.in_ok-add_on.ensures
+pub returns-then-names-clause-ips : goal.returns-then-names-clause-ips
+returns-then-names-clause-ips g c =
+    gather_line c.args.index.now c.args.spot c.at-tuple.result c.line-line.result c.args.ips.now.items c.add_on.new.numbers.items c.at-tuple.ensures.tuple c.line-line.ensures
+    (ap (λ (attr : List ℕ). list_any (has_attr attr) c.line-line.result) (sym c.attr.ensures) ∙ sym c.names.ensures ∙ c.if-names.true) c.in_ok-add_on.ensures
 
-pub returns-then-line_names-clause-read : goal.returns-then-line_names-clause-read
-returns-then-line_names-clause-read g c =
+pub returns-then-names-clause-read : goal.returns-then-names-clause-read
+returns-then-names-clause-read g c =
     tuples_stay c.args.index.now c.args.tuples.now.keys (numbers_at c.args.index.now Address c.args.spot) c.args.ips.now.items c.add_on.new.numbers.items
-    (gather_line c.args.index.now c.args.spot c.at-tuple.result.now c.line_at-line.result.now c.args.ips.now.items c.add_on.new.numbers.items c.at-tuple.ensures.tuple c.line_at-line.ensures
-    (ap (λ (attr : List ℕ). list_any (has_attr attr) c.line_at-line.result.now) (sym c.attr.ensures) ∙ sym c.line_names.ensures ∙ c.if-line_names.true) c.in_ok-add_on.ensures)
+    (gather_line c.args.index.now c.args.spot c.at-tuple.result c.line-line.result c.args.ips.now.items c.add_on.new.numbers.items c.at-tuple.ensures.tuple c.line-line.ensures
+    (ap (λ (attr : List ℕ). list_any (has_attr attr) c.line-line.result) (sym c.attr.ensures) ∙ sym c.names.ensures ∙ c.if-names.true) c.in_ok-add_on.ensures)
     c.requires.read
 
 pub returns-then-not-branch-clause-ips : goal.returns-then-not-branch-clause-ips
 returns-then-not-branch-clause-ips g c =
-    gather_again c.args.index.now c.args.spot c.at-tuple.result.now c.line_at-line.result.now c.args.ips.now.items c.at-tuple.ensures.tuple c.line_at-line.ensures
-    (ap (λ (attr : List ℕ). list_any (has_attr attr) c.line_at-line.result.now) (sym c.attr.ensures) ∙ sym c.line_names.ensures ∙ c.if-line_names.false)
+    gather_again c.args.index.now c.args.spot c.at-tuple.result c.line-line.result c.args.ips.now.items c.at-tuple.ensures.tuple c.line-line.ensures
+    (ap (λ (attr : List ℕ). list_any (has_attr attr) c.line-line.result) (sym c.attr.ensures) ∙ sym c.names.ensures ∙ c.if-names.false)
     (c.requires.read c.args.spot.place (was_there _ _ c.in_ok-insert.ensures.added c.if-not-branch.true))
 
 pub returns-then-not-branch-clause-read : goal.returns-then-not-branch-clause-read
@@ -39,8 +39,8 @@ returns-then-not-branch-clause-read g c =
 
 pub returns-clause-ips : goal.returns-clause-ips
 returns-clause-ips g c =
-    gather_tuple c.args.index.now c.args.spot c.at-tuple.result.now c.line_at-line.result.now c.args.ips.now.items c.add_in.new.numbers.items c.at-tuple.ensures.tuple c.line_at-line.ensures
-    (ap (λ (attr : List ℕ). list_any (has_attr attr) c.line_at-line.result.now) (sym c.attr.ensures) ∙ sym c.line_names.ensures ∙ c.if-line_names.false) c.in_ok-add_in.ensures
+    gather_tuple c.args.index.now c.args.spot c.at-tuple.result c.line-line.result c.args.ips.now.items c.add_in.new.numbers.items c.at-tuple.ensures.tuple c.line-line.ensures
+    (ap (λ (attr : List ℕ). list_any (has_attr attr) c.line-line.result) (sym c.attr.ensures) ∙ sym c.names.ensures ∙ c.if-names.false) c.in_ok-add_in.ensures
 
 pub returns-clause-read : goal.returns-clause-read
 returns-clause-read g c =

@@ -1,7 +1,7 @@
 use Rattle.std.proofs.Common.{List, ◌++◌, sym, ap, ◌∙◌, arith, append-nil}
 use Rattle.std.specs.Prelude.{flat_map}
 use Rattle.std.proofs.lemmas.List.{take_all}
-use Rattle.ndb_index.specs.declared.spot.Spot.{Spot}
+use Rattle.net_base.specs.declared.ndb.spot.Spot.{Spot}
 use Rattle.cs_resolver.specs.Probes.{numbers_at}
 use Rattle.cs_resolver.proofs.AtSpots.{spot_more}
 use Rattle.cs_resolver.proofs.numbers.add_all.Goals as goal

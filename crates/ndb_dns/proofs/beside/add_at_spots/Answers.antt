@@ -2,7 +2,7 @@ use Rattle.std.proofs.Common.{List, ℕ, ◌++◌, sym, ap, ◌∙◌, arith, ap
 use Rattle.std.specs.Prelude.{flat_map}
 use Rattle.std.proofs.lemmas.List.{take_all}
 use Rattle.net_base.specs.Search.{beside}
-use Rattle.ndb_index.specs.declared.spot.Spot.{Spot}
+use Rattle.net_base.specs.declared.ndb.spot.Spot.{Spot}
 use Rattle.ndb_index.specs.Near.{spot_tuples}
 use Rattle.ndb_dns.proofs.Parts.{values_more}
 use Rattle.ndb_dns.proofs.beside.add_at_spots.Goals as goal
@@ -15,7 +15,7 @@ at-tuple-requires g c = c.requires c.loop-spot.spot-index _ (omega arith)
 
 pub loop-spot-preserved : goal.loop-spot-preserved
 loop-spot-preserved g c = record {
-  values = values_more c.args.attr.now c.args.value.now c.args.other.now c.args.index.now c.args.spots.now c.loop-spot.spot-index _ c.at-tuple.result.now c.args.values.now c.loop-spot.values _ (omega arith) c.at-tuple.ensures.tuple c.loop-spot.invariant.values c.in_ok-add_beside.ensures;
+  values = values_more c.args.attr.now c.args.value.now c.args.other.now c.args.index.now c.args.spots.now c.loop-spot.spot-index _ c.at-tuple.result c.args.values.now c.loop-spot.values _ (omega arith) c.at-tuple.ensures.tuple c.loop-spot.invariant.values c.in_ok-add_beside.ensures;
   cost = omega (arith, c.loop-spot.invariant.cost, c.at-tuple.ensures.cost);
 }
 

@@ -1,4 +1,4 @@
-use Rattle.ndb_reader.proofs.Groups.{name_put}
+use Rattle.ndb_reader.proofs.Chosen.{name_put}
 use Rattle.ndb_reader.proofs.choice.add_name.Goals as goal
 
 pub returns : goal.returns

@@ -1,9 +1,6 @@
-use Rattle.std.proofs.Common.{◌≡◌, ◌++◌, take, drop, map}
-use Rattle.std.specs.Prelude.{codes}
-use Rattle.net_base.specs.Search.{values_in}
-use Rattle.net_base.specs.NdbBundle.{each_once}
-use Rattle.ndb_reader.specs.Names.{with_names, names_seen}
+use Rattle.ndb_reader.specs.Names.{names_seen}
+use Rattle.ndb_reader.proofs.Chosen.{InTuple}
 use Rattle.ndb_reader.proofs.choice.names_in.Given as goal
 
-abbrev pub invariant-loop-line : goal.invariant-loop-line
-invariant-loop-line l = each_once (values_in (codes "file") l.tuple) ≡ with_names (names_seen l.names.keys) (values_in (codes "file") (drop l.line-index l.line-items))
+abbrev pub invariant-loop-number : goal.invariant-loop-number
+invariant-loop-number l = InTuple l.tuple l.number (names_seen l.names.keys)

@@ -1,5 +1,4 @@
 use Rattle.std.proofs.Common.{refl, sym, ap, ◌∙◌, not}
-use Rattle.net_base.specs.NdbText.{is_empty}
 use Rattle.ndb_reader.proofs.Rests.{quoted-open, quoted-closed}
 use Rattle.ndb_reader.proofs.words.quoted_at.Goals as goal
 

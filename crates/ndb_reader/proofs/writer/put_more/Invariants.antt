@@ -1,6 +1,6 @@
-use Rattle.std.proofs.Common.{◌≡◌, ◌++◌, take, drop, map}
+use Rattle.std.proofs.Common.{◌≡◌, ◌++◌, drop}
 use Rattle.ndb_reader.specs.Written.{more_pairs}
 use Rattle.ndb_reader.proofs.writer.put_more.Given as goal
 
-abbrev pub invariant-loop-pair : goal.invariant-loop-pair
-invariant-loop-pair l = l.initial.out ++ more_pairs l.pairs ≡ l.out ++ more_pairs (drop l.pair-index l.pairs)
+abbrev pub invariant-loop-number : goal.invariant-loop-number
+invariant-loop-number l = l.initial.out ++ more_pairs (drop 1 l.line) ≡ l.out ++ more_pairs (drop l.number l.line)

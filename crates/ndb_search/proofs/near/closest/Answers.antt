@@ -1,8 +1,6 @@
 use Rattle.std.proofs.Common.{[], map, sym, ap, ◌∙◌, unwrap_or}
-use Rattle.std.specs.Prelude.{codes}
 use Rattle.std.specs.Option.{option_or}
 use Rattle.net_base.specs.Networks.{Network, longest_first, own_networks}
-use Rattle.net_base.specs.Search.{tuples_with}
 use Rattle.ndb_tuple.specs.Closest.{first_filled}
 use Rattle.ndb_tuple.specs.Prefixes.{network_seen}
 use Rattle.ndb_tuple.proofs.NonEmpty.{near_is}

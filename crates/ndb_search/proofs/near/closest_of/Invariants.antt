@@ -4,5 +4,5 @@ use Rattle.net_base.specs.Search.{tuples_with}
 use Rattle.ndb_tuple.specs.Closest.{first_filled}
 use Rattle.ndb_search.proofs.near.closest_of.Given as goal
 
-abbrev pub invariant-loop-tuple : goal.invariant-loop-tuple
-invariant-loop-tuple l = first_filled l.attr (tuples_with (codes "sys") l.me (take l.tuple-index l.tuple-items)) ≡ None
+abbrev pub invariant-loop-place : goal.invariant-loop-place
+invariant-loop-place l = first_filled l.attr (tuples_with (codes "sys") l.me (take l.place l.db)) ≡ None

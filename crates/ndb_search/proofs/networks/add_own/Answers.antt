@@ -1,7 +1,6 @@
 use Rattle.std.proofs.Common.{map, ◌++◌, ◌∷◌, [], sym, ap, ◌∙◌, arith, append_assoc, append-nil}
 use Rattle.std.proofs.lemmas.List.{map-append}
 use Rattle.ndb_tuple.specs.Prefixes.{network_seen}
-use Rattle.ndb_search.specs.Own.{own_at}
 use Rattle.ndb_search.proofs.Owned.{none_at, own_more, own_less}
 use Rattle.ndb_search.proofs.networks.add_own.Goals as goal
 
@@ -16,7 +15,8 @@ loop-network-preserved c =
     let network = c.network-item.result in
     let networks = c.args.networks.now in
     ap (map network_seen) c.in_ok-push.ensures.items
-    ∙ map-append network_seen c.loop-network.own.items (network ∷ [])
+    ∙ map-append network_seen c.loop-network.own.items (c.again.result ∷ [])
+    ∙ ap (λ n. map network_seen c.loop-network.own.items ++ n ∷ []) c.again.ensures
     ∙ ap (λ those. those ++ network_seen network ∷ []) c.loop-network.invariant
     ∙ append_assoc front _ (network_seen network ∷ [])
     ∙ ap (λ back. front ++ back) (sym (own_more c.args.bits c.args.ips.now c.in_ok-firsts.firsts.keys networks c.loop-network.network-index network (omega arith) c.network-item.is

@@ -1,5 +1,5 @@
-use Rattle.std.proofs.Common.{◌≡◌, ◌-◌, ◌==◌, map}
-use Rattle.std.specs.Prelude.{filter, filter_map, flat_map}
+use Rattle.std.proofs.Common.{◌≡◌, ◌-◌, map}
+use Rattle.std.specs.Prelude.{flat_map}
 use Rattle.std.specs.List.{range_with_len}
 use Rattle.ndb_tuple.specs.Prefixes.{network_seen}
 use Rattle.ndb_search.specs.Own.{own_at}

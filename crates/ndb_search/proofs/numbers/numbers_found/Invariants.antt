@@ -2,5 +2,5 @@ use Rattle.std.proofs.Common.{◌≡◌, take}
 use Rattle.ndb_tuple.specs.Numbers.{numbers_found}
 use Rattle.ndb_search.proofs.numbers.numbers_found.Given as goal
 
-abbrev pub invariant-loop-tuple : goal.invariant-loop-tuple
-invariant-loop-tuple l = l.numbers.items ≡ numbers_found l.attr l.value l.kind (take l.tuple-index l.tuple-items)
+abbrev pub invariant-loop-place : goal.invariant-loop-place
+invariant-loop-place l = l.numbers.items ≡ numbers_found l.attr l.value l.kind (take l.place l.db)

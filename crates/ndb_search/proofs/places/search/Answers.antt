@@ -1,4 +1,4 @@
-use Rattle.std.proofs.Common.{◌≡◌, length, ◌++◌, sym, ap, ◌∙◌, arith, append-nil, slice_get}
+use Rattle.std.proofs.Common.{◌≡◌, ◌++◌, sym, ap, ◌∙◌, arith, append-nil, slice_get}
 use Rattle.std.specs.Prelude.{filter_map}
 use Rattle.std.proofs.lemmas.List.{at_drop_all}
 use Rattle.net_base.specs.Search.{tuple_has}
@@ -11,6 +11,6 @@ returns-clause-tuples c =
     let db = c.args.db.now in
     let all : c.loop-place.places ≡ places_with c.args.attr.now c.args.value.now db =
     sym (c.loop-place.invariant
-    ∙ ap (λ ps. c.loop-place.places ++ ps) (at_drop_all (places_of (tuple_has c.args.attr.now c.args.value.now) c.loop-place.place) db c.loop-place.place (omega (arith, ap length c.as_slice-tuple-items.ensures)))
+    ∙ ap (λ ps. c.loop-place.places ++ ps) (at_drop_all (places_of (tuple_has c.args.attr.now c.args.value.now) c.loop-place.place) db c.loop-place.place (omega (arith, c.loop-place-test.false, c.len-place-end.ensures)))
     ∙ append-nil c.loop-place.places) in
     ap (filter_map (slice_get db)) all ∙ places_found (tuple_has c.args.attr.now c.args.value.now) db

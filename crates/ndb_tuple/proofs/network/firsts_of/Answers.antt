@@ -1,4 +1,4 @@
-use Rattle.std.proofs.Common.{nat_eq, ◌==◌, true, cond, ap, ◌∙◌, arith, sym}
+use Rattle.std.proofs.Common.{nat_eq, ◌==◌, true, cond, ap, ◌∙◌, arith}
 use Rattle.std.specs.List.{list_any}
 use Rattle.std.proofs.lemmas.List.{take_all}
 use Rattle.ndb_tuple.specs.Prefixes.{first_bits}

@@ -1,6 +1,6 @@
 use Rattle.std.proofs.Common.{◌++◌, sym, ap, ◌∙◌, arith, append-nil, List}
 use Rattle.std.proofs.lemmas.List.{take_all}
-use Rattle.ndb_index.specs.declared.spot.Spot.{Spot}
+use Rattle.net_base.specs.declared.ndb.spot.Spot.{Spot}
 use Rattle.ndb_index.specs.Near.{spot_tuples, numbers_of}
 use Rattle.ndb_index.proofs.Nearby.{numbers_more}
 use Rattle.ndb_index.proofs.index.Index.add_addresses.Goals as goal
@@ -13,7 +13,7 @@ at-tuple-requires g c = c.requires c.loop-spot.spot-index _ (omega arith)
 
 pub loop-spot-preserved : goal.loop-spot-preserved
 loop-spot-preserved g c = (
-  numbers_more c.args.self.now c.args.mine.now c.loop-spot.spot-index _ c.at-tuple.result.now c.args.ips.now.items c.loop-spot.ips.items _
+  numbers_more c.args.self.now c.args.mine.now c.loop-spot.spot-index _ c.at-tuple.result c.args.ips.now.items c.loop-spot.ips.items _
       (omega arith) c.at-tuple.ensures.tuple c.loop-spot.invariant.0 c.in_ok-add_in.ensures,
   omega (arith, c.loop-spot.invariant.1, c.at-tuple.ensures.cost),
 )

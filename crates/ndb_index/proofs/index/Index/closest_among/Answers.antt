@@ -12,13 +12,13 @@ loop-place-init g c = (refl, omega arith)
 pub returns-then-len-ne0-clause-values : goal.returns-then-len-ne0-clause-values
 returns-then-len-ne0-clause-values g c =
     let place = get_or c.args.places.now c.loop-place.place-index 0 in
-    here_first c.args.attr.now (tuples_at c.args.self.now) (places_join c.args.self.now) c.args.places.now c.loop-place.place-index place c.at-tuple.result.now c.in_ok-values.values
+    here_first c.args.attr.now (tuples_at c.args.self.now) (places_join c.args.self.now) c.args.places.now c.loop-place.place-index place c.at-tuple.result c.in_ok-values.values
     (omega arith) (same_default c.args.places.now c.loop-place.place-index 0 place (omega arith)) (ap (λ (t : _). t ∷ []) (sym c.at-tuple.ensures.tuple)) c.in_ok-values.ensures (grind (arith, nat_tests)) c.loop-place.invariant.0
 
 pub loop-place-preserved : goal.loop-place-preserved
 loop-place-preserved g c =
     let place = get_or c.args.places.now c.loop-place.place-index 0 in (
-      here_none c.args.attr.now (tuples_at c.args.self.now) (places_join c.args.self.now) c.args.places.now c.loop-place.place-index place c.at-tuple.result.now c.in_ok-values.values
+      here_none c.args.attr.now (tuples_at c.args.self.now) (places_join c.args.self.now) c.args.places.now c.loop-place.place-index place c.at-tuple.result c.in_ok-values.values
           (omega arith) (same_default c.args.places.now c.loop-place.place-index 0 place (omega arith)) (ap (λ (t : _). t ∷ []) (sym c.at-tuple.ensures.tuple)) c.in_ok-values.ensures (grind (arith, nat_tests)) c.loop-place.invariant.0,
       omega (arith, c.loop-place.invariant.1, c.at-tuple.ensures.cost),
     )

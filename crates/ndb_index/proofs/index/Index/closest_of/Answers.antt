@@ -2,7 +2,7 @@ use Rattle.std.proofs.Common.{◌++◌, refl, sym, ap, ◌∙◌, arith, append-
 use Rattle.std.proofs.lemmas.List.{take_all}
 use Rattle.std.proofs.lemmas.Bool.Decides.{nat_tests}
 use Rattle.ndb_tuple.specs.Closest.{first_filled}
-use Rattle.ndb_index.specs.declared.spot.Spot.{Spot}
+use Rattle.net_base.specs.declared.ndb.spot.Spot.{Spot}
 use Rattle.ndb_index.specs.Near.{spot_tuples, numbers_of}
 use Rattle.ndb_index.proofs.Nearby.{spot_first, spot_none, numbers_more}
 use Rattle.ndb_index.proofs.index.Index.closest_of.Goals as goal
@@ -15,14 +15,14 @@ at-tuple-requires g c = c.requires c.loop-spot.spot-index _ (omega arith)
 
 pub returns-then-len-ne0-clause-values : goal.returns-then-len-ne0-clause-values
 returns-then-len-ne0-clause-values g c =
-    spot_first c.args.attr.now c.args.self.now c.args.mine.now c.loop-spot.spot-index _ c.at-tuple.result.now c.in_ok-values.values
+    spot_first c.args.attr.now c.args.self.now c.args.mine.now c.loop-spot.spot-index _ c.at-tuple.result c.in_ok-values.values
     (omega arith) c.at-tuple.ensures.tuple c.in_ok-values.ensures (grind (arith, nat_tests)) c.loop-spot.invariant.0
 
 pub loop-spot-preserved : goal.loop-spot-preserved
 loop-spot-preserved g c = (
-  spot_none c.args.attr.now c.args.self.now c.args.mine.now c.loop-spot.spot-index _ c.at-tuple.result.now c.in_ok-values.values
+  spot_none c.args.attr.now c.args.self.now c.args.mine.now c.loop-spot.spot-index _ c.at-tuple.result c.in_ok-values.values
       (omega arith) c.at-tuple.ensures.tuple c.in_ok-values.ensures (grind (arith, nat_tests)) c.loop-spot.invariant.0,
-  numbers_more c.args.self.now c.args.mine.now c.loop-spot.spot-index _ c.at-tuple.result.now c.args.ips.now.items c.loop-spot.ips.items _
+  numbers_more c.args.self.now c.args.mine.now c.loop-spot.spot-index _ c.at-tuple.result c.args.ips.now.items c.loop-spot.ips.items _
       (omega arith) c.at-tuple.ensures.tuple c.loop-spot.invariant.1 c.in_ok-add_in.ensures,
   omega (arith, c.loop-spot.invariant.2, c.at-tuple.ensures.cost),
 )

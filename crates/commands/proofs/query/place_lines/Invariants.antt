@@ -1,9 +1,0 @@
-use Rattle.std.proofs.Common.{◌≡◌, ◌+◌, ◌≤◌, map, take}
-use Rattle.ndb_index.specs.Near.{tuples_at}
-use Rattle.commands.specs.Built.{tuple_text}
-use Rattle.commands.proofs.query.place_lines.Given as goal
-
-abbrev pub invariant-loop-place : goal.invariant-loop-place
-invariant-loop-place g l =
-    (l.lines ≡ map tuple_text (tuples_at l.index (take l.place-index l.places)))
-    × (l.steps ≤ l.initial.steps + l.place-index)

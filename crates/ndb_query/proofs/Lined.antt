@@ -1,0 +1,22 @@
+-- The lines of a tuple on one line, a line at a time.
+use Rattle.std.proofs.Common.{◌≡◌, ℕ, ◌+◌, ◌<◌, ◌≤◌, List, [], ◌∷◌, ◌++◌, length, take, get_or, sym, ap, ◌∙◌, append-nil}
+use Rattle.std.specs.Prelude.{flat_map}
+use Rattle.std.proofs.lemmas.List.{take_more, take_all}
+use Rattle.std.proofs.lemmas.List.Concat.{flat_map-append}
+use Rattle.net_base.specs.Ndb.{NdbPair}
+use Rattle.ndb_reader.specs.Written.{line_text}
+
+-- the lines of a tuple so far
+abbrev pub flat : List (List NdbPair) → List NdbPair
+flat tuple = flat_map (λ line. line) tuple
+
+pub flat-next : (tuple : List (List NdbPair)) (n : ℕ) (line : List NdbPair) (out new : List ℕ) → n < length tuple → line ≡ get_or tuple n []
+    → ((pairs : List NdbPair) → out ≡ line_text pairs → new ≡ line_text (pairs ++ line)) → out ≡ line_text (flat (take n tuple)) → new ≡ line_text (flat (take (n + 1) tuple))
+flat-next tuple n line out new h here step is =
+    step (flat (take n tuple)) is
+    ∙ ap line_text (ap (λ (l : List NdbPair). flat (take n tuple) ++ l) (here ∙ sym (append-nil (get_or tuple n [])))
+    ∙ sym (flat_map-append (λ (l : List NdbPair). l) (take n tuple) (get_or tuple n [] ∷ []))
+    ∙ ap flat (sym (take_more tuple n [] h)))
+
+pub flat-all : (tuple : List (List NdbPair)) (n : ℕ) (out : List ℕ) → length tuple ≤ n → out ≡ line_text (flat (take n tuple)) → out ≡ line_text (flat tuple)
+flat-all tuple n out all is = is ∙ ap (λ (t : List (List NdbPair)). line_text (flat t)) (take_all n tuple all)

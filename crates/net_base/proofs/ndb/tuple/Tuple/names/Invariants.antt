@@ -1,0 +1,7 @@
+use Rattle.std.proofs.Common.{◌≡◌, false, take}
+use Rattle.std.specs.List.{list_any}
+use Rattle.net_base.specs.Search as spec
+use Rattle.net_base.proofs.ndb.tuple.Tuple.names.Given as goal
+
+abbrev pub invariant-loop-number : goal.invariant-loop-number
+invariant-loop-number l = list_any (list_any (spec.has_attr l.attr)) (take l.number l.self) ≡ false

@@ -1,0 +1,203 @@
+//! The run of bytes and the runs of places.
+ghost use Rattle.std.specs.Prelude.{◌≡◌, ◌≤◌, ◌<◌, ◌+◌, ℕ, ◌∷◌, ◌++◌, [], length, take, get_or, IfOk, OnOk, OnErr};
+ghost use Rattle.net_base.specs.declared.ndb.spot.Spot.{Spot as Seen};
+ghost use Rattle.net_base.specs.Spots.{pair_spots, Owns};
+ghost use Rattle.net_base.specs.Parts.{start_at, last_end, Rise};
+ghost use Rattle.net_base.specs.Store.{pair_of, grown, with_pair, line_ended, tuple_ended, pairs_in, tuples_in, value_at, AreSound, AreWhole};
+ghost use Rattle.net_base.specs.Ndb.{NdbPair};
+
+use crate::ndb::pair::NdbPair;
+use crate::ndb::spot::Spot;
+use std::alloc::{AllocError, Global};
+
+/// Where a pair's attribute ends, and where its value does. Its attribute begins where the pair before it ends.
+#[derive(Clone, Copy, Debug, Drop)]
+pub(crate) struct Mark {
+    pub(crate) attr: u32,
+    pub(crate) value: u32,
+}
+
+/// All pairs in a row, where lines end among the pairs, and where tuples end among the lines.
+#[derive(Debug, Drop)]
+pub(crate) struct Runs {
+    pub(crate) bytes: Vec<u8>,
+    pub(crate) pairs: Vec<Mark>,
+    pub(crate) lines: Vec<u32>,
+    pub(crate) tuples: Vec<u32>,
+}
+
+/// A place as it is kept; a run that is longer has no room.
+fn place_of(count: usize) -> Result<u32, AllocError>
+    ensures { IfOk result (λ place. place ≡ count) }
+{
+    if count > 0xffff_ffff {
+        return Err(AllocError);
+    }
+    Ok(count as u32)
+}
+
+/// Where the list with this number begins.
+#[tactic(auto, using(crate::proofs::Cuts::begin_is))]
+pub(crate) fn begin_of(ends: &[u32], number: usize) -> usize
+    requires { number ≤ length ends.now }
+    ensures { result ≡ start_at 0 ends.now number }
+{
+    if number == 0 {
+        return 0;
+    }
+    ends[number - 1] as usize
+}
+
+/// The number of the list in which the element with this number is.
+fn owner_of(ends: &[u32], number: usize) -> usize
+    ensures { (count : ℕ) → Rise 0 ends.now count → number < last_end 0 ends.now → Owns ends.now number result }
+{
+    ends.partition_point(|end| *end as usize <= number)
+}
+
+impl Runs {
+    /// Empty runs, which take no memory yet.
+    pub(crate) fn new(alloc: Global) -> Runs
+        ensures bytes { result.bytes.items ≡ [] }
+        ensures pairs { result.pairs.items ≡ [] }
+        ensures lines { result.lines.items ≡ [] }
+        ensures tuples { result.tuples.items ≡ [] }
+    {
+        Runs {
+            bytes: Vec::new(alloc),
+            pairs: Vec::new(alloc),
+            lines: Vec::new(alloc),
+            tuples: Vec::new(alloc),
+        }
+    }
+
+    /// Adds a pair. After an error bytes may stand behind those that were there.
+    fn put(&mut self, attr: &[u8], value: &[u8]) -> Result<(), AllocError>
+        ensures lines { self.new.lines.items ≡ self.old.lines.items }
+        ensures tuples { self.new.tuples.items ≡ self.old.tuples.items }
+        ensures bytes { OnOk result (self.new.bytes.items ≡ self.old.bytes.items ++ (attr.now ++ value.now)) }
+        ensures pairs { OnOk result (self.new.pairs.items ≡ self.old.pairs.items ++ record {
+          attr = length self.old.bytes.items + length attr.now;
+          value = length self.old.bytes.items + length attr.now + length value.now;
+        } ∷ []) }
+        ensures kept { OnErr result (take (length self.old.bytes.items) self.new.bytes.items ≡ self.old.bytes.items) }
+        ensures same { OnErr result (self.new.pairs.items ≡ self.old.pairs.items) }
+    {
+        self.bytes.extend_from_slice(attr)?;
+        let attr = place_of(self.bytes.len())?;
+        self.bytes.extend_from_slice(value)?;
+        let value = place_of(self.bytes.len())?;
+        self.pairs.push(Mark { attr, value })?;
+        Ok(())
+    }
+
+    /// Adds a pair to the line that is open.
+    pub(crate) fn push(&mut self, attr: &[u8], value: &[u8]) -> Result<(), AllocError>
+        requires { AreSound self.old }
+        ensures sound { AreSound self.new }
+        ensures ok { OnOk result (grown self.new ≡ with_pair (pair_of attr.now value.now) (grown self.old)) }
+        ensures err { OnErr result (grown self.new ≡ grown self.old) }
+    {
+        let len = self.bytes.len();
+        match self.put(attr, value) {
+            Ok(()) => Ok(()),
+            Err(error) => {
+                self.bytes.truncate(len);
+                Err(error)
+            }
+        }
+    }
+
+    /// Where the pairs end.
+    fn pairs_end(&self) -> Result<u32, AllocError>
+        ensures { IfOk result (λ place. place ≡ length self.now.pairs.items) }
+    {
+        place_of(self.pairs.len())
+    }
+
+    /// Where the lines end.
+    fn lines_end(&self) -> Result<u32, AllocError>
+        ensures { IfOk result (λ place. place ≡ length self.now.lines.items) }
+    {
+        place_of(self.lines.len())
+    }
+
+    /// Ends the line that is open.
+    pub(crate) fn end_line(&mut self) -> Result<(), AllocError>
+        requires { AreSound self.old }
+        ensures sound { AreSound self.new }
+        ensures ok { OnOk result (grown self.new ≡ line_ended (grown self.old)) }
+        ensures err { OnErr result (grown self.new ≡ grown self.old) }
+    {
+        let place = self.pairs_end()?;
+        self.lines.push(place)?;
+        Ok(())
+    }
+
+    /// Ends the tuple that is open.
+    pub(crate) fn end_tuple(&mut self) -> Result<(), AllocError>
+        requires { AreSound self.old }
+        ensures sound { AreSound self.new }
+        ensures ok { OnOk result (grown self.new ≡ tuple_ended (grown self.old)) }
+        ensures err { OnErr result (grown self.new ≡ grown self.old) }
+    {
+        let place = self.lines_end()?;
+        self.tuples.push(place)?;
+        Ok(())
+    }
+
+    /// The pair with this number.
+    pub(crate) fn pair(&self, number: usize) -> NdbPair<'_>
+        requires sound { AreSound self.now }
+        requires within { number < length self.now.pairs.items }
+        ensures { (d : NdbPair) → result ≡ get_or (pairs_in self.now) number d }
+    {
+        let start = self.start_of(number);
+        let mark = self.pairs[number];
+        let middle = mark.attr as usize;
+        let end = mark.value as usize;
+        NdbPair::new(&self.bytes[start..middle], &self.bytes[middle..end])
+    }
+
+    /// Where the pair with this number begins.
+    fn start_of(&self, number: usize) -> usize
+        requires { number ≤ length self.now.pairs.items }
+        ensures { result ≡ value_at 0 self.now.pairs.items number }
+    {
+        if number == 0 {
+            return 0;
+        }
+        self.pairs[number - 1].value as usize
+    }
+
+    /// The line with the pair that has this number, counted in its tuple, and that tuple.
+    pub(crate) fn spot(&self, number: usize) -> Spot
+        requires sound { AreSound self.now }
+        requires whole { AreWhole self.now }
+        requires within { number < length self.now.pairs.items }
+        ensures { (d : Seen) → result ≡ get_or (pair_spots (tuples_in self.now)) number d }
+    {
+        let line = owner_of(&self.lines, number);
+        let tuple = owner_of(&self.tuples, line);
+        let first = begin_of(&self.tuples, tuple);
+        Spot {
+            place: tuple as u64,
+            line: (line - first) as u64,
+        }
+    }
+
+    /// A copy, in runs of its own.
+    pub(crate) fn copied(&self) -> Result<Runs, AllocError>
+        ensures bytes { IfOk result (λ r. r.bytes.items ≡ self.now.bytes.items) }
+        ensures pairs { IfOk result (λ r. r.pairs.items ≡ self.now.pairs.items) }
+        ensures lines { IfOk result (λ r. r.lines.items ≡ self.now.lines.items) }
+        ensures tuples { IfOk result (λ r. r.tuples.items ≡ self.now.tuples.items) }
+    {
+        Ok(Runs {
+            bytes: self.bytes.clone()?,
+            pairs: self.pairs.clone()?,
+            lines: self.lines.clone()?,
+            tuples: self.tuples.clone()?,
+        })
+    }
+}
