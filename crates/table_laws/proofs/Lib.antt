@@ -1,0 +1,4 @@
+pub mod Shared
+mod ConvTable
+mod DirTable
+mod ActorTable

@@ -1,0 +1,4 @@
+-- What other crates cite.
+pub use Rattle.table_laws.proofs.ConvTable.{conv_rows, map_some}
+pub use Rattle.table_laws.proofs.DirTable.{dir_rows}
+pub use Rattle.table_laws.proofs.ActorTable.{actor_rows, table_rows, mapped}

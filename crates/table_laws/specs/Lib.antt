@@ -1,0 +1,3 @@
+pub mod ConvRows
+pub mod DirRows
+pub mod ActorRows
