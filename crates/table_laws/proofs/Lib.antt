@@ -2,3 +2,4 @@ pub mod Shared
 mod ConvTable
 mod DirTable
 mod ActorTable
+mod Waiting

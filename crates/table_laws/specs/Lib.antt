@@ -1,3 +1,4 @@
 pub mod ConvRows
 pub mod DirRows
 pub mod ActorRows
+pub mod Waiting
