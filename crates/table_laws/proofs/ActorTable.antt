@@ -1,12 +1,13 @@
 -- Each step of an actor is that of a row.
-use Rattle.std.proofs.Common.{◌≡◌, ℕ, ◌+◌, nat_lt, nat_le, Bool, true, false, cond, List, [], ◌∷◌, Option, Some, None, bytes_eq, codes, slice_get, refl}
-use Rattle.std.specs.Prelude.{IfSome}
+use Rattle.std.proofs.Common.{◌≡◌, ℕ, ◌+◌, nat_lt, nat_le, Bool, true, false, cond, List, [], ◌∷◌, Option, Some, None, bytes_eq, codes, slice_get, refl, sym, subst}
+use Rattle.std.specs.Prelude.{IfSome, IsSome}
 use Rattle.std.specs.Option.{option_map, option_and_then}
-use Rattle.std.proofs.lemmas.Bool.{cond_both}
+use Rattle.std.proofs.lemmas.Bool.{cond_both, false≢true}
 use Rattle.net_base.specs.declared.actor.ActorName.{ActorName}
 use Rattle.net_base.specs.declared.actor.ActorName.TheVariants as name
 use Rattle.net_base.specs.declared.event.Event.{Event}
 use Rattle.net_base.specs.declared.event.Event.TheVariants as event
+use Rattle.net_base.specs.declared.history.Entry.{Entry}
 use Rattle.net_base.specs.declared.history.Taken.{Taken}
 use Rattle.net_base.specs.declared.history.With.{With}
 use Rattle.net_base.specs.declared.history.With.TheVariants as given
@@ -26,12 +27,14 @@ use Rattle.net_base.specs.Conversation.{conv_step}
 use Rattle.net_base.specs.Cs.{CsAnswer, Lines, Refused, cs_list}
 use Rattle.net_base.specs.Desk.{Desk, clock_reply, cs_reply, desk_replies, desk_reply, desk_step, ls_reply, open_refusal}
 use Rattle.net_base.specs.Directory.{dir_step}
+use Rattle.net_base.specs.Legal.{Shown, Shows}
 use Rattle.net_base.specs.Medium.{Medium, datagram_length, medium_step, puts, takes}
+use Rattle.net_base.specs.Net.{Net, outcome_in, step_of, work_of}
 use Rattle.net_base.specs.Paths.{may_open, walk}
 use Rattle.net_base.specs.Versions.{database_of}
 use Rattle.table_laws.specs.ActorRows.{ActorRow, DeskRow, MediumRow, seen_as}
 use Rattle.table_laws.specs.ActorRows as row
-use Rattle.table_laws.proofs.ConvTable.{conv_rows}
+use Rattle.table_laws.proofs.ConvTable.{conv_rows, map_some}
 use Rattle.table_laws.proofs.DirTable.{dir_rows}
 
 -- what is so of a value that there is, and what is so then of what it is mapped to
@@ -123,3 +126,15 @@ module _ (w : World) (now : ℕ) where
   pub actor_rows : (a : ActorName) (s : Actor) (work : Work) → Are a s work.event work.with (actor_step w a s now work)
   actor_rows a s work =
       cond_both (has_actor w a) (table_step w a s now work) None (λ (o : Option (Step Actor)). Are a s work.event work.with o) (λ has. table_rows a s work) (λ not. tt)
+
+-- what is so of the replies of the rows is so of the reply of an entry that may follow
+pub shown_reply : (w : World) (net : Net) (x : Entry) (P : Reply → Type 0) → IsSome (outcome_in w net x) → Shows (outcome_in w net x) x
+    → ((t : Step Actor) → ActorRow w net.moment x.actor (net.actors x.actor) x.event (work_of net x).with t → P t.outcome.reply) → P x.reply
+shown_reply w net x P ready shows each =
+    by (step_of w net x) (map_some (step_of w net x) _ (λ (t : Step Actor). P t.outcome.reply) (actor_rows w net.moment x.actor (net.actors x.actor) (work_of net x)) each)
+    ready shows
+  where
+    by : (o : Option (Step Actor)) → IfSome o (λ (t : Step Actor). P t.outcome.reply) → IsSome (option_map (λ (t : Step Actor). t.outcome) o)
+        → Shows (option_map (λ (t : Step Actor). t.outcome) o) x → P x.reply
+    by None is ready shows = absurd (false≢true ready)
+    by (Some t) is ready shows = subst (λ (y : Shown). P y.reply) (sym shows) is

@@ -112,49 +112,49 @@ module _ (slot now : ℕ) (c : Conv) where
   listed gift zero = row.ListsNot
   listed gift (suc n) = row.Lists
 
-  il_read : (gift : With) (count : ℕ) (e : End) → c.stage ≡ Connected → c.core ≡ Il e → Are (event.Read c.generation count) gift (conv.il_read count e c)
-  il_read gift count e at is =
+  il_read : (gift : With) (count : ℕ) (e : End) → nat_lt 0 count ≡ true → c.stage ≡ Connected → c.core ≡ Il e → Are (event.Read c.generation count) gift (conv.il_read count e c)
+  il_read gift count e some at is =
       let ev : Event = event.Read c.generation count in
-      either ev gift (has_unread e) (Some _) _ (λ some. row.ReadsIl at is some)
-      (λ none. either ev gift e.closed_by_peer (Some _) _ (λ ended. row.ReadsEnd at is none ended)
+      either ev gift (has_unread e) (Some _) _ (λ unread. row.ReadsIl some at is unread)
+      (λ none. either ev gift e.closed_by_peer (Some _) _ (λ ended. row.ReadsEnd some at is none ended)
       (λ goes. either ev gift (is_closed e.state) (Some _) None (λ closed. row.ReadsNone) (λ waits. tt)))
 
-  udp_read : (gift : With) (count : ℕ) (e : UdpEnd) (texts : List (List ℕ)) → e.unread ≡ texts → c.stage ≡ Connected → c.core ≡ Udp e
+  udp_read : (gift : With) (count : ℕ) (e : UdpEnd) (texts : List (List ℕ)) → nat_lt 0 count ≡ true → e.unread ≡ texts → c.stage ≡ Connected → c.core ≡ Udp e
       → Are (event.Read c.generation count) gift (conv.udp_read texts count e c)
-  udp_read gift count e (text ∷ texts) are at is = row.ReadsUdp at is are
-  udp_read gift count e [] are at is =
+  udp_read gift count e (text ∷ texts) some are at is = row.ReadsUdp some at is are
+  udp_read gift count e [] some are at is =
       either (event.Read c.generation count) gift (is_hung_up e.state) (Some _) None (λ hung. row.ReadsNone) (λ waits. tt)
 
-  read : (gift : With) (count : ℕ) (s : Stage) → c.stage ≡ s → (k : Core) → c.core ≡ k
+  read : (gift : With) (count : ℕ) → nat_lt 0 count ≡ true → (s : Stage) → c.stage ≡ s → (k : Core) → c.core ≡ k
       → Are (event.Read c.generation count) gift (conv.read_at s k count c)
-  read gift count Connected at (Il e) is = il_read gift count e at is
-  read gift count Connected at (Udp e) is = udp_read gift count e e.unread refl at is
-  read gift count Unused at k is = subst (λ (x : Core). Is (event.Read c.generation count) gift (conv.answers c (reply.WrongState (conv.core_name x)))) is row.ReadsWrong
-  read gift count Listening at k is = subst (λ (x : Core). Is (event.Read c.generation count) gift (conv.answers c (reply.WrongState (conv.core_name x)))) is row.ReadsWrong
+  read gift count some Connected at (Il e) is = il_read gift count e some at is
+  read gift count some Connected at (Udp e) is = udp_read gift count e e.unread some refl at is
+  read gift count some Unused at k is = subst (λ (x : Core). Is (event.Read c.generation count) gift (conv.answers c (reply.WrongState (conv.core_name x)))) is row.ReadsWrong
+  read gift count some Listening at k is = subst (λ (x : Core). Is (event.Read c.generation count) gift (conv.answers c (reply.WrongState (conv.core_name x)))) is row.ReadsWrong
 
-  il_written : (gift : With) (text : List ℕ) (e : End) → c.stage ≡ Connected → c.core ≡ Il e → (s : IlState) → e.state ≡ s
+  il_written : (gift : With) (text : List ℕ) (e : End) → (length text == 0) ≡ false → nat_lt c.limit (length text) ≡ false → c.stage ≡ Connected → c.core ≡ Il e → (s : IlState) → e.state ≡ s
       → Is (event.Write c.generation text) gift (conv.il_written s now text e c)
-  il_written gift text e at is state.Established stands = row.WritesIl at is stands
-  il_written gift text e at is _ stands = row.WritesNone
+  il_written gift text e some fits at is state.Established stands = row.WritesIl some fits at is stands
+  il_written gift text e some fits at is _ stands = row.WritesNone
 
-  udp_written : (gift : With) (text : List ℕ) (e : UdpEnd) (b : Bool) → c.stage ≡ Connected → c.core ≡ Udp e
+  udp_written : (gift : With) (text : List ℕ) (e : UdpEnd) (b : Bool) → (length text == 0) ≡ false → nat_lt c.limit (length text) ≡ false → c.stage ≡ Connected → c.core ≡ Udp e
       → Is (event.Write c.generation text) gift
       (cond b (conv.answers c (reply.Hungup cause.Hungup)) (conv.leaves c (reply.Count (length text)) c (Some (conv.packet_of c (body.Udp text)))))
-  udp_written gift text e true at is = row.WritesNone
-  udp_written gift text e false at is = row.WritesUdp at is
+  udp_written gift text e true some fits at is = row.WritesNone
+  udp_written gift text e false some fits at is = row.WritesUdp some fits at is
 
-  core_written : (gift : With) (text : List ℕ) (k : Core) → c.stage ≡ Connected → c.core ≡ k
+  core_written : (gift : With) (text : List ℕ) (k : Core) → (length text == 0) ≡ false → nat_lt c.limit (length text) ≡ false → c.stage ≡ Connected → c.core ≡ k
       → Are (event.Write c.generation text) gift (conv.core_written k now text c)
-  core_written gift text (Il e) at is =
-      either (event.Write c.generation text) gift (may_write e.state e) (Some _) None (λ may. il_written gift text e at is e.state refl) (λ waits. tt)
-  core_written gift text (Udp e) at is = udp_written gift text e (conv.is_closed_name (udp_state_name e.state)) at is
+  core_written gift text (Il e) some fits at is =
+      either (event.Write c.generation text) gift (may_write e.state e) (Some _) None (λ may. il_written gift text e some fits at is e.state refl) (λ waits. tt)
+  core_written gift text (Udp e) some fits at is = udp_written gift text e (conv.is_closed_name (udp_state_name e.state)) some fits at is
 
   written : (gift : With) (text : List ℕ) (s : Stage) → c.stage ≡ s → (k : Core) → c.core ≡ k
       → Are (event.Write c.generation text) gift (conv.write_at s k now text c)
   written gift text Connected at k is =
       let ev : Event = event.Write c.generation text in
       either ev gift (length text == 0) (Some _) _ (λ none. row.WritesZero)
-      (λ some. either ev gift (nat_lt c.limit (length text)) (Some _) _ (λ long. row.WritesLong) (λ fits. core_written gift text k at is))
+      (λ some. either ev gift (nat_lt c.limit (length text)) (Some _) _ (λ long. row.WritesLong) (λ fits. core_written gift text k some fits at is))
   written gift text Unused at k is = subst (λ (x : Core). Is (event.Write c.generation text) gift (conv.answers c (reply.WrongState (conv.core_name x)))) is row.WritesWrong
   written gift text Listening at k is = subst (λ (x : Core). Is (event.Write c.generation text) gift (conv.answers c (reply.WrongState (conv.core_name x)))) is row.WritesWrong
 
@@ -219,7 +219,7 @@ module _ (slot now : ℕ) (c : Conv) where
   conv_rows (event.File g f count) gift = own (λ n. event.File n f count) gift g (Some _) refl row.Files
   conv_rows (event.Read g count) gift =
       either (event.Read g count) gift (nat_lt 0 count) _ None
-      (λ some. own (λ n. event.Read n count) gift g _ refl (read gift count c.stage refl c.core refl)) (λ none. tt)
+      (λ some. own (λ n. event.Read n count) gift g _ refl (read gift count some c.stage refl c.core refl)) (λ none. tt)
   conv_rows (event.Write g text) gift = own (λ n. event.Write n text) gift g _ refl (written gift text c.stage refl c.core refl)
   conv_rows (event.Hangup g) gift = own (λ n. event.Hangup n) gift g (Some _) refl (hung_up gift c.core refl (conv.core_name c.core))
   conv_rows (event.Ttl g n) gift = own (λ k. event.Ttl k n) gift g (Some _) refl row.TtlSet

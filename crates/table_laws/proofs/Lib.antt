@@ -3,3 +3,4 @@ mod ConvTable
 mod DirTable
 mod ActorTable
 mod Waiting
+mod Cores

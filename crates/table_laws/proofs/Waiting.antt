@@ -84,7 +84,7 @@ module _ (Q : List Call → Type 0) (w : World) (h : ℕ) (p : Proto) (d : Dir) 
   waiting_stays e gift s (row.Listens {n = n} {s = x} {c = c} {calls = calls} there wait) = set Q d.slots n _ all (heard x c calls wait (at n x there))
   waiting_stays e gift s (row.Withdraws {n = n} there) = set Q d.slots n _ all keeps.none
   waiting_stays e gift s (row.Frees {n = n} there) = set Q d.slots n _ all keeps.none
-  waiting_stays e gift s (row.Bears {packet = packet} {t = t} takes) = born packet t _ _ takes refl refl
+  waiting_stays e gift s (row.Bears {packet = packet} {t = t} of takes) = born packet t _ _ takes refl refl
   waiting_stays e gift s _ = all
 
   pub waiting_told : (e : Event) (gift : With) (s : Step Dir) → DirRow w h p d e gift s → OfTold Q s.outcome.reply
@@ -106,5 +106,5 @@ slots_stay w h p d e gift s (row.Binds {n = n} there) = many_set d.slots n _
 slots_stay w h p d e gift s (row.Listens {n = n} there wait) = many_set d.slots n _
 slots_stay w h p d e gift s (row.Withdraws {n = n} there) = many_set d.slots n _
 slots_stay w h p d e gift s (row.Frees {n = n} there) = many_set d.slots n _
-slots_stay w h p d e gift s (row.Bears {t = t} takes) = many_set (slice_set d.slots t.free.0 _) t.listener.0 _ ∙ many_set d.slots t.free.0 _
+slots_stay w h p d e gift s (row.Bears {t = t} of takes) = many_set (slice_set d.slots t.free.0 _) t.listener.0 _ ∙ many_set d.slots t.free.0 _
 slots_stay w h p d e gift s _ = refl

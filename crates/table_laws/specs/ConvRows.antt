@@ -1,5 +1,5 @@
 -- What each row of a conversation's table leaves.
-use Rattle.std.specs.Prelude.{◌≡◌, ℕ, suc, ◌+◌, true, false, List, [], ◌∷◌, length, take, Option, Some, None, nat_lt, ◌&&◌}
+use Rattle.std.specs.Prelude.{◌≡◌, ℕ, suc, ◌+◌, ◌==◌, true, false, List, [], ◌∷◌, length, take, Option, Some, None, nat_lt, ◌&&◌}
 use Rattle.net_base.specs.declared.address.Pair.{Pair}
 use Rattle.net_base.specs.declared.event.Event.{Event}
 use Rattle.net_base.specs.declared.event.Event.TheVariants as event
@@ -85,12 +85,12 @@ pub data ConvRow (slot now : ℕ) (c : Conv) : Event → With → Step Conv → 
   Files : {gift : With} {f : FileName} {count : ℕ}
       → ConvRow slot now c (event.File c.generation f count) gift (answers c (reply.Bytes (take count (file_text f slot c))))
   -- read
-  ReadsIl : {gift : With} {count : ℕ} {e : End} → c.stage ≡ Connected → c.core ≡ Il e → has_unread e ≡ true
+  ReadsIl : {gift : With} {count : ℕ} {e : End} → nat_lt 0 count ≡ true → c.stage ≡ Connected → c.core ≡ Il e → has_unread e ≡ true
       → ConvRow slot now c (event.Read c.generation count) gift
       (leaves c (reply.Bytes (take count (first_unread e))) (record c { core = Il (reads count e) }) None)
-  ReadsEnd : {gift : With} {count : ℕ} {e : End} → c.stage ≡ Connected → c.core ≡ Il e → has_unread e ≡ false → e.closed_by_peer ≡ true
+  ReadsEnd : {gift : With} {count : ℕ} {e : End} → nat_lt 0 count ≡ true → c.stage ≡ Connected → c.core ≡ Il e → has_unread e ≡ false → e.closed_by_peer ≡ true
       → ConvRow slot now c (event.Read c.generation count) gift (answers c (reply.Bytes []))
-  ReadsUdp : {gift : With} {count : ℕ} {e : UdpEnd} {text : List ℕ} {texts : List (List ℕ)} → c.stage ≡ Connected → c.core ≡ Udp e
+  ReadsUdp : {gift : With} {count : ℕ} {e : UdpEnd} {text : List ℕ} {texts : List (List ℕ)} → nat_lt 0 count ≡ true → c.stage ≡ Connected → c.core ≡ Udp e
       → e.unread ≡ text ∷ texts
       → ConvRow slot now c (event.Read c.generation count) gift
       (leaves c (reply.Bytes (take count text)) (record c { core = Udp (datagram_read e) }) None)
@@ -102,9 +102,11 @@ pub data ConvRow (slot now : ℕ) (c : Conv) : Event → With → Step Conv → 
   WritesZero : {gift : With} {text : List ℕ} → ConvRow slot now c (event.Write c.generation text) gift (answers c reply.ZeroWrite)
   WritesLong : {gift : With} {text : List ℕ}
       → ConvRow slot now c (event.Write c.generation text) gift (answers c (reply.TooLong (length text) c.limit))
-  WritesIl : {gift : With} {text : List ℕ} {e : End} → c.stage ≡ Connected → c.core ≡ Il e → e.state ≡ state.Established
+  WritesIl : {gift : With} {text : List ℕ} {e : End} → (length text == 0) ≡ false → nat_lt c.limit (length text) ≡ false → c.stage ≡ Connected
+      → c.core ≡ Il e → e.state ≡ state.Established
       → ConvRow slot now c (event.Write c.generation text) gift (turned c (reply.Count (length text)) (writes now text e) c)
-  WritesUdp : {gift : With} {text : List ℕ} {e : UdpEnd} → c.stage ≡ Connected → c.core ≡ Udp e
+  WritesUdp : {gift : With} {text : List ℕ} {e : UdpEnd} → (length text == 0) ≡ false → nat_lt c.limit (length text) ≡ false → c.stage ≡ Connected
+      → c.core ≡ Udp e
       → ConvRow slot now c (event.Write c.generation text) gift (leaves c (reply.Count (length text)) c (Some (packet_of c (body.Udp text))))
   WritesNone : {gift : With} {text : List ℕ} {why : Cause}
       → ConvRow slot now c (event.Write c.generation text) gift (answers c (reply.Hungup why))

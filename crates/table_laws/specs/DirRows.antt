@@ -1,5 +1,5 @@
 -- What each row of a directory's table leaves.
-use Rattle.std.specs.Prelude.{◌≡◌, ℕ, ◌+◌, ◌==◌, true, List, [], ◌∷◌, ◌++◌, Option, Some, None, slice_get, slice_set}
+use Rattle.std.specs.Prelude.{◌≡◌, ℕ, ◌+◌, ◌==◌, true, false, List, [], ◌∷◌, ◌++◌, Option, Some, None, slice_get, slice_set}
 use Rattle.net_base.specs.declared.actor.Call.{Call}
 use Rattle.net_base.specs.declared.address.Addr.{Addr}
 use Rattle.net_base.specs.declared.address.Pair.{Pair}
@@ -17,7 +17,7 @@ use Rattle.net_base.specs.declared.reply.Reply.TheVariants as reply
 use Rattle.net_base.specs.declared.world.World.{World}
 use Rattle.net_base.specs.ActorStep.{Step}
 use Rattle.net_base.specs.Conversation.{is_sync}
-use Rattle.net_base.specs.Directory.{Dir, Key, Slot, Taker, bears, dir_answers, dir_leaves, first_slot, free_slot, frees, home_at, is_free, is_of, limit_of, pair_of, pair_place, ports_with, refusal, start_of, starts_after, taken_from, taker_of, with_port, withdraws}
+use Rattle.net_base.specs.Directory.{Dir, Key, Slot, Taker, bears, dir_answers, dir_leaves, first_slot, free_slot, frees, home_at, is_free, is_live_with, is_of, limit_of, pair_of, pair_place, ports_with, refusal, start_of, starts_after, taken_from, taker_of, with_port, withdraws}
 use Rattle.net_base.specs.Paths.{names}
 use Rattle.net_base.specs.Routes.{Way, way}
 
@@ -37,26 +37,27 @@ with_slot n s d = record d { slots = slice_set d.slots n s }
 -- the steps of the directory of a host and protocol: each with its event, what that is given, and where it is so
 pub data DirRow (w : World) (h : ℕ) (p : Proto) (d : Dir) : Event → With → Step Dir → Type 0 where
   -- another generation
-  Stale : {e : Event} {gift : With} {n g : ℕ} → slot_in e ≡ Some (n, g) → DirRow w h p d e gift (dir_answers reply.Stale d)
+  Stale : {e : Event} {gift : With} {n g : ℕ} {s : Slot} → slot_in e ≡ Some (n, g) → slice_get d.slots n ≡ Some s → (s.generation == g) ≡ false
+      → DirRow w h p d e gift (dir_answers reply.Stale d)
   -- reserve
   Full : {gift : With} → DirRow w h p d event.Reserve gift (dir_answers reply.NoSlot d)
   Reserves : {gift : With} {n : ℕ} {s : Slot} → first_slot is_free 0 d.slots ≡ Some (n, s)
       → DirRow w h p d event.Reserve gift
       (dir_leaves (reply.Slot n (s.generation + 1)) None (with_slot n (record free_slot { kind = name.Reserved; generation = s.generation + 1 }) d))
   -- grant
-  GrantsWrong : {gift : With} {n g : ℕ} {remote : Addr} {port : Option ℕ} {s : Slot} → slice_get d.slots n ≡ Some s
-      → DirRow w h p d (event.Grant n g remote port) gift (dir_answers (reply.WrongState s.kind) d)
-  NoRoute : {gift : With} {n g : ℕ} {remote : Addr} {port : Option ℕ}
-      → DirRow w h p d (event.Grant n g remote port) gift (dir_answers reply.NoRoute d)
-  NoPort : {gift : With} {n g : ℕ} {remote : Addr} {port : Option ℕ}
-      → DirRow w h p d (event.Grant n g remote port) gift (dir_answers reply.NoPort d)
-  SelfPair : {gift : With} {n g : ℕ} {remote : Addr} {port : Option ℕ}
-      → DirRow w h p d (event.Grant n g remote port) gift (dir_answers reply.SelfPair d)
-  PairUsed : {gift : With} {n g : ℕ} {remote : Addr} {port : Option ℕ} {k : ℕ}
-      → DirRow w h p d (event.Grant n g remote port) gift (dir_answers (reply.PairUsed k) d)
-  Grants : {gift : With} {n g : ℕ} {remote : Addr} {port : Option ℕ} {s : Slot} {pair : Pair} {out : Way} → slice_get d.slots n ≡ Some s
+  GrantsWrong : {gift : With} {n : ℕ} {remote : Addr} {port : Option ℕ} {s : Slot} → slice_get d.slots n ≡ Some s
+      → DirRow w h p d (event.Grant n s.generation remote port) gift (dir_answers (reply.WrongState s.kind) d)
+  NoRoute : {gift : With} {n : ℕ} {remote : Addr} {port : Option ℕ} {s : Slot} → slice_get d.slots n ≡ Some s
+      → DirRow w h p d (event.Grant n s.generation remote port) gift (dir_answers reply.NoRoute d)
+  NoPort : {gift : With} {n : ℕ} {remote : Addr} {port : Option ℕ} {s : Slot} → slice_get d.slots n ≡ Some s
+      → DirRow w h p d (event.Grant n s.generation remote port) gift (dir_answers reply.NoPort d)
+  SelfPair : {gift : With} {n : ℕ} {remote : Addr} {port : Option ℕ} {s : Slot} → slice_get d.slots n ≡ Some s
+      → DirRow w h p d (event.Grant n s.generation remote port) gift (dir_answers reply.SelfPair d)
+  PairUsed : {gift : With} {n : ℕ} {remote : Addr} {port : Option ℕ} {s : Slot} {k : ℕ} → slice_get d.slots n ≡ Some s
+      → DirRow w h p d (event.Grant n s.generation remote port) gift (dir_answers (reply.PairUsed k) d)
+  Grants : {gift : With} {n : ℕ} {remote : Addr} {port : Option ℕ} {s : Slot} {pair : Pair} {out : Way} → slice_get d.slots n ≡ Some s
       → way w h remote.ip ≡ Some out → pair_place pair 1 d.pairs ≡ None
-      → DirRow w h p d (event.Grant n g remote port) gift
+      → DirRow w h p d (event.Grant n s.generation remote port) gift
       (dir_leaves (reply.Granted pair (start_of (home_at w h p) d) (limit_of p out.mtu)) None
       (record (with_slot n (record s { kind = name.Granted; pair = Some pair }) d) {
         pairs = d.pairs ++ pair ∷ [];
@@ -64,33 +65,37 @@ pub data DirRow (w : World) (h : ℕ) (p : Proto) (d : Dir) : Event → With →
         starts = starts_after p d.starts;
       }))
   -- announce and bind
-  AnnouncesWrong : {gift : With} {n g : ℕ} {ip port : Option ℕ} {s : Slot} → slice_get d.slots n ≡ Some s
-      → DirRow w h p d (event.Announce n g ip port) gift (dir_answers (reply.WrongState s.kind) d)
-  AnnouncesTaken : {gift : With} {n g : ℕ} {ip port : Option ℕ} {m : ℕ}
-      → DirRow w h p d (event.Announce n g ip port) gift (dir_answers (reply.PortTaken m) d)
-  Announces : {gift : With} {n g : ℕ} {ip port : Option ℕ} {s : Slot} → slice_get d.slots n ≡ Some s
-      → DirRow w h p d (event.Announce n g ip port) gift
+  AnnouncesWrong : {gift : With} {n : ℕ} {ip port : Option ℕ} {s : Slot} → slice_get d.slots n ≡ Some s
+      → DirRow w h p d (event.Announce n s.generation ip port) gift (dir_answers (reply.WrongState s.kind) d)
+  AnnouncesTaken : {gift : With} {n : ℕ} {ip port : Option ℕ} {s : Slot} {m : ℕ} → slice_get d.slots n ≡ Some s
+      → DirRow w h p d (event.Announce n s.generation ip port) gift (dir_answers (reply.PortTaken m) d)
+  Announces : {gift : With} {n : ℕ} {ip port : Option ℕ} {s : Slot} → slice_get d.slots n ≡ Some s
+      → DirRow w h p d (event.Announce n s.generation ip port) gift
       (dir_leaves reply.Ok None
       (record (with_slot n (record s { kind = name.Announced; key = Some (record { ip = ip; port = port }) }) d) { ports = ports_with port d.ports }))
-  BindsWrong : {gift : With} {n g port : ℕ} {s : Slot} → slice_get d.slots n ≡ Some s
-      → DirRow w h p d (event.Bind n g port) gift (dir_answers (reply.WrongState s.kind) d)
-  BindsTaken : {gift : With} {n g port m : ℕ} → DirRow w h p d (event.Bind n g port) gift (dir_answers (reply.PortTaken m) d)
-  Binds : {gift : With} {n g port : ℕ} {s : Slot} → slice_get d.slots n ≡ Some s
-      → DirRow w h p d (event.Bind n g port) gift
+  BindsWrong : {gift : With} {n port : ℕ} {s : Slot} → slice_get d.slots n ≡ Some s
+      → DirRow w h p d (event.Bind n s.generation port) gift (dir_answers (reply.WrongState s.kind) d)
+  BindsTaken : {gift : With} {n port m : ℕ} {s : Slot} → slice_get d.slots n ≡ Some s
+      → DirRow w h p d (event.Bind n s.generation port) gift (dir_answers (reply.PortTaken m) d)
+  Binds : {gift : With} {n port : ℕ} {s : Slot} → slice_get d.slots n ≡ Some s
+      → DirRow w h p d (event.Bind n s.generation port) gift
       (dir_leaves reply.Ok None (record (with_slot n (record s { bound = Some port }) d) { ports = with_port port d.ports }))
   -- listen
-  ListensNone : {gift : With} {n : ℕ} → DirRow w h p d (event.Listen n) gift (dir_answers reply.NoFile d)
+  ListensNone : {gift : With} {n : ℕ} {s : Slot} → slice_get d.slots n ≡ Some s
+      → DirRow w h p d (event.Listen n) gift (dir_answers reply.NoFile d)
   ListensWrong : {gift : With} {n : ℕ} {s : Slot} → slice_get d.slots n ≡ Some s
       → DirRow w h p d (event.Listen n) gift (dir_answers (reply.WrongState s.kind) d)
   Listens : {gift : With} {n : ℕ} {s : Slot} {c : Call} {calls : List Call} → slice_get d.slots n ≡ Some s → s.calls ≡ c ∷ calls
       → DirRow w h p d (event.Listen n) gift (dir_leaves (reply.Call c.slot c.generation) None (with_slot n (record s { calls = calls }) d))
   -- withdraw and release
-  Withdraws : {gift : With} {n g : ℕ} {s : Slot} → slice_get d.slots n ≡ Some s
-      → DirRow w h p d (event.Withdraw n g) gift (withdraws n d s)
-  Frees : {gift : With} {n g : ℕ} {s : Slot} → slice_get d.slots n ≡ Some s → DirRow w h p d (event.Release n g) gift (frees n d s)
+  Withdraws : {gift : With} {n : ℕ} {s : Slot} → slice_get d.slots n ≡ Some s
+      → DirRow w h p d (event.Withdraw n s.generation) gift (withdraws n d s)
+  Frees : {gift : With} {n : ℕ} {s : Slot} → slice_get d.slots n ≡ Some s
+      → DirRow w h p d (event.Release n s.generation) gift (frees n d s)
   -- arrive
-  To : {packet : Packet} {n g : ℕ} → DirRow w h p d event.Arrive (given.Packet packet) (dir_answers (reply.To n g) d)
-  Bears : {packet : Packet} {t : Taker} → taker_of (pair_of packet) packet d ≡ Some t
+  To : {packet : Packet} {n : ℕ} {s : Slot} → is_of p packet.body ≡ true → first_slot (is_live_with (pair_of packet)) 0 d.slots ≡ Some (n, s)
+      → DirRow w h p d event.Arrive (given.Packet packet) (dir_answers (reply.To n s.generation) d)
+  Bears : {packet : Packet} {t : Taker} → is_of p packet.body ≡ true → taker_of (pair_of packet) packet d ≡ Some t
       → DirRow w h p d event.Arrive (given.Packet packet) (bears (home_at w h p) (pair_of packet) t d)
   Refuses : {packet : Packet} {m : IlMsg} → packet.body ≡ body.Il m → is_sync m.kind ≡ true
       → DirRow w h p d event.Arrive (given.Packet packet) (dir_leaves reply.Refused (Some (refusal m packet)) d)
