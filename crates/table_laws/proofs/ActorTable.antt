@@ -59,7 +59,7 @@ module _ (dbs : List Version) (h : HostSpec) (now : ℕ) (d : Desk) where
   refused path mode None = row.OpensNone
   refused path mode (Some n) = cond_both (may_open n mode) _ _ (λ (o : Option Reply). Replies (event.OpenPath path mode) o) (λ may. tt) (λ not. row.OpensNot)
 
-  desk_rows : (e : Event) → Replies e (desk_reply dbs h e now d)
+  pub desk_rows : (e : Event) → Replies e (desk_reply dbs h e now d)
   desk_rows (event.Cs query) = told query (cs_list (database_of dbs d.version) h.name h.nets query) refl
   desk_rows (event.LsPath path) = listed path
   desk_rows (event.OpenPath path mode) = refused path mode (walk path)

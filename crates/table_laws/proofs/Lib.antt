@@ -4,3 +4,4 @@ mod DirTable
 mod ActorTable
 mod Waiting
 mod Cores
+mod Copies
