@@ -31,7 +31,7 @@ use Rattle.net_base.specs.Duties.{Duty, follow_up, close_calls}
 use Rattle.net_base.specs.Routes.{Way, way}
 use Rattle.history_laws.proofs.Ordered.{Each, each_append}
 use Rattle.history_laws.proofs.Takers.{TakerFound, slot_found, taker_found}
-use Rattle.table_laws.specs.DirRows.{DirRow, slot_in}
+use Rattle.table_laws.specs.DirRows.{DirRow, pair_by, slot_in}
 use Rattle.table_laws.specs.DirRows as row
 use Rattle.table_laws.proofs.Shared.{dir_rows, map_some}
 use Rattle.progress_law.proofs.Duties.{AreSlots, IsCallIn, IsConvKind, IsBirth, bears, named, generation_in}
@@ -300,7 +300,8 @@ stale_owes h p s _ with n g names = refl
 row_moves : (w : World) (h : ℕ) (p : Proto) (d : Dir) (e : Event) (with : With) (t : Step Dir) → MayGive w h p d → AreSlots d.slots → DirRow w h p d e with t → Moves h p e with d t
 row_moves w h p d e with t may are (row.Stale {n = n} {g = g} names at other) = refuses h p e with d reply.Stale are (λ s. stale_owes h p s e with n g names)
 row_moves w h p d e with t may are (row.Reserves {n = n} {s = s} found) = reserve_moves h p with d (n, s) are (slot_found is_free d.slots (n, s) found).0
-row_moves w h p d e with t may are (row.Grants {n = n} {s = s} {pair = pair} {out = out} at by new) =
+row_moves w h p d e with t may are (row.Grants {n = n} {remote = remote} {s = s} {out = out} {own = own} at reserved by drawn other new) =
+    let pair = pair_by out own remote in
     keeps_and_follows h p d.slots n s.generation s (record s { kind = kind.Granted; pair = Some pair }) (event.Connect s.generation)
     (given.Grant pair (start_of (home_at w h p) d) (limit_of p out.mtu)) at refl refl refl are refl (may (limit_of p out.mtu) (limit_within p out.mtu)) refl
 row_moves w h p d e with t may are (row.Announces {n = n} {ip = ip} {port = port} {s = s} at) =

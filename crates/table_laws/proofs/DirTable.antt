@@ -4,7 +4,6 @@ use Rattle.std.specs.Prelude.{IfSome}
 use Rattle.std.proofs.lemmas.Bool.{cond_both, eqb-true}
 use Rattle.net_base.specs.declared.actor.Call.{Call}
 use Rattle.net_base.specs.declared.address.Addr.{Addr}
-use Rattle.net_base.specs.declared.address.Pair.{Pair}
 use Rattle.net_base.specs.declared.address.Proto.{Proto}
 use Rattle.net_base.specs.declared.event.Event.{Event}
 use Rattle.net_base.specs.declared.event.Event.TheVariants as event
@@ -23,7 +22,7 @@ use Rattle.net_base.specs.Directory as dir
 use Rattle.net_base.specs.Directory.{Dir, Slot, Taker, dir_step, home_at, pair_of}
 use Rattle.net_base.specs.Routes.{Way, way}
 use Rattle.net_base.specs.Same.{same_addr}
-use Rattle.table_laws.specs.DirRows.{DirRow, slot_in}
+use Rattle.table_laws.specs.DirRows.{DirRow, pair_by, slot_in}
 use Rattle.table_laws.specs.DirRows as row
 
 module _ (w : World) (h : ℕ) (p : Proto) (d : Dir) where
@@ -51,22 +50,23 @@ module _ (w : World) (h : ℕ) (p : Proto) (d : Dir) where
     abbrev grant : Event
     grant = event.Grant n s.generation remote asked
 
-    granted_pair : (out : Way) → way w h remote.ip ≡ Some out → (pair : Pair) (o : Option ℕ) → dir.pair_place pair 1 d.pairs ≡ o
-        → Is grant gift (dir.grants_pair o (home_at w h p) n s pair out.mtu d)
-    granted_pair out by pair None new = row.Grants at by new
-    granted_pair out by pair (Some k) new = row.PairUsed at
+    granted_pair : (out : Way) (own : ℕ) → dir.is_reserved s.kind ≡ true → way w h remote.ip ≡ Some out → dir.port_for asked s.bound d ≡ Some own
+        → same_addr (pair_by out own remote).local remote ≡ false → (o : Option ℕ) → dir.pair_place (pair_by out own remote) 1 d.pairs ≡ o
+        → Is grant gift (dir.grants_pair o (home_at w h p) n s (pair_by out own remote) out.mtu d)
+    granted_pair out own reserved by drawn other None new = row.Grants at reserved by drawn other new
+    granted_pair out own reserved by drawn other (Some k) new = row.PairUsed at
 
-    granted_by : (out : Option Way) → way w h remote.ip ≡ out → (port : Option ℕ) → Is grant gift (dir.grants_by out port (home_at w h p) n s remote d)
-    granted_by None by port = row.NoRoute at
-    granted_by (Some out) by None = row.NoPort at
-    granted_by (Some out) by (Some port) =
-        let pair : Pair = record { local = record { ip = out.source; port = port }; remote = remote } in
-        either grant gift (same_addr pair.local remote) _ _ (λ self. row.SelfPair at)
-        (λ other. granted_pair out by pair (dir.pair_place pair 1 d.pairs) refl)
+    granted_by : dir.is_reserved s.kind ≡ true → (out : Option Way) → way w h remote.ip ≡ out → (port : Option ℕ) → dir.port_for asked s.bound d ≡ port
+        → Is grant gift (dir.grants_by out port (home_at w h p) n s remote d)
+    granted_by reserved None by port drawn = row.NoRoute at
+    granted_by reserved (Some out) by None drawn = row.NoPort at
+    granted_by reserved (Some out) by (Some own) drawn =
+        either grant gift (same_addr (pair_by out own remote).local remote) _ _ (λ self. row.SelfPair at)
+        (λ other. granted_pair out own reserved by drawn other (dir.pair_place (pair_by out own remote) 1 d.pairs) refl)
 
     granted : Is grant gift (dir.grants (home_at w h p) n remote asked d s)
     granted =
-        either grant gift (dir.is_reserved s.kind) _ _ (λ reserved. granted_by (way w h remote.ip) refl (dir.port_for asked s.bound d))
+        either grant gift (dir.is_reserved s.kind) _ _ (λ reserved. granted_by reserved (way w h remote.ip) refl (dir.port_for asked s.bound d) refl)
         (λ other. row.GrantsWrong at)
 
   announced : (gift : With) (n : ℕ) (ip port : Option ℕ) (s : Slot) → slice_get d.slots n ≡ Some s

@@ -78,7 +78,7 @@ module _ (Q : List Call → Type 0) (w : World) (h : ℕ) (p : Proto) (d : Dir) 
 
   pub waiting_stays : (e : Event) (gift : With) (s : Step Dir) → DirRow w h p d e gift s → EachWaiting Q s.state.slots
   waiting_stays e gift s (row.Reserves {n = n} found) = set Q d.slots n _ all keeps.none
-  waiting_stays e gift s (row.Grants {n = n} {s = x} there by new) = set Q d.slots n _ all (at n x there)
+  waiting_stays e gift s (row.Grants {n = n} {s = x} there reserved by drawn other new) = set Q d.slots n _ all (at n x there)
   waiting_stays e gift s (row.Announces {n = n} {s = x} there) = set Q d.slots n _ all (at n x there)
   waiting_stays e gift s (row.Binds {n = n} {s = x} there) = set Q d.slots n _ all (at n x there)
   waiting_stays e gift s (row.Listens {n = n} {s = x} {c = c} {calls = calls} there wait) = set Q d.slots n _ all (heard x c calls wait (at n x there))
@@ -100,7 +100,7 @@ many_set (x ∷ ss) (suc n) s = ap suc (many_set ss n s)
 
 pub slots_stay : (w : World) (h : ℕ) (p : Proto) (d : Dir) (e : Event) (gift : With) (s : Step Dir) → DirRow w h p d e gift s → length s.state.slots ≡ length d.slots
 slots_stay w h p d e gift s (row.Reserves {n = n} found) = many_set d.slots n _
-slots_stay w h p d e gift s (row.Grants {n = n} there by new) = many_set d.slots n _
+slots_stay w h p d e gift s (row.Grants {n = n} there reserved by drawn other new) = many_set d.slots n _
 slots_stay w h p d e gift s (row.Announces {n = n} there) = many_set d.slots n _
 slots_stay w h p d e gift s (row.Binds {n = n} there) = many_set d.slots n _
 slots_stay w h p d e gift s (row.Listens {n = n} there wait) = many_set d.slots n _

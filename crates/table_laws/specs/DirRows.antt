@@ -17,9 +17,10 @@ use Rattle.net_base.specs.declared.reply.Reply.TheVariants as reply
 use Rattle.net_base.specs.declared.world.World.{World}
 use Rattle.net_base.specs.ActorStep.{Step}
 use Rattle.net_base.specs.Conversation.{is_sync}
-use Rattle.net_base.specs.Directory.{Dir, Key, Slot, Taker, bears, dir_answers, dir_leaves, first_slot, free_slot, frees, home_at, is_free, is_live_with, is_of, limit_of, pair_of, pair_place, ports_with, refusal, start_of, starts_after, taken_from, taker_of, with_port, withdraws}
+use Rattle.net_base.specs.Directory.{Dir, Key, Slot, Taker, bears, dir_answers, dir_leaves, first_slot, free_slot, frees, home_at, is_free, is_live_with, is_of, is_reserved, limit_of, pair_of, pair_place, port_for, ports_with, refusal, start_of, starts_after, taken_from, taker_of, with_port, withdraws}
 use Rattle.net_base.specs.Paths.{names}
 use Rattle.net_base.specs.Routes.{Way, way}
+use Rattle.net_base.specs.Same.{same_addr}
 
 -- the slot that an event names, with its generation
 abbrev pub slot_in : Event → Option (ℕ × ℕ)
@@ -33,6 +34,10 @@ slot_in _ = None
 -- the directory with a slot put in the place of one
 abbrev pub with_slot : ℕ → Slot → Dir → Dir
 with_slot n s d = record d { slots = slice_set d.slots n s }
+
+-- the pair by this way and from this port
+abbrev pub pair_by : Way → ℕ → Addr → Pair
+pair_by out own remote = record { local = record { ip = out.source; port = own }; remote = remote }
 
 -- the steps of the directory of a host and protocol: each with its event, what that is given, and where it is so
 pub data DirRow (w : World) (h : ℕ) (p : Proto) (d : Dir) : Event → With → Step Dir → Type 0 where
@@ -55,13 +60,14 @@ pub data DirRow (w : World) (h : ℕ) (p : Proto) (d : Dir) : Event → With →
       → DirRow w h p d (event.Grant n s.generation remote port) gift (dir_answers reply.SelfPair d)
   PairUsed : {gift : With} {n : ℕ} {remote : Addr} {port : Option ℕ} {s : Slot} {k : ℕ} → slice_get d.slots n ≡ Some s
       → DirRow w h p d (event.Grant n s.generation remote port) gift (dir_answers (reply.PairUsed k) d)
-  Grants : {gift : With} {n : ℕ} {remote : Addr} {port : Option ℕ} {s : Slot} {pair : Pair} {out : Way} → slice_get d.slots n ≡ Some s
-      → way w h remote.ip ≡ Some out → pair_place pair 1 d.pairs ≡ None
+  Grants : {gift : With} {n : ℕ} {remote : Addr} {port : Option ℕ} {s : Slot} {out : Way} {own : ℕ} → slice_get d.slots n ≡ Some s
+      → is_reserved s.kind ≡ true → way w h remote.ip ≡ Some out → port_for port s.bound d ≡ Some own
+      → same_addr (pair_by out own remote).local remote ≡ false → pair_place (pair_by out own remote) 1 d.pairs ≡ None
       → DirRow w h p d (event.Grant n s.generation remote port) gift
-      (dir_leaves (reply.Granted pair (start_of (home_at w h p) d) (limit_of p out.mtu)) None
-      (record (with_slot n (record s { kind = name.Granted; pair = Some pair }) d) {
-        pairs = d.pairs ++ pair ∷ [];
-        ports = with_port pair.local.port d.ports;
+      (dir_leaves (reply.Granted (pair_by out own remote) (start_of (home_at w h p) d) (limit_of p out.mtu)) None
+      (record (with_slot n (record s { kind = name.Granted; pair = Some (pair_by out own remote) }) d) {
+        pairs = d.pairs ++ pair_by out own remote ∷ [];
+        ports = with_port own d.ports;
         starts = starts_after p d.starts;
       }))
   -- announce and bind
