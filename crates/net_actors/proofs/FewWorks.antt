@@ -245,7 +245,7 @@ size_of (IsMedium m) = m.frames
 size_of _ = 0
 
 medium_grows : (spec : MediumSpec) (seed : ℕ) (m : Medium) (e : Event) (w : With) (s : Step Medium) → MediumRow spec seed m e w s → s.state.frames ≤ m.frames + 1
-medium_grows spec seed m e w s Lays = omega arith
+medium_grows spec seed m e w s (Lays fits) = omega arith
 medium_grows spec seed m e w s _ = one_more m.frames
 
 row_grows : (w : World) (now : ℕ) (a : ActorName) (s : Actor) (e : Event) (gift : With) (t : Step Actor) → ActorRow w now a s e gift t → size_of t.state ≤ size_of s + 1

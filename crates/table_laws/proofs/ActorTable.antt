@@ -76,7 +76,7 @@ module _ (spec : MediumSpec) (seed : ℕ) (m : Medium) where
   put None p = row.NoStation
   put (Some to) p =
       cond_both (nat_lt spec.mtu (datagram_length p.body)) _ _ (λ (s : Step Medium). MediumRow spec seed m (event.Put (Some to)) (given.Packet p) s)
-      (λ long. row.TooBig) (λ fits. row.Lays)
+      (λ long. row.TooBig long) (λ fits. row.Lays fits)
 
   taken : (gift : With) (queue held : List Taken) → m.queue ≡ queue → m.held ≡ held
       → IfSome (takes queue held m) (λ (s : Step Medium). MediumRow spec seed m event.Take gift s)

@@ -1,5 +1,5 @@
 -- What each row of an actor's table leaves.
-use Rattle.std.specs.Prelude.{◌≡◌, ℕ, ◌+◌, true, List, [], ◌∷◌, Option, Some, None, nat_le, slice_get}
+use Rattle.std.specs.Prelude.{◌≡◌, ℕ, ◌+◌, true, false, List, [], ◌∷◌, Option, Some, None, nat_le, nat_lt, slice_get}
 use Rattle.net_base.specs.declared.actor.ActorName.{ActorName}
 use Rattle.net_base.specs.declared.actor.ActorName.TheVariants as name
 use Rattle.net_base.specs.declared.address.Proto.{Proto}
@@ -23,7 +23,7 @@ use Rattle.net_base.specs.Conversation.{Conv}
 use Rattle.net_base.specs.Cs.{Lines, Refused, cs_list}
 use Rattle.net_base.specs.Desk.{Desk, desk_replies}
 use Rattle.net_base.specs.Directory.{Dir}
-use Rattle.net_base.specs.Medium.{Medium, fate_of, lays, medium_leaves}
+use Rattle.net_base.specs.Medium.{Medium, datagram_length, fate_of, lays, medium_leaves}
 use Rattle.net_base.specs.Paths.{names}
 use Rattle.net_base.specs.Versions.{database_of, in_force}
 use Rattle.table_laws.specs.ConvRows.{ConvRow}
@@ -47,8 +47,9 @@ pub data DeskRow (dbs : List Version) (h : HostSpec) (now : ℕ) (d : Desk) : Ev
 -- the steps of a medium, each with its event and what that is given
 pub data MediumRow (spec : MediumSpec) (seed : ℕ) (m : Medium) : Event → With → Step Medium → Type 0 where
   NoStation : {p : Packet} → MediumRow spec seed m (event.Put None) (given.Packet p) (medium_leaves reply.NoStation None m)
-  TooBig : {p : Packet} {to : ℕ} → MediumRow spec seed m (event.Put (Some to)) (given.Packet p) (medium_leaves reply.TooBig None m)
-  Lays : {p : Packet} {to : ℕ}
+  TooBig : {p : Packet} {to : ℕ} → nat_lt spec.mtu (datagram_length p.body) ≡ true
+      → MediumRow spec seed m (event.Put (Some to)) (given.Packet p) (medium_leaves reply.TooBig None m)
+  Lays : {p : Packet} {to : ℕ} → nat_lt spec.mtu (datagram_length p.body) ≡ false
       → MediumRow spec seed m (event.Put (Some to)) (given.Packet p)
       (lays (fate_of seed spec (m.frames + 1)) (record { frame = m.frames + 1; to = to; packet = p }) m)
   Takes : {gift : With} {t : Taken} {rest : List Taken} → m.queue ≡ t ∷ rest
