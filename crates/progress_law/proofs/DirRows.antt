@@ -317,7 +317,7 @@ row_moves w h p d e with t may are (row.To {packet = packet} {n = n} {s = s} of 
 row_moves w h p d e with t may are (row.Bears {packet = packet} {t = taker} of takes) = bear_moves w h p packet d taker may are of (taker_found (pair_of packet) packet d taker takes)
 row_moves w h p d e with t may are (row.Refuses {packet = packet} said sync) =
     still h p d.slots (λ s. follow_up (name.Dir h p) s event.Arrive (given.Packet packet) reply.Refused) are (λ s. refl)
-row_moves w h p d e with t may are _ = refuses h p e with d _ are (λ s. refl)
+row_moves w h p d e with t may are _ = refuses h p e with d t.outcome.reply are (λ s. refl)
 
 pub dir_moves : (w : World) (h : ℕ) (p : Proto) (e : Event) (with : With) (d : Dir) → MayGive w h p d → AreSlots d.slots → MovesIf h p e with d (dir_step w h p e with d)
 dir_moves w h p e with d may are = map_some (dir_step w h p e with d) _ _ (dir_rows w h p d e with) (λ t row. row_moves w h p d e with t may are row)
