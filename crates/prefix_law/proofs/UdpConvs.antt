@@ -103,7 +103,7 @@ module _ (K : Given → Type 0) (W : Pair → List ℕ → Type 0) (h n : ℕ) w
   module _ (c : Conv) (e : UdpEnd) (f : Fine c e) where
     -- what came at the end of a row
     at_end : (x : UdpEnd) → ◌≡◌ {A = Core} (Udp e) (Udp x) → EachCame K W h n c.generation x.unread
-    at_end x is = subst (λ (y : UdpEnd). EachCame K W h n c.generation y.unread) (cc is) f.1
+    at_end x is = let same : e ≡ x = cc is in subst (λ (y : UdpEnd). EachCame K W h n c.generation y.unread) same f.1
 
     -- the first datagram is read
     takes_first : (gift : With) (count : ℕ) (x : UdpEnd) (text : List ℕ) (texts : List (List ℕ)) → ◌≡◌ {A = Core} (Udp e) (Udp x) → x.unread ≡ text ∷ texts
