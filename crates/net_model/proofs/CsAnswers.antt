@@ -15,12 +15,18 @@ use Rattle.net_base.specs.declared.history.With.{With}
 use Rattle.net_base.specs.declared.history.Work.{Work}
 use Rattle.net_base.specs.declared.reply.Reply.{Reply}
 use Rattle.net_base.specs.declared.reply.Reply.TheVariants as reply
+use Rattle.net_base.specs.declared.address.Proto.{Proto}
 use Rattle.net_base.specs.declared.world.HostSpec.{HostSpec}
+use Rattle.net_base.specs.declared.world.MediumSpec.{MediumSpec}
+use Rattle.net_base.specs.declared.world.Version.{Version}
 use Rattle.net_base.specs.declared.world.World.{World}
 use Rattle.net_base.specs.ActorStep.{Step, replies, when}
 use Rattle.net_base.specs.Actors.{Actor, IsDesk, actor_step, has_actor, step_as}
 use Rattle.net_base.specs.Cs.{cs_list}
 use Rattle.net_base.specs.Desk.{Desk, cs_reply, desk_after, desk_replies, desk_reply, desk_step}
+use Rattle.net_base.specs.Conversation.{Conv}
+use Rattle.net_base.specs.Directory.{Dir}
+use Rattle.net_base.specs.Medium.{Medium}
 use Rattle.net_base.specs.Legal.{IsLegal, MayFollow, Shown, Shows}
 use Rattle.net_base.specs.Net.{Net, after, net_after, step_of, stepped_to, work_of}
 use Rattle.net_base.specs.Stamped.{same_actor}
@@ -128,20 +134,24 @@ by_desk : (dbs : List Version) (host : HostSpec) (now : ℕ) (d : Desk) (query :
 by_desk dbs host now d query r (Tells is) = sym (ap cs_reply is)
 by_desk dbs host now d query r (Refuses is) = sym (ap cs_reply is)
 
+-- no other table has a row for a query
+no_dir : (w : World) (h : ℕ) (p : Proto) (d : Dir) (query : List ℕ) (gift : With) (s : Step Dir) → DirRow w h p d (event.Cs query) gift s → ⊥
+no_dir w h p d query gift s (dir_row.Stale names at other) = none-some _ names
+
+no_conv : (slot now : ℕ) (c : Conv) (query : List ℕ) (gift : With) (s : Step Conv) → ConvRow slot now c (event.Cs query) gift s → ⊥
+no_conv slot now c query gift s (conv_row.Stale names old) = none-some _ names
+
+no_medium : (spec : MediumSpec) (seed : ℕ) (m : Medium) (query : List ℕ) (gift : With) (s : Step Medium) → MediumRow spec seed m (event.Cs query) gift s → ⊥
+no_medium spec seed m query gift s row = elim row [ ]
+
 by_row : (w : World) (now : ℕ) (a : ActorName) (s : Actor) (e : Event) (query : List ℕ) (gift : With) (t : Step Actor) → e ≡ event.Cs query → ActorRow w now a s e gift t
     → IsDesks w query (version_of s) a t.outcome.reply
-by_row w now a s e query gift t is (AtDesk {h = n} {host = host} {d = d} {r = r} there row) =
-    (n, host, there, refl, by_desk w.dbs host now d query r (subst (λ (x : Event). DeskRow w.dbs host now d x r) is row))
-by_row w now a s e query gift t is (AtDir {h = h} {p = p} {d = d} {s = x} row) = absurd (no_dir (subst (λ (y : Event). DirRow w h p d y gift x) is row))
-  where
-    no_dir : DirRow w h p d (event.Cs query) gift x → ⊥
-    no_dir (dir_row.Stale names at other) = none-some _ names
-by_row w now a s e query gift t is (AtConv {n = n} {c = c} {s = x} row) = absurd (no_conv (subst (λ (y : Event). ConvRow n now c y gift x) is row))
-  where
-    no_conv : ConvRow n now c (event.Cs query) gift x → ⊥
-    no_conv (conv_row.Stale names old) = none-some _ names
+by_row w now a s e query gift t is (AtDesk {h = h} {host = host} {d = d} {r = r} there row) =
+    (h, host, there, refl, by_desk w.dbs host now d query r (subst (λ (x : Event). DeskRow w.dbs host now d x r) is row))
+by_row w now a s e query gift t is (AtDir {h = h} {p = p} {d = d} {s = x} row) = absurd (no_dir w h p d query gift x (subst (λ (y : Event). DirRow w h p d y gift x) is row))
+by_row w now a s e query gift t is (AtConv {n = n} {c = c} {s = x} row) = absurd (no_conv n now c query gift x (subst (λ (y : Event). ConvRow n now c y gift x) is row))
 by_row w now a s e query gift t is (AtMedium {spec = spec} {m = m} {s = x} there row) =
-    elim (subst (λ (y : Event). MediumRow spec w.seed m y gift x) is row) []
+    absurd (no_medium spec w.seed m query gift x (subst (λ (y : Event). MediumRow spec w.seed m y gift x) is row))
 by_row w now a s e query gift t is AtClock = absurd (cc is)
 
 pub answers_cs : (w : World) (h : List Entry) (k : ℕ) (x : Entry) (query : List ℕ) → IsLegal w h → slice_get h k ≡ Some x → x.event ≡ event.Cs query → AnswersCs w (take k h) x query
