@@ -47,6 +47,8 @@ use Rattle.prefix_law.proofs.Touch.{IsIn, HeardClose, Utters, Owned, Later, Emit
 use Rattle.prefix_law.proofs.ConvSteps.{GiftFine, owned_more, conv_steps}
 use Rattle.prefix_law.proofs.DirSteps.{WithFine, EachDuty, SlotIsFine, DirIsFine, Addressed, DirStep, all_free}
 use Rattle.prefix_law.proofs.DirRows.{dir_steps}
+use Rattle.table_laws.specs.ActorRows.{seen_as}
+use Rattle.table_laws.proofs.Shared.{map_some}
 use Rattle.prefix_law.proofs.OtherSteps.{IsUdp, harmless_emitted, udp_steps, dir_harmless, udp_dir_follow, conv_follow, MediumFine, TakenIf, medium_grows, medium_steps}
 use Rattle.history_laws.proofs.Histories.{after_push, by_entries}
 use Rattle.prefix_law.proofs.Accounts.{AllSized, AtEnd, given_by, Reading}
@@ -157,17 +159,9 @@ map_if : {S T : Type 0} (f : S → T) (o : Option S) (Q : T → Type 0) → IfSo
 map_if f None Q h = h
 map_if f (Some x) Q h = h
 
-weaker_if : {S : Type 0} (o : Option S) (P Q : S → Type 0) → IfSome o P → ((s : S) → P s → Q s) → IfSome o Q
-weaker_if None P Q h f = h
-weaker_if (Some x) P Q h f = f x h
-
 both_if : {S : Type 0} (o : Option S) (P Q R : S → Type 0) → IfSome o P → IfSome o Q → ((s : S) → P s → Q s → R s) → IfSome o R
 both_if None P Q R h i f = h
 both_if (Some x) P Q R h i f = f x h i
-
--- the step of one kind of actors, as a step of any
-abbrev seen_as : {S : Type 0} → (S → Actor) → Step S → Step Actor
-seen_as actor s = record { state = actor s.state; outcome = s.outcome }
 
 -- where the world doesn't have the actor there is no step
 table_if : {S : Type 0} (b : Bool) (o : Option S) (Q : S → Type 0) → IfSome o Q → IfSome (when b o) Q
@@ -315,7 +309,7 @@ module _ (w : World) (world : HasPlaces w) (k : ℕ) (few : k < 2 ^ 31) (net : N
           subst (λ (d : Conv). IfSome (table_step w (actor.Conv h proto.Udp n) (IsConv d) net.moment (record { event = ev; with = gift })) (λ s. Leaves (actor.Conv h proto.Udp n) t s))
           (ap (λ (x : Core). record c { core = x }) (sym is))
           (map_if (seen_as IsConv) (conv_step n ev gift net.moment (record c { core = Udp e })) _
-          (weaker_if (conv_step n ev gift net.moment (record c { core = Udp e })) _ _ (udp_steps n ev gift net.moment c e)
+          (map_some (conv_step n ev gift net.moment (record c { core = Udp e })) _ _ (udp_steps n ev gift net.moment c e)
           (λ s x. leaves s x.0 (harmless_emitted t s.outcome.emit x.1))))
   udp_next h n _ fine = absurd fine
 
@@ -327,7 +321,7 @@ module _ (w : World) (world : HasPlaces w) (k : ℕ) (few : k < 2 ^ 31) (net : N
       by_spec None = tt
       by_spec (Some spec) =
           map_if (seen_as IsMedium) (medium_step spec w.seed ev gift x) _
-          (weaker_if (medium_step spec w.seed ev gift x) _ _ (medium_steps w t m spec w.seed ev gift x fine gift_fine)
+          (map_some (medium_step spec w.seed ev gift x) _ _ (medium_steps w t m spec w.seed ev gift x fine gift_fine)
           (λ s step. quiet_leaves (actor.Medium m) (seen_as IsMedium s)
           (record {
             convs = f.all.convs;
@@ -355,7 +349,7 @@ module _ (w : World) (world : HasPlaces w) (k : ℕ) (few : k < 2 ^ 31) (net : N
       → IfSome (table_step w (actor.Dir h proto.Udp) a net.moment (record { event = ev; with = gift })) (λ s. Leaves (actor.Dir h proto.Udp) t s)
   udp_dir_next h (IsDir d) =
       map_if (seen_as IsDir) (dir_step w h proto.Udp ev gift d) _
-      (weaker_if (dir_step w h proto.Udp ev gift d) _ _ (dir_harmless w h proto.Udp ev gift d)
+      (map_some (dir_step w h proto.Udp ev gift d) _ _ (dir_harmless w h proto.Udp ev gift d)
       (λ s x. quiet_leaves (actor.Dir h proto.Udp) (seen_as IsDir s)
       (record {
         convs = f.all.convs;
@@ -427,7 +421,7 @@ module _ (w : World) (world : HasPlaces w) (k : ℕ) (few : k < 2 ^ 31) (net : N
       → IfSome (table_step w (actor.Dir h proto.Il) a net.moment (record { event = ev; with = gift })) (λ s. Leaves (actor.Dir h proto.Il) (actor_trace (actor.Dir h proto.Il) s.state (record { event = ev; with = gift }) s.outcome t) s)
   dir_next h (IsDir d) fine gift_fine =
       map_if (seen_as IsDir) (dir_step w h proto.Il ev gift d) _
-      (weaker_if (dir_step w h proto.Il ev gift d) _ _ (dir_steps w world k h (length net.past) t f.owned f.addressed ev gift d fine gift_fine) (λ s step. dir_leaves h s step))
+      (map_some (dir_step w h proto.Il ev gift d) _ _ (dir_steps w world k h (length net.past) t f.owned f.addressed ev gift d fine gift_fine) (λ s step. dir_leaves h s step))
   dir_next h _ fine gift_fine = absurd fine
 
   -- any actor
