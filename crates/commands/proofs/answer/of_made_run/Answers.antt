@@ -2,7 +2,7 @@ use Rattle.std.proofs.Common.{sym, subst}
 use Rattle.net_base.specs.Net.{after}
 use Rattle.commands.specs.Built.{IsStatus}
 use Rattle.commands.proofs.RunEnds.{status_is}
-use Rattle.commands.proofs.answer.Answer.big.Goals as goal
+use Rattle.commands.proofs.answer.of_made_run.Goals as goal
 
 pub returns : goal.returns
 returns c =

@@ -3,7 +3,7 @@ use Rattle.net_base.specs.Net.{after}
 use Rattle.commands.specs.Built.{IsStatus}
 use Rattle.commands.proofs.Exported.{export_text, same_count}
 use Rattle.commands.proofs.RunEnds.{status_is}
-use Rattle.commands.proofs.answer.Answer.export.Goals as goal
+use Rattle.commands.proofs.answer.of_export.Goals as goal
 
 pub put_sessions-requires : goal.put_sessions-requires
 put_sessions-requires g c =

@@ -3,7 +3,7 @@ use Rattle.net_base.specs.Net.{after}
 use Rattle.commands.specs.Built.{IsStatus}
 use Rattle.commands.proofs.OneHistory.{only_one}
 use Rattle.commands.proofs.RunEnds.{status_is}
-use Rattle.commands.proofs.answer.Answer.of_books.Goals as goal
+use Rattle.commands.proofs.answer.of_books.Goals as goal
 
 pub returns : goal.returns
 returns c =
