@@ -1,14 +1,15 @@
 -- How the parts of a call make its end.
-use Rattle.std.proofs.Common.{◌≡◌, ◌≢◌, ℕ, ◌+◌, ◌<◌, Bool, true, false, List, ◌++◌, length, Option, Some, None, Result, Ok, Err, refl, sym, ◌∙◌, subst, inr, arith}
-use Rattle.std.proofs.lemmas.Bool.{true≢false}
+use Rattle.std.proofs.Common.{◌≡◌, ◌≢◌, ℕ, ◌+◌, ◌<◌, true, List, ◌++◌, length, Option, Some, None, Result, Ok, Err, refl, sym, subst, inr, arith}
 use Rattle.std.proofs.lemmas.List.{length-append}
+use Rattle.std.specs.Fmt.{digits}
 use Rattle.std.specs.Io.KnownBytes.{Consumes}
+use Rattle.std.specs.Prelude.{codes}
 use Rattle.outside.specs.Streams.{ConsumedToEnd, Rose}
 use Rattle.outside.specs.declared.fault.TakeError.{TakeError}
 use Rattle.outside.specs.declared.fault.TakeError.TheVariants as error
 use Rattle.net_model.specs.Answers.{Answer, bad_input}
 use Rattle.command_line.specs.Asking.{Asking}
-use Rattle.command_line.specs.Calls.{Intake, IsInput, IsUnread, Output}
+use Rattle.command_line.specs.Calls.{Intake, IsInput, Output, Told}
 use Rattle.command_line.specs.Ends.{Answers, Ends, IsAnswered, IsRead, IsTold, Took, TookSome, answered, no_memory, unread}
 use Rattle.command_line.proofs.BadLines.{answer_too_long, too_long_is_over}
 
@@ -29,6 +30,20 @@ large_is_no_fault same = cc
 
 memory_is_no_fault : failing error.Memory ≡ failing error.Failed → ⊥
 memory_is_no_fault same = cc
+
+-- the text of an input over the limit
+too_long_text : codes "! line 0 cause 9\n" ≡ (bad_input 0 9).text
+unfolding digits
+too_long_text = refl
+
+-- how what became of a command is told
+pub told_too_long : (status : ℕ) (output : Output) → Told (record { status = 2; text = codes "! line 0 cause 9\n" }) status output
+    → Told (bad_input 0 9) status output
+told_too_long status output told = subst (λ (t : List ℕ). Told (record { status = 2; text = t }) status output) too_long_text told
+
+pub told_so : (became other : Result Answer TakeError) → became ≡ other → (status : ℕ) (output : Output) → IsTold other status output
+    → IsTold became status output
+told_so became other is status output told = subst (λ (r : Result Answer TakeError). IsTold r status output) (sym is) told
 
 module _ (C : Type 0) (asking : Asking C) (asked : C) (intake : Intake) where
   -- what a command with an input took

@@ -43,8 +43,8 @@ module _ (C : Type 0) (asking : Asking C) (sound : Sound asking) where
   bad_reads asked input bad is = by (asking.reads asked) refl
     where
       by : (has : Bool) → asking.reads asked ≡ has → asking.reads asked ≡ true
-      by true yes = yes
-      by false no = sound.reads asked input bad (told_of C asking asked input false (rw no refl) (Some bad) is)
+      by true has = has
+      by false none = sound.reads asked input bad (told_of C asking asked input false (rw none refl) (Some bad) is)
 
   -- an answer's status is none of the others
   no_answer : (asked : C) (input : List ℕ) (answer : Answer) (n : ℕ) → IsAnswer asking asked input answer → answer.status ≡ n → Apart n → ⊥

@@ -80,16 +80,6 @@ begun_by left s (Some called) = asks_once (request.Unbound called)
 abbrev pub begun : Left → Step → StepTask
 begun left s = begun_by left s (find (is_remote left) (new_names s))
 
--- the steps over calls
-abbrev pub is_import : Step → Bool
-is_import (step.Export called) = true
-is_import (step.Import call) = true
-is_import (step.Ropen called call path m) = true
-is_import (step.Rread called count) = true
-is_import (step.Rwrite called text) = true
-is_import (step.Rclose called) = true
-is_import _ = false
-
 -- Requests and replies.
 
 -- the next request under these names

@@ -235,70 +235,23 @@ fn begin(alloc: Global, step: &Step, left: &Left) -> Result<StepTask, AllocError
 {
     match step {
         Step::Open { name, path, mode } => Ok(once(open(name, path, *mode)?)),
-        Step::Read { name, count } => Ok(once(Request::Read {
-            name: name.clone()?,
-            count: *count,
-        })),
+        Step::Read { name, count } => Ok(once(read(name, *count)?)),
         Step::Write { name, text } => write(name, text),
         Step::Writex { name, text } => write(name, text),
-        Step::Close { name } => Ok(once(Request::Close {
-            name: name.clone()?,
-        })),
-        Step::Ls { path } => Ok(once(Request::Ls {
-            path: path.clone()?,
-        })),
-        Step::Cs { query } => Ok(once(Request::Cs {
-            query: query.clone()?,
-        })),
+        Step::Close { name } => close(name),
+        Step::Ls { path } => list(path),
+        Step::Cs { query } => ask_cs(query),
         Step::Until { moment } => Ok(once(Request::Until { moment: *moment })),
         Step::Refresh => Ok(once(Request::Refresh)),
-        Step::Dial { name, address } => Ok(StepTask::Dial(Dial::new(
-            alloc,
-            name.as_slice(),
-            address.as_slice(),
-        )?)),
-        Step::Announce { name, address } => Ok(StepTask::Announce(Announce::new(
-            alloc,
-            name.as_slice(),
-            address.as_slice(),
-        )?)),
-        Step::Listen { name, from } => Ok(StepTask::Listen(Listen::new(
-            alloc,
-            name.as_slice(),
-            from.as_slice(),
-        )?)),
-        Step::Accept { name, from } => Ok(StepTask::Accept(Accept::new(
-            alloc,
-            name.as_slice(),
-            from.as_slice(),
-        )?)),
+        Step::Dial { name, address } => dial(alloc, name, address),
+        Step::Announce { name, address } => announce(alloc, name, address),
+        Step::Listen { name, from } => listen(alloc, name, from),
+        Step::Accept { name, from } => accept(alloc, name, from),
         Step::Reject { name } => Ok(StepTask::Reject(Reject::new(alloc, name.as_slice())?)),
         Step::Hangup { name } => hang_up(alloc, name),
-        Step::Hread { name, count } => Ok(StepTask::Hread(Hread::new(
-            alloc,
-            name.as_slice(),
-            *count,
-        )?)),
-        Step::Hwrite { name, bytes } => Ok(StepTask::Hwrite(Hwrite::new(
-            alloc,
-            name.as_slice(),
-            bytes.as_slice(),
-        )?)),
+        Step::Hread { name, count } => hread(alloc, name, *count),
+        Step::Hwrite { name, bytes } => hwrite(alloc, name, bytes),
         Step::Dns { name, times } => Ok(StepTask::Dns(Dns::new(alloc, name.as_slice(), *times)?)),
-        Step::Export { .. } => begin_import(alloc, step, left),
-        Step::Import { .. } => begin_import(alloc, step, left),
-        Step::Ropen { .. } => begin_import(alloc, step, left),
-        Step::Rread { .. } => begin_import(alloc, step, left),
-        Step::Rwrite { .. } => begin_import(alloc, step, left),
-        Step::Rclose { .. } => begin_import(alloc, step, left),
-    }
-}
-
-// What a step over a call begins with.
-fn begin_import(alloc: Global, step: &Step, left: &Left) -> Result<StepTask, AllocError>
-    ensures { spec.is_import step.now ≡ true → IfOk result (λ t. t ≡ spec.begun_own left.now step.now) }
-{
-    match step {
         Step::Export { name } => export(alloc, name),
         Step::Import { name } => Ok(StepTask::Import(Import::new(alloc, name.as_slice())?)),
         Step::Ropen {
@@ -307,16 +260,91 @@ fn begin_import(alloc: Global, step: &Step, left: &Left) -> Result<StepTask, All
             path,
             mode,
         } => ropen(alloc, name, call, path, *mode, left),
-        Step::Rread { name, count } => Ok(StepTask::Rread(Rread::new(
-            alloc,
-            name.as_slice(),
-            *count,
-            left,
-        )?)),
+        Step::Rread { name, count } => rread(alloc, name, *count, left),
         Step::Rwrite { name, text } => rwrite(alloc, name, text, left),
-        Step::Rclose { name } => Ok(StepTask::Rclose(Rclose::new(alloc, name.as_slice(), left)?)),
-        _ => Ok(once(Request::Refresh)),
+        Step::Rclose { name } => rclose(alloc, name, left),
     }
+}
+
+fn read(name: &Octets, count: u32) -> Result<Request, AllocError>
+    ensures { IfOk result (λ q. q ≡ request.Read name.now count) }
+{
+    Ok(Request::Read {
+        name: name.clone()?,
+        count,
+    })
+}
+
+fn close(name: &Octets) -> Result<StepTask, AllocError>
+    ensures { IfOk result (λ t. t ≡ spec.asks_once (request.Close name.now)) }
+{
+    Ok(once(Request::Close {
+        name: name.clone()?,
+    }))
+}
+
+fn list(path: &Octets) -> Result<StepTask, AllocError>
+    ensures { IfOk result (λ t. t ≡ spec.asks_once (request.Ls path.now)) }
+{
+    Ok(once(Request::Ls {
+        path: path.clone()?,
+    }))
+}
+
+fn ask_cs(query: &Octets) -> Result<StepTask, AllocError>
+    ensures { IfOk result (λ t. t ≡ spec.asks_once (request.Cs query.now)) }
+{
+    Ok(once(Request::Cs {
+        query: query.clone()?,
+    }))
+}
+
+fn dial(alloc: Global, name: &Octets, address: &Octets) -> Result<StepTask, AllocError>
+    ensures { (left : AnyLeft) → IfOk result (λ t. t ≡ spec.begun_own left (step.Dial name.now address.now)) }
+{
+    Ok(StepTask::Dial(Dial::new(alloc, name.as_slice(), address.as_slice())?))
+}
+
+fn announce(alloc: Global, name: &Octets, address: &Octets) -> Result<StepTask, AllocError>
+    ensures { (left : AnyLeft) → IfOk result (λ t. t ≡ spec.begun_own left (step.Announce name.now address.now)) }
+{
+    Ok(StepTask::Announce(Announce::new(alloc, name.as_slice(), address.as_slice())?))
+}
+
+fn listen(alloc: Global, name: &Octets, from: &Octets) -> Result<StepTask, AllocError>
+    ensures { (left : AnyLeft) → IfOk result (λ t. t ≡ spec.begun_own left (step.Listen name.now from.now)) }
+{
+    Ok(StepTask::Listen(Listen::new(alloc, name.as_slice(), from.as_slice())?))
+}
+
+fn accept(alloc: Global, name: &Octets, from: &Octets) -> Result<StepTask, AllocError>
+    ensures { (left : AnyLeft) → IfOk result (λ t. t ≡ spec.begun_own left (step.Accept name.now from.now)) }
+{
+    Ok(StepTask::Accept(Accept::new(alloc, name.as_slice(), from.as_slice())?))
+}
+
+fn hread(alloc: Global, name: &Octets, count: u32) -> Result<StepTask, AllocError>
+    ensures { (left : AnyLeft) → IfOk result (λ t. t ≡ spec.begun_own left (step.Hread name.now count)) }
+{
+    Ok(StepTask::Hread(Hread::new(alloc, name.as_slice(), count)?))
+}
+
+fn hwrite(alloc: Global, name: &Octets, bytes: &Octets) -> Result<StepTask, AllocError>
+    ensures { (left : AnyLeft) → IfOk result (λ t. t ≡ spec.begun_own left (step.Hwrite name.now bytes.now)) }
+{
+    Ok(StepTask::Hwrite(Hwrite::new(alloc, name.as_slice(), bytes.as_slice())?))
+}
+
+fn rread(alloc: Global, name: &Octets, count: u32, left: &Left) -> Result<StepTask, AllocError>
+    ensures { IfOk result (λ t. t ≡ spec.begun_own left.now (step.Rread name.now count)) }
+{
+    Ok(StepTask::Rread(Rread::new(alloc, name.as_slice(), count, left)?))
+}
+
+fn rclose(alloc: Global, name: &Octets, left: &Left) -> Result<StepTask, AllocError>
+    ensures { IfOk result (λ t. t ≡ spec.begun_own left.now (step.Rclose name.now)) }
+{
+    Ok(StepTask::Rclose(Rclose::new(alloc, name.as_slice(), left)?))
 }
 
 // Exports over a call. A name that no world says is asked for alone.
@@ -394,10 +422,7 @@ pub fn first_request(
         Step::Open { name, path, mode } if !is_remote(left, name.as_slice()) => {
             Ok(Some(open(name, path, *mode)?))
         }
-        Step::Read { name, count } => Ok(Some(Request::Read {
-            name: name.clone()?,
-            count: *count,
-        })),
+        Step::Read { name, count } => Ok(Some(read(name, *count)?)),
         Step::Write { name, text } => Ok(Some(Request::Write {
             name: name.clone()?,
             text: text.clone()?,
