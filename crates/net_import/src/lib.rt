@@ -10,5 +10,6 @@ mod talk;
 
 pub use errand::{Rclose, Rread, Rwrite};
 pub use import::Import;
+pub use messages::is_open;
 pub use remotes::is_remote;
 pub use ropen::Ropen;
