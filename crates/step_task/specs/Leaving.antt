@@ -360,7 +360,7 @@ own_none left (step.Export called) is = unbound_none called (not (is_dotted call
 own_none left (step.Import call) is = refl
 own_none left (step.Ropen called call path m) is = absurd (true≢false is)
 own_none left (step.Rread called count) is = refl
-own_none left (step.Rwrite called text) is = unbound_none called (nat_le (length text) longest_text) (task.Rwrite (record { errand = errand.writes called text left })) refl
+own_none left (step.Rwrite called text) is = unbound_none called (nat_le (length text) longest_text) (task.Rwrite (errand.writes called text left)) refl
 own_none left (step.Rclose called) is = absurd (true≢false is)
 
 begun_none : (left : Left) (s : Step) (o : Option (List ℕ)) → is_leaving s ≡ false → leaves_something (spec.begun_by left s o) ≡ false

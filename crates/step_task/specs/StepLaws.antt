@@ -124,7 +124,7 @@ begins_own h names left (step.Rread called count) slots free = errand_laws.rread
 begins_own h names left (step.Rwrite called text) slots free = rwrite_by (nat_le (length text) longest_text) refl
   where
     rwrite_by : (b : Bool) → nat_le (length text) longest_text ≡ b
-        → spec.stands_by h names (spec.or_unbound called b (task.Rwrite (record { errand = errand.writes called text left }))) (rwrite_play h left called text names)
+        → spec.stands_by h names (spec.or_unbound called b (task.Rwrite (errand.writes called text left))) (rwrite_play h left called text names)
     rwrite_by true is = errand_laws.rwrite_begins h names called text left is
     rwrite_by false is = rw is (IsFresh (_, refl, λ r. refl))
 begins_own h names left (step.Rclose called) slots free = errand_laws.rclose_begins h names called left
@@ -168,8 +168,8 @@ asks_by h names (task.Dns t) p stands = dns_laws.asks_so h names t p stands
 asks_by h names (task.Export t) p stands = export_laws.asks_so h names t p stands
 asks_by h names (task.Import t) p stands = import_laws.asks_so h names t p stands
 asks_by h names (task.Ropen t) p stands = ropen_laws.asks_so h names t p stands
-asks_by h names (task.Rread t) p stands = errand_laws.asks_so h names t.errand p stands
-asks_by h names (task.Rwrite t) p stands = errand_laws.asks_so h names t.errand p stands
+asks_by h names (task.Rread t) p stands = errand_laws.asks_so h names t p stands
+asks_by h names (task.Rwrite t) p stands = errand_laws.asks_so h names t p stands
 asks_by h names (task.Rclose t) p stands = errand_laws.asks_so h names t.errand p stands
 
 pub asks_so : AsksSo StepTask spec.asks spec.StandsFor
@@ -190,8 +190,8 @@ moves_by h names (task.Dns t) p q r stands asked fit = dns_laws.moves_so h names
 moves_by h names (task.Export t) p q r stands asked fit = export_laws.moves_so h names t p q r stands asked fit
 moves_by h names (task.Import t) p q r stands asked fit = import_laws.moves_so h names t p q r stands asked fit
 moves_by h names (task.Ropen t) p q r stands asked fit = ropen_laws.moves_so h names t p q r stands asked fit
-moves_by h names (task.Rread t) p q r stands asked fit = errand_laws.moves_so h names t.errand p q r stands asked fit
-moves_by h names (task.Rwrite t) p q r stands asked fit = errand_laws.moves_so h names t.errand p q r stands asked fit
+moves_by h names (task.Rread t) p q r stands asked fit = errand_laws.moves_so h names t p q r stands asked fit
+moves_by h names (task.Rwrite t) p q r stands asked fit = errand_laws.moves_so h names t p q r stands asked fit
 moves_by h names (task.Rclose t) p q r stands asked fit = errand_laws.moves_so h names t.errand p q r stands asked fit
 
 moves_slots : (h : ℕ) (names : Names) (t : StepTask) (p : Play) (q : Request) (r : Reply) → spec.StandsFor h names t p → spec.asks t names ≡ Some q → fits_play p r ≡ true → HaveSlots (settled names q r)
@@ -272,7 +272,7 @@ begun_own_asks left (step.Ropen called call path m) names =
     (ropen_some (talk.asks (ropen.begun called call path m left).talk) (ropen.is_beginning (ropen.begun called call path m left) && ropen.is_taken (ropen.begun called call path m left) names) called refl)
 begun_own_asks left (step.Rread called count) names = errand_some called (remote_of called left) (λ (fid : ℕ). read_message fid count) names
 begun_own_asks left (step.Rwrite called text) names =
-    unbound_asks called (nat_le (length text) longest_text) (task.Rwrite (record { errand = errand.writes called text left })) names
+    unbound_asks called (nat_le (length text) longest_text) (task.Rwrite (errand.writes called text left)) names
     (errand_some called (remote_of called left) (λ (fid : ℕ). write_message fid text) names)
 begun_own_asks left (step.Rclose called) names = errand_some called (remote_of called left) clunk_message names
 
@@ -378,6 +378,6 @@ asks_alike (task.Dns t) m n = dns_alike t.phase t.name t.message m n
 asks_alike (task.Export t) m n = refl
 asks_alike (task.Import t) m n = refl
 asks_alike (task.Ropen t) m n = ropen_alike (talk.asks t.talk) (ropen.is_beginning t && ropen.is_taken t m) (ropen.is_beginning t && ropen.is_taken t n) t.name
-asks_alike (task.Rread t) m n = errand_alike t.errand m n
-asks_alike (task.Rwrite t) m n = errand_alike t.errand m n
+asks_alike (task.Rread t) m n = errand_alike t m n
+asks_alike (task.Rwrite t) m n = errand_alike t m n
 asks_alike (task.Rclose t) m n = errand_alike t.errand m n

@@ -68,8 +68,8 @@ begun_own left (step.Dns called times) = task.Dns (dns.begun called times)
 begun_own left (step.Export called) = or_unbound called (not (is_dotted called)) (task.Export (export.begun called))
 begun_own left (step.Import call) = task.Import (import.begun call)
 begun_own left (step.Ropen called call path m) = or_unbound called (is_remote_path path) (task.Ropen (ropen.begun called call path m left))
-begun_own left (step.Rread called count) = task.Rread (record { errand = errand.reads called count left })
-begun_own left (step.Rwrite called text) = or_unbound called (nat_le (length text) longest_text) (task.Rwrite (record { errand = errand.writes called text left }))
+begun_own left (step.Rread called count) = task.Rread (errand.reads called count left)
+begun_own left (step.Rwrite called text) = or_unbound called (nat_le (length text) longest_text) (task.Rwrite (errand.writes called text left))
 begun_own left (step.Rclose called) = task.Rclose (record { name = called; errand = errand.closes called left })
 
 abbrev pub begun_by : Left → Step → Option (List ℕ) → StepTask
@@ -98,8 +98,8 @@ asks (task.Dns t) names = dns.asks t names
 asks (task.Export t) names = export.asks t names
 asks (task.Import t) names = import.asks t names
 asks (task.Ropen t) names = ropen.asks t names
-asks (task.Rread t) names = errand.asks t.errand names
-asks (task.Rwrite t) names = errand.asks t.errand names
+asks (task.Rread t) names = errand.asks t names
+asks (task.Rwrite t) names = errand.asks t names
 asks (task.Rclose t) names = errand.asks t.errand names
 
 -- the task after a reply
@@ -118,8 +118,8 @@ after (task.Dns t) r = task.Dns (dns.after t r)
 after (task.Export t) r = task.Export (export.after t r)
 after (task.Import t) r = task.Import (import.after t r)
 after (task.Ropen t) r = task.Ropen (ropen.after t r)
-after (task.Rread t) r = task.Rread (record t { errand = errand.after t.errand r })
-after (task.Rwrite t) r = task.Rwrite (record t { errand = errand.after t.errand r })
+after (task.Rread t) r = task.Rread (errand.after t r)
+after (task.Rwrite t) r = task.Rwrite (errand.after t r)
 after (task.Rclose t) r = task.Rclose (record t { errand = errand.after t.errand r })
 
 -- What it leaves for later steps.
@@ -150,8 +150,8 @@ stands_by h names (task.Dns t) p = dns.StandsFor h names t p
 stands_by h names (task.Export t) p = export.StandsFor h names t p
 stands_by h names (task.Import t) p = import.StandsFor h names t p
 stands_by h names (task.Ropen t) p = ropen.StandsFor h names t p
-stands_by h names (task.Rread t) p = errand.StandsFor h names t.errand p
-stands_by h names (task.Rwrite t) p = errand.StandsFor h names t.errand p
+stands_by h names (task.Rread t) p = errand.StandsFor h names t p
+stands_by h names (task.Rwrite t) p = errand.StandsFor h names t p
 stands_by h names (task.Rclose t) p = errand.StandsFor h names t.errand p
 
 -- under names that are bound to files of slots that there are

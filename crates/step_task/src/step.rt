@@ -17,7 +17,7 @@ ghost use Rattle.step_task.specs.StepTasks as spec;
 use dial_lib::{Accept, Announce, Dial, Dns, Hread, Hwrite, Listen, OneRequest, Reject, WriteText};
 use net_base::{FileName, Left, Mode, Node, Octets, Reply, Step};
 use net_export::Export;
-use net_import::{Import, Rclose, Ropen, Rread, Rwrite, is_remote};
+use net_import::{Errand, Import, Rclose, Ropen, is_remote};
 use net_tree::walk;
 use script_task::{Names, Request, Task, is_granted};
 use std::alloc::{AllocError, Global};
@@ -45,8 +45,8 @@ pub enum StepTask {
     Export(Export),
     Import(Import),
     Ropen(Ropen),
-    Rread(Rread),
-    Rwrite(Rwrite),
+    Rread(Errand),
+    Rwrite(Errand),
     Rclose(Rclose),
 }
 
@@ -338,7 +338,7 @@ fn hwrite(alloc: Global, name: &Octets, bytes: &Octets) -> Result<StepTask, Allo
 fn rread(alloc: Global, name: &Octets, count: u32, left: &Left) -> Result<StepTask, AllocError>
     ensures { IfOk result (λ t. t ≡ spec.begun_own left.now (step.Rread name.now count)) }
 {
-    Ok(StepTask::Rread(Rread::new(alloc, name.as_slice(), count, left)?))
+    Ok(StepTask::Rread(Errand::read(alloc, name.as_slice(), count, left)?))
 }
 
 fn rclose(alloc: Global, name: &Octets, left: &Left) -> Result<StepTask, AllocError>
@@ -398,7 +398,7 @@ fn rwrite(alloc: Global, name: &Octets, text: &Octets, left: &Left) -> Result<St
     if LONGEST_TEXT < text.len() {
         return unbound(name);
     }
-    Ok(StepTask::Rwrite(Rwrite::new(alloc, name.as_slice(), text.as_slice(), left)?))
+    Ok(StepTask::Rwrite(Errand::write(alloc, name.as_slice(), text.as_slice(), left)?))
 }
 
 fn unbound(name: &Octets) -> Result<StepTask, AllocError>
