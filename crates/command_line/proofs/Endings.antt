@@ -41,11 +41,9 @@ pub told_too_long : (status : ℕ) (output : Output) → Told (record { status =
     → Told (bad_input 0 9) status output
 told_too_long status output told = subst (λ (t : List ℕ). Told (record { status = 2; text = t }) status output) too_long_text told
 
-pub told_so : (became : Result Answer TakeError) (fault other : TakeError) → became ≡ Err fault → fault ≡ other → (status : ℕ) (output : Output)
-    → IsTold (Err other) status output → IsTold became status output
-told_so became fault other is same status output told =
-    subst (λ (r : Result Answer TakeError). IsTold r status output) (sym is)
-    (subst (λ (e : TakeError). IsTold (Err e) status output) (sym same) told)
+pub told_so : (fault other : TakeError) → fault ≡ other → (status : ℕ) (output : Output) → IsTold (Err other) status output
+    → IsTold (Err fault) status output
+told_so fault other is status output told = subst (λ (e : TakeError). IsTold (Err e) status output) (sym is) told
 
 module _ (C : Type 0) (asking : Asking C) (asked : C) (intake : Intake) where
   -- what a command with an input took

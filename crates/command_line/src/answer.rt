@@ -1,5 +1,5 @@
 //! Answers, and how they are told.
-ghost use Rattle.std.specs.Prelude.{◌≡◌, [], IfOk};
+ghost use Rattle.std.specs.Prelude.{◌≡◌, [], Err, IfOk};
 ghost use Rattle.command_line.specs.Calls.{Told};
 ghost use Rattle.command_line.specs.Ends.{IsTold};
 ghost use Rattle.net_model.specs.Answers as spec;
@@ -85,9 +85,19 @@ pub fn tell_answer<K: Sink>(sink: &mut K, answered: Result<Answer, TakeError>) -
 {
     match answered {
         Ok(answer) => tell(sink, answer.status, answer.text.as_slice()),
-        Err(TakeError::TooLarge) => tell(sink, 2, b"! line 0 cause 9\n"),
-        Err(TakeError::Failed) => tell(sink, 6, b"! read fault\n"),
-        Err(TakeError::Memory) => 8,
+        Err(error) => tell_error(sink, error),
+    }
+}
+
+// Tells why there is no answer. An input over the limit is answered as a bad one.
+fn tell_error<K: Sink>(sink: &mut K, error: TakeError) -> u8
+    ensures { IsTold (Err error) result
+        (record { held = K.held sink.old; holds = K.held sink.new; before = K.faults sink.old; after = K.faults sink.new }) }
+{
+    match error {
+        TakeError::TooLarge => tell(sink, 2, b"! line 0 cause 9\n"),
+        TakeError::Failed => tell(sink, 6, b"! read fault\n"),
+        TakeError::Memory => 8,
     }
 }
 

@@ -1,13 +1,11 @@
 //! The list of a query: nets, addresses and ports, and a line for each.
-ghost use Rattle.std.specs.Prelude.{◌≡◌, ◌≢◌, ◌<◌, ◌++◌, length, map, flat_map, AllPairs, IfOk, IfErr, OnOk};
+ghost use Rattle.std.specs.Prelude.{◌≡◌, ◌≢◌, ◌<◌, ◌++◌, length, flat_map, AllPairs, IfOk, IfErr, OnOk};
 ghost use Rattle.net_base.specs.Cs as spec;
 ghost use Rattle.cs_resolver.specs.Errors.{Tells};
-ghost use Rattle.cs_resolver.specs.Targets.{target_text, target_texts};
+ghost use Rattle.cs_resolver.specs.Targets.{target_texts};
 
-use crate::addresses::{host_words, once_each, targets};
-use crate::error::CsError;
-use crate::line::{Target, line_of};
-use crate::query::{nets_of, read_query};
+use crate::addresses::{host_words, targets};
+use cs_resolver::{CsError, Target, add_lines_of, nets_of, once_each, read_query};
 use ndb_search::numbers_found;
 use ndb_tuple::Kind;
 use net_base::{Db, Lines, Proto};
@@ -25,23 +23,6 @@ fn ports_of(alloc: Global, db: &Db, service: &[u8], net: Proto) -> Result<Vec<u3
     once_each(alloc, found)
 }
 
-/// Adds the lines of a net at an address.
-fn add_lines_at(
-    alloc: Global,
-    net: Proto,
-    target: Target,
-    ports: &[u32],
-    lines: &mut Lines,
-) -> Result<(), AllocError>
-    ensures { OnOk result (lines.new
-        ≡ lines.old ++ map (spec.cs_line net (target_text target)) ports.now) }
-{
-    for port in ports {
-        lines.push(line_of(alloc, net, target, *port)?)?;
-    }
-    Ok(())
-}
-
 /// Adds the lines of a net.
 fn add_lines(
     alloc: Global,
@@ -56,23 +37,6 @@ fn add_lines(
 {
     let ports = ports_of(alloc, db, service, net)?;
     add_lines_of(alloc, net, targets, &ports, lines)?;
-    Ok(())
-}
-
-/// Adds the lines of a net, by its ports.
-pub fn add_lines_of(
-    alloc: Global,
-    net: Proto,
-    targets: &[Target],
-    ports: &[u32],
-    lines: &mut Lines,
-) -> Result<(), AllocError>
-    ensures { OnOk result (lines.new
-        ≡ lines.old ++ flat_map (λ target. map (spec.cs_line net (target_text target)) ports.now) targets.now) }
-{
-    for target in targets {
-        add_lines_at(alloc, net, *target, ports, lines)?;
-    }
     Ok(())
 }
 
