@@ -2,9 +2,10 @@
 ghost use Rattle.std.specs.Prelude.{◌≡◌, ◌++◌, OnOk};
 ghost use Rattle.net_base.specs.Transcript.{actor_word};
 
+use crate::names::proto_name;
+use crate::number::put_decimal;
 use net_base::{ActorName, Octets};
 use std::alloc::AllocError;
-use words::{proto_name, put_decimal};
 
 /// Adds the name of an actor, as a history has it.
 pub fn put_actor(out: &mut Octets, actor: ActorName) -> Result<(), AllocError>
