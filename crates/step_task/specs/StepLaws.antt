@@ -5,7 +5,6 @@ use Rattle.std.proofs.lemmas.Bool.{true≢false}
 use Rattle.net_base.specs.declared.left.Left.{Left}
 use Rattle.net_base.specs.declared.left.Remote.{Remote}
 use Rattle.net_base.specs.declared.names.FileName.{FileName}
-use Rattle.net_base.specs.declared.names.FileName.TheVariants as file
 use Rattle.net_base.specs.declared.ninep.Tmsg.{Tmsg}
 use Rattle.net_base.specs.declared.names.Mode.{Mode}
 use Rattle.net_base.specs.declared.reply.Reply.{Reply}
@@ -101,8 +100,8 @@ begins_own h names left (step.Until moment) slots free = IsFresh (_, refl, λ r.
 begins_own h names left step.Refresh slots free = IsFresh (_, refl, λ r. refl)
 begins_own h names left (step.Dial called address) slots free = dial.IsFresh []
 begins_own h names left (step.Announce called address) slots free = announce.IsFresh []
-begins_own h names left (step.Listen called from) slots free = beside.IsFresh slots
-begins_own h names left (step.Accept called from) slots free = beside.IsFresh slots
+begins_own h names left (step.Listen called from) slots free = beside.IsFresh slots refl
+begins_own h names left (step.Accept called from) slots free = beside.IsFresh slots refl
 begins_own h names left (step.Reject called) slots free = reject.IsWrite
 begins_own h names left (step.Hangup called) slots free = write_text.IsWrite
 begins_own h names left (step.Hread called count) slots free = call.IsFresh names _ _ slots
@@ -159,8 +158,7 @@ asks_by h names (task.OneRequest t) p stands = one_request_laws.asks_so h names 
 asks_by h names (task.WriteText t) p stands = write_text_laws.asks_so h names t p stands
 asks_by h names (task.Dial t) p stands = dial_laws.asks_so h names t p stands
 asks_by h names (task.Announce t) p stands = announce_laws.asks_so h names t p stands
-asks_by h names (task.Listen t) p stands = beside_laws.listen_asks_so h names t p stands
-asks_by h names (task.Accept t) p stands = beside_laws.accept_asks_so h names t p stands
+asks_by h names (task.Beside t) p stands = beside_laws.asks_so h names t p stands
 asks_by h names (task.Reject t) p stands = reject_laws.asks_so h names t p stands
 asks_by h names (task.Hread t) p stands = hread_laws.asks_so h names t p stands
 asks_by h names (task.Hwrite t) p stands = hwrite_laws.asks_so h names t p stands
@@ -181,8 +179,7 @@ moves_by h names (task.OneRequest t) p q r stands asked fit = one_request_laws.m
 moves_by h names (task.WriteText t) p q r stands asked fit = write_text_laws.moves_so h names t p q r stands asked fit
 moves_by h names (task.Dial t) p q r stands asked fit = dial_laws.moves_so h names t p q r stands asked fit
 moves_by h names (task.Announce t) p q r stands asked fit = announce_laws.moves_so h names t p q r stands asked fit
-moves_by h names (task.Listen t) p q r stands asked fit = beside_laws.listen_moves_so h names t p q r stands asked fit
-moves_by h names (task.Accept t) p q r stands asked fit = beside_laws.accept_moves_so h names t p q r stands asked fit
+moves_by h names (task.Beside t) p q r stands asked fit = beside_laws.moves_so h names t p q r stands asked fit
 moves_by h names (task.Reject t) p q r stands asked fit = reject_laws.moves_so h names t p q r stands asked fit
 moves_by h names (task.Hread t) p q r stands asked fit = hread_laws.moves_so h names t p q r stands asked fit
 moves_by h names (task.Hwrite t) p q r stands asked fit = hwrite_laws.moves_so h names t p q r stands asked fit
@@ -367,8 +364,7 @@ pub asks_alike : (t : StepTask) (m n : Names) → is_none (spec.asks t m) ≡ is
 asks_alike (task.OneRequest t) m n = refl
 asks_alike (task.WriteText t) m n = refl
 asks_alike (task.Reject t) m n = refl
-asks_alike (task.Listen t) m n = beside_alike file.Listen t.name t.from t.is_through m n
-asks_alike (task.Accept t) m n = beside_alike file.Data t.name t.from t.is_through m n
+asks_alike (task.Beside t) m n = beside_alike t.file t.name t.from t.is_through m n
 asks_alike (task.Announce t) m n = announce_alike t.phase t.name t.address t.lines m n
 asks_alike (task.Dial t) m n = dial_alike t.phase t.called t.address t.lines m n
 asks_alike (task.Hread t) m n = call_alike t.phase t.name (Some (hread.reads t)) m n

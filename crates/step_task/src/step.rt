@@ -14,7 +14,7 @@ ghost use Rattle.script_task.specs.declared.request.Request.TheVariants as reque
 ghost use Rattle.step_task.specs.declared.step.StepTask.TheVariants as t;
 ghost use Rattle.step_task.specs.StepTasks as spec;
 
-use dial_lib::{Accept, Announce, Dial, Dns, Hread, Hwrite, Listen, OneRequest, Reject, WriteText};
+use dial_lib::{Announce, Beside, Dial, Dns, Hread, Hwrite, OneRequest, Reject, WriteText};
 use net_base::{FileName, Left, Mode, Node, Octets, Reply, Step};
 use net_export::Export;
 use net_import::{Errand, Import, Rclose, Ropen, is_remote};
@@ -35,8 +35,8 @@ pub enum StepTask {
     WriteText(WriteText),
     Dial(Dial),
     Announce(Announce),
-    Listen(Listen),
-    Accept(Accept),
+    /// `listen` and `accept`
+    Beside(Beside),
     Reject(Reject),
     Hread(Hread),
     Hwrite(Hwrite),
@@ -104,8 +104,7 @@ impl Task for StepTask {
             StepTask::WriteText(task) => task.next(alloc, fids),
             StepTask::Dial(task) => task.next(alloc, fids),
             StepTask::Announce(task) => task.next(alloc, fids),
-            StepTask::Listen(task) => task.next(alloc, fids),
-            StepTask::Accept(task) => task.next(alloc, fids),
+            StepTask::Beside(task) => task.next(alloc, fids),
             StepTask::Reject(task) => task.next(alloc, fids),
             StepTask::Hread(task) => task.next(alloc, fids),
             StepTask::Hwrite(task) => task.next(alloc, fids),
@@ -125,8 +124,7 @@ impl Task for StepTask {
             StepTask::WriteText(task) => task.is_through(),
             StepTask::Dial(task) => task.is_through(),
             StepTask::Announce(task) => task.is_through(),
-            StepTask::Listen(task) => task.is_through(),
-            StepTask::Accept(task) => task.is_through(),
+            StepTask::Beside(task) => task.is_through(),
             StepTask::Reject(task) => task.is_through(),
             StepTask::Hread(task) => task.is_through(),
             StepTask::Hwrite(task) => task.is_through(),
@@ -146,8 +144,7 @@ impl Task for StepTask {
             StepTask::WriteText(task) => task.told(alloc, reply),
             StepTask::Dial(task) => task.told(alloc, reply),
             StepTask::Announce(task) => task.told(alloc, reply),
-            StepTask::Listen(task) => task.told(alloc, reply),
-            StepTask::Accept(task) => task.told(alloc, reply),
+            StepTask::Beside(task) => task.told(alloc, reply),
             StepTask::Reject(task) => task.told(alloc, reply),
             StepTask::Hread(task) => task.told(alloc, reply),
             StepTask::Hwrite(task) => task.told(alloc, reply),
@@ -314,13 +311,13 @@ fn announce(alloc: Global, name: &Octets, address: &Octets) -> Result<StepTask, 
 fn listen(alloc: Global, name: &Octets, from: &Octets) -> Result<StepTask, AllocError>
     ensures { (left : AnyLeft) → IfOk result (λ t. t ≡ spec.begun_own left (step.Listen name.now from.now)) }
 {
-    Ok(StepTask::Listen(Listen::new(alloc, name.as_slice(), from.as_slice())?))
+    Ok(StepTask::Beside(Beside::listen(alloc, name.as_slice(), from.as_slice())?))
 }
 
 fn accept(alloc: Global, name: &Octets, from: &Octets) -> Result<StepTask, AllocError>
     ensures { (left : AnyLeft) → IfOk result (λ t. t ≡ spec.begun_own left (step.Accept name.now from.now)) }
 {
-    Ok(StepTask::Accept(Accept::new(alloc, name.as_slice(), from.as_slice())?))
+    Ok(StepTask::Beside(Beside::accept(alloc, name.as_slice(), from.as_slice())?))
 }
 
 fn hread(alloc: Global, name: &Octets, count: u32) -> Result<StepTask, AllocError>
