@@ -44,10 +44,13 @@ const BOTH: &[u8] = b"0 0 0 dir.0.udp - reserve = slot 0 1
 8 0 0 conv.0.udp.0 - await 1 = ok
 ";
 
-const WRITTEN: &[u8] = b"9 0 1 conv.1.udp.0 - await 1 = ok
+// Both files are open.
+const OPENED: &[u8] = b"9 0 1 conv.1.udp.0 - await 1 = ok
 10 0 0 conv.0.udp.0 - open data rw = opened 1
 11 0 1 conv.1.udp.0 - open data rw = opened 1
-12 0 0 conv.0.udp.0 - write 1 6869 = count 2 + udp 135.104.9.6!5000 135.104.9.31!7 255 0 2
+";
+
+const WRITTEN: &[u8] = b"12 0 0 conv.0.udp.0 - write 1 6869 = count 2 + udp 135.104.9.6!5000 135.104.9.31!7 255 0 2
 ";
 
 const AT_BOTH: &[u8] = b"11 0 open c /net/udp/clone: answered at 0, slot 0
@@ -115,19 +118,7 @@ writex d 0a0000006b0100010078
 ndb
 ";
 
-const OPENING: &[u8] = b"0 0 0 dir.0.udp - reserve = slot 0 1
-1 0 1 dir.1.udp - reserve = slot 0 1
-2 0 0 conv.0.udp.0 0 begin 1 = ok
-3 0 1 conv.1.udp.0 1 begin 1 = ok
-4 0 0 dir.0.udp - grant 0 1 135.104.9.31!7 5000 = granted 135.104.9.6!5000 135.104.9.31!7 0 1472
-5 0 1 dir.1.udp - grant 0 1 135.104.9.6!5000 7 = granted 135.104.9.31!7 135.104.9.6!5000 0 1472
-6 0 0 conv.0.udp.0 4 connect 1 = ok
-7 0 1 conv.1.udp.0 5 connect 1 = ok
-8 0 0 conv.0.udp.0 - await 1 = ok
-9 0 1 conv.1.udp.0 - await 1 = ok
-10 0 0 conv.0.udp.0 - open data rw = opened 1
-11 0 1 conv.1.udp.0 - open data rw = opened 1
-12 0 0 conv.0.udp.0 - write 1 150000006e01000000000001000000010002006373 = count 21 + udp 135.104.9.6!5000 135.104.9.31!7 255 0 21
+const OPENING: &[u8] = b"12 0 0 conv.0.udp.0 - write 1 150000006e01000000000001000000010002006373 = count 21 + udp 135.104.9.6!5000 135.104.9.31!7 255 0 21
 13 0 0 medium.0 12 put 1 = laid 1
 14 0 2 medium.0 - take = copy 1
 15 0 2 dir.1.udp 14 arrive = to 0 1
@@ -183,17 +174,20 @@ fn tells(alloc: Global, text: &[u8], lines: &[u8], wanted: &[u8]) -> Result<bool
     Ok(told.as_slice() == wanted)
 }
 
+// Whether the steps are told so where these lines come once both files are open.
+fn tells_later(alloc: Global, text: &[u8], lines: &[u8], wanted: &[u8]) -> Result<bool, AllocError> {
+    let mut all = Octets::from_slice(alloc, BOTH)?;
+    all.append(OPENED)?;
+    all.append(lines)?;
+    tells(alloc, text, all.as_slice(), wanted)
+}
+
 #[test]
 fn a_script_waits_or_owes(rt: HostRuntime) {
     let alloc = rt.alloc();
     let early = tells(alloc, WORLD, BOTH, AT_BOTH);
     assert_eq!(rt; early, Ok(true));
-    let mut later = Vec::new(alloc);
-    let made = later.extend_from_slice(BOTH);
-    assert_eq!(rt; made, Ok(()));
-    let made = later.extend_from_slice(WRITTEN);
-    assert_eq!(rt; made, Ok(()));
-    let owing = tells(alloc, WORLD, later.as_slice(), AT_WRITTEN);
+    let owing = tells_later(alloc, WORLD, WRITTEN, AT_WRITTEN);
     assert_eq!(rt; owing, Ok(true));
 }
 
@@ -205,6 +199,6 @@ fn a_refused_step_is_told(rt: HostRuntime) {
 
 #[test]
 fn a_refused_open_of_a_remote_file_is_told(rt: HostRuntime) {
-    let refused = tells(rt.alloc(), OPENER, OPENING, AT_OPENING);
+    let refused = tells_later(rt.alloc(), OPENER, OPENING, AT_OPENING);
     assert_eq!(rt; refused, Ok(true));
 }
