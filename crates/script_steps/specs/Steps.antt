@@ -59,13 +59,13 @@ is_open_request (event.Write g text) = is_open_type (slice_get text 4)
 is_open_request _ = false
 
 -- the last message that went out is that of the open, and what came in is its answer
-abbrev pub has_opened : Entry → Entry → Bool
-has_opened x y = is_open_request y.event && is_open (bytes_in x.reply)
+abbrev pub has_opened : Entry → Option Entry → Bool
+has_opened x None = false
+has_opened x (Some y) = is_open_request y.event && is_open (bytes_in x.reply)
 
 -- it is refused, too, where the events are accepted by which the other host refuses it
 abbrev pub opened_text : Entry → Option Entry → List ℕ
-opened_text x None = outcome_text (codes "refused") x.moment x.reply
-opened_text x (Some y) = outcome_text (if has_opened x y then codes "answered" else codes "refused") x.moment x.reply
+opened_text x before = outcome_text (if has_opened x before then codes "answered" else codes "refused") x.moment x.reply
 
 -- Any step.
 

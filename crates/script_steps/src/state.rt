@@ -1,5 +1,5 @@
 //! What became of a step, or what it waits for.
-ghost use Rattle.std.specs.Prelude.{◌≡◌, ◌++◌, Some, OnOk, option_and_then, option_map, slice_get};
+ghost use Rattle.std.specs.Prelude.{◌≡◌, ◌++◌, Some, IfOk, OnOk, option_and_then, option_map, slice_get};
 ghost use Rattle.plain_runner.specs.Turns.{ask_of, asks_of};
 ghost use Rattle.script_steps.specs.Steps as spec;
 
@@ -77,22 +77,33 @@ fn is_open_request(event: &Event) -> bool
     }
 }
 
-// The open of a remote file, by the last entry of its step and the one before it.
+// Whether a remote file was opened, by the last entry of its step and the one before it.
+fn has_opened(alloc: Global, last: &Entry, before: Option<&Entry>) -> Result<bool, AllocError>
+    ensures { IfOk result (λ opened. opened ≡ spec.has_opened last.now (option_map (λ y. y.now) before)) }
+{
+    let Some(before) = before else {
+        return Ok(false);
+    };
+    if !is_open_request(&before.event) {
+        return Ok(false);
+    }
+    is_open(alloc, bytes_in(&last.reply))
+}
+
 fn put_opened(
     out: &mut Octets,
     alloc: Global,
     last: &Entry,
     before: Option<&Entry>,
 ) -> Result<(), AllocError>
-    ensures { OnOk result (out.new ≡ out.old ++ spec.opened_text last.now (option_map (λ x. x.now) before)) }
+    ensures { OnOk result (out.new ≡ out.old ++ spec.opened_text last.now (option_map (λ y. y.now) before)) }
 {
-    let Some(before) = before else {
-        return put_outcome(out, b"refused", last.moment, &last.reply);
-    };
-    if is_open_request(&before.event) && is_open(alloc, bytes_in(&last.reply))? {
-        return put_outcome(out, b"answered", last.moment, &last.reply);
+    let opened = has_opened(alloc, last, before)?;
+    if opened {
+        put_outcome(out, b"answered", last.moment, &last.reply)
+    } else {
+        put_outcome(out, b"refused", last.moment, &last.reply)
     }
-    put_outcome(out, b"refused", last.moment, &last.reply)
 }
 
 /// Adds what became of a step, by its last entries.

@@ -8,7 +8,7 @@ use Rattle.net_base.specs.Net.{after, opening_net}
 use Rattle.net_base.specs.Number.{number}
 use Rattle.worked_cases.specs.Rounds.{run_of}
 use Rattle.worked_worlds.specs.WorkedUdp.{datagram_world, datagram_history}
-use Rattle.worked_cases.proofs.Walk.{Follow, is_legal, is_timed}
+use Rattle.worked_cases.proofs.Walk.{Follow, ◌▸◌, is_legal, is_timed}
 
 pub datagram_is_done : done datagram_world (after datagram_world datagram_history) ≡ true
 unfolding number digits state_after
@@ -20,58 +20,26 @@ datagram_is_the_run = refl
 
 follow : Follow datagram_world [] (opening_net datagram_world) datagram_history
 unfolding number digits state_after
-follow = (
-  record { answers = refl; at_moment = refl; cites = refl; is_asked = refl; is_ready = refl; is_known = (refl, omega arith); has_room = omega arith },
-  (
-    record { answers = refl; at_moment = refl; cites = refl; is_asked = refl; is_ready = refl; is_known = (refl, omega arith); has_room = omega arith },
-    (
-      record { answers = refl; at_moment = refl; cites = refl; is_asked = refl; is_ready = refl; is_known = (refl, omega arith); has_room = omega arith },
-      (
-        record { answers = refl; at_moment = refl; cites = refl; is_asked = refl; is_ready = refl; is_known = (refl, omega arith); has_room = omega arith },
-        (
-          record { answers = refl; at_moment = refl; cites = refl; is_asked = refl; is_ready = refl; is_known = (refl, omega arith); has_room = omega arith },
-          (
-            record { answers = refl; at_moment = refl; cites = refl; is_asked = refl; is_ready = refl; is_known = (refl, omega arith); has_room = omega arith },
-            (
-              record { answers = refl; at_moment = refl; cites = refl; is_asked = refl; is_ready = refl; is_known = (refl, omega arith); has_room = omega arith },
-              (
-                record { answers = refl; at_moment = refl; cites = refl; is_asked = refl; is_ready = refl; is_known = (refl, omega arith); has_room = omega arith },
-                (
-                  record { answers = refl; at_moment = refl; cites = refl; is_asked = refl; is_ready = refl; is_known = (refl, omega arith); has_room = omega arith },
-                  (
-                    record { answers = refl; at_moment = refl; cites = refl; is_asked = refl; is_ready = refl; is_known = (refl, omega arith); has_room = omega arith },
-                    (
-                      record { answers = refl; at_moment = refl; cites = refl; is_asked = refl; is_ready = refl; is_known = (refl, omega arith); has_room = omega arith },
-                      (
-                        record { answers = refl; at_moment = refl; cites = refl; is_asked = refl; is_ready = refl; is_known = (refl, omega arith); has_room = omega arith },
-                        (
-                          record { answers = refl; at_moment = refl; cites = refl; is_asked = refl; is_ready = refl; is_known = (refl, omega arith); has_room = omega arith },
-                          (
-                            record { answers = refl; at_moment = refl; cites = refl; is_asked = refl; is_ready = refl; is_known = (refl, omega arith); has_room = omega arith },
-                            (
-                              record { answers = refl; at_moment = refl; cites = refl; is_asked = refl; is_ready = refl; is_known = (refl, omega arith); has_room = omega arith },
-                              (
-                                record { answers = refl; at_moment = refl; cites = refl; is_asked = refl; is_ready = refl; is_known = (refl, omega arith); has_room = omega arith },
-                                (
-                                  record { answers = refl; at_moment = refl; cites = refl; is_asked = refl; is_ready = refl; is_known = (refl, omega arith); has_room = omega arith },
-                                  (record { answers = refl; at_moment = refl; cites = refl; is_asked = refl; is_ready = refl; is_known = (refl, omega arith); has_room = omega arith }, tt),
-                                ),
-                              ),
-                            ),
-                          ),
-                        ),
-                      ),
-                    ),
-                  ),
-                ),
-              ),
-            ),
-          ),
-        ),
-      ),
-    ),
-  ),
-)
+follow =
+    record { answers = refl; at_moment = refl; cites = refl; is_asked = refl; is_ready = refl; is_known = (refl, omega arith); has_room = omega arith }
+    ▸ record { answers = refl; at_moment = refl; cites = refl; is_asked = refl; is_ready = refl; is_known = (refl, omega arith); has_room = omega arith }
+    ▸ record { answers = refl; at_moment = refl; cites = refl; is_asked = refl; is_ready = refl; is_known = (refl, omega arith); has_room = omega arith }
+    ▸ record { answers = refl; at_moment = refl; cites = refl; is_asked = refl; is_ready = refl; is_known = (refl, omega arith); has_room = omega arith }
+    ▸ record { answers = refl; at_moment = refl; cites = refl; is_asked = refl; is_ready = refl; is_known = (refl, omega arith); has_room = omega arith }
+    ▸ record { answers = refl; at_moment = refl; cites = refl; is_asked = refl; is_ready = refl; is_known = (refl, omega arith); has_room = omega arith }
+    ▸ record { answers = refl; at_moment = refl; cites = refl; is_asked = refl; is_ready = refl; is_known = (refl, omega arith); has_room = omega arith }
+    ▸ record { answers = refl; at_moment = refl; cites = refl; is_asked = refl; is_ready = refl; is_known = (refl, omega arith); has_room = omega arith }
+    ▸ record { answers = refl; at_moment = refl; cites = refl; is_asked = refl; is_ready = refl; is_known = (refl, omega arith); has_room = omega arith }
+    ▸ record { answers = refl; at_moment = refl; cites = refl; is_asked = refl; is_ready = refl; is_known = (refl, omega arith); has_room = omega arith }
+    ▸ record { answers = refl; at_moment = refl; cites = refl; is_asked = refl; is_ready = refl; is_known = (refl, omega arith); has_room = omega arith }
+    ▸ record { answers = refl; at_moment = refl; cites = refl; is_asked = refl; is_ready = refl; is_known = (refl, omega arith); has_room = omega arith }
+    ▸ record { answers = refl; at_moment = refl; cites = refl; is_asked = refl; is_ready = refl; is_known = (refl, omega arith); has_room = omega arith }
+    ▸ record { answers = refl; at_moment = refl; cites = refl; is_asked = refl; is_ready = refl; is_known = (refl, omega arith); has_room = omega arith }
+    ▸ record { answers = refl; at_moment = refl; cites = refl; is_asked = refl; is_ready = refl; is_known = (refl, omega arith); has_room = omega arith }
+    ▸ record { answers = refl; at_moment = refl; cites = refl; is_asked = refl; is_ready = refl; is_known = (refl, omega arith); has_room = omega arith }
+    ▸ record { answers = refl; at_moment = refl; cites = refl; is_asked = refl; is_ready = refl; is_known = (refl, omega arith); has_room = omega arith }
+    ▸ record { answers = refl; at_moment = refl; cites = refl; is_asked = refl; is_ready = refl; is_known = (refl, omega arith); has_room = omega arith }
+    ▸ tt
 
 pub datagram_is_legal : IsLegal datagram_world datagram_history
 datagram_is_legal = is_legal datagram_world datagram_history follow

@@ -7,6 +7,12 @@ use Rattle.net_base.specs.Net.{Net, next_net, net_of, after, opening_net}
 use Rattle.history_laws.proofs.Histories.{legal_push, after_push}
 use Rattle.net_base.specs.Legal.{Follows, IsLegal, IsInTime, IsTimed}
 
+infixr 10 ◌▸◌
+
+-- the first of some facts, and then the others
+abbrev pub ◌▸◌ : {A B : Type 0} → A → B → A × B
+a ▸ b = (a, b)
+
 -- each of these entries follows in turn
 abbrev pub Follow : World → List Entry → Net → List Entry → Type 0
 Follow w past net [] = Unit {0}
