@@ -8,7 +8,6 @@ ghost use Rattle.history_words.specs.Shown.{shown};
 use crate::shown::put_shown;
 use net_base::Octets;
 use std::alloc::AllocError;
-
 pub use words::{put_addr, put_number, put_word};
 
 /// A number with its name before it.
@@ -67,4 +66,3 @@ pub fn put_with_text(out: &mut Octets, word: &[u8], text: &[u8]) -> Result<(), A
     out.push(b' ')?;
     put_shown(out, text)
 }
-

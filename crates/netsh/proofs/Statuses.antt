@@ -209,7 +209,7 @@ module _ (command : Option Command) (intake : Intake) where
   end_of : (n : ℕ) → (n ≡ 2 → ⊥) → words_read command ≡ true → IsStatusOf command n intake → IsAtEnd intake.rest
   end_of n no_two has of =
       let took : TookAll true intake of.answers.input =
-          subst (λ (b : Bool). TookAll b intake of.answers.input) (ap words_read (sym of.is_asked) ∙ has) (took_all n no_two of)
+      subst (λ (b : Bool). TookAll b intake of.answers.input) (ap words_read (sym of.is_asked) ∙ has) (took_all n no_two of)
       in took.1
 
   ran_of : (so : World → Net → Bool) (n : ℕ) → (n ≡ 2 → ⊥) → (of : IsStatusOf command n intake) (ran : Ran of.asked of.answers.input of.answer)
@@ -306,8 +306,8 @@ module _ (command : Option Command) (status : ℕ) (intake : Intake) (output : O
       → HasChecked command So intake
   has_checked So n no_two is of so =
       let answers : Answers asking Check of.answer intake =
-          subst (λ (c : Command). Answers asking c of.answer intake)
-          (calls.same_command Command asking sound command status intake output Check of.asked is of.is_asked) of.answers in
+      subst (λ (c : Command). Answers asking c of.answer intake)
+      (calls.same_command Command asking sound command status intake output Check of.asked is of.is_asked) of.answers in
       let good = (judges answers.input of.answer n no_two answers.right (sym of.right)).0 in
       let handed = handed_in answers.input good in
       record {

@@ -42,8 +42,7 @@ module _ (asked : View) (input : List ℕ) (w : World) (h : List Entry) (answer 
 answer_good : (asked : View) (input : List ℕ) (w : World) (h : List Entry) (told : Option (List ℕ)) (answer : Answer) → length input ≤ input_limit (Show asked)
     → HandsIn input w h told → IsShown asked input w h answer → IsAnswer (Show asked) input answer
 answer_good asked input w h told answer fits hands shown =
-    answer_within _ asking (Show asked) input answer None (within_limit _ asking (Show asked) input fits) hands.good.is hands.good.only
-    (
+    answer_within _ asking (Show asked) input answer None (within_limit _ asking (Show asked) input fits) hands.good.is hands.good.only (
       hands.handed,
       λ handed.
           let same = hands.only handed in

@@ -7,7 +7,6 @@ ghost use Rattle.transcript.specs.Digits.{line_digits};
 use net_base::{Lines, Octets};
 use std::alloc::AllocError;
 use words::{put_hex_digits, put_hex_word};
-
 pub use words::{put_number, put_word};
 
 /// A word with a number behind it.

@@ -5,7 +5,6 @@ ghost use Rattle.net_base.specs.Transcript.{spaced, actor_word, number_or_dash};
 use crate::line::{put_number, put_word};
 use net_base::{ActorName, Octets};
 use std::alloc::AllocError;
-
 pub use words::{put_addr, put_ip_or_star, put_port_or_star};
 
 /// A number, or a dash for none.

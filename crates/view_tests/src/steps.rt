@@ -50,7 +50,8 @@ const OPENED: &[u8] = b"9 0 1 conv.1.udp.0 - await 1 = ok
 11 0 1 conv.1.udp.0 - open data rw = opened 1
 ";
 
-const WRITTEN: &[u8] = b"12 0 0 conv.0.udp.0 - write 1 6869 = count 2 + udp 135.104.9.6!5000 135.104.9.31!7 255 0 2
+const WRITTEN: &[u8] =
+    b"12 0 0 conv.0.udp.0 - write 1 6869 = count 2 + udp 135.104.9.6!5000 135.104.9.31!7 255 0 2
 ";
 
 const AT_BOTH: &[u8] = b"11 0 open c /net/udp/clone: answered at 0, slot 0
@@ -118,7 +119,8 @@ writex d 0a0000006b0100010078
 ndb
 ";
 
-const OPENING: &[u8] = b"12 0 0 conv.0.udp.0 - write 1 150000006e01000000000001000000010002006373 = count 21 + udp 135.104.9.6!5000 135.104.9.31!7 255 0 21
+const OPENING: &[u8] =
+    b"12 0 0 conv.0.udp.0 - write 1 150000006e01000000000001000000010002006373 = count 21 + udp 135.104.9.6!5000 135.104.9.31!7 255 0 21
 13 0 0 medium.0 12 put 1 = laid 1
 14 0 2 medium.0 - take = copy 1
 15 0 2 dir.1.udp 14 arrive = to 0 1
@@ -175,7 +177,12 @@ fn tells(alloc: Global, text: &[u8], lines: &[u8], wanted: &[u8]) -> Result<bool
 }
 
 // Whether the steps are told so where these lines come once both files are open.
-fn tells_later(alloc: Global, text: &[u8], lines: &[u8], wanted: &[u8]) -> Result<bool, AllocError> {
+fn tells_later(
+    alloc: Global,
+    text: &[u8],
+    lines: &[u8],
+    wanted: &[u8],
+) -> Result<bool, AllocError> {
     let mut all = Octets::from_slice(alloc, BOTH)?;
     all.append(OPENED)?;
     all.append(lines)?;

@@ -8,7 +8,6 @@ use Rattle.history_laws.proofs.Histories.{legal_push, after_push}
 use Rattle.net_base.specs.Legal.{Follows, IsLegal, IsInTime, IsTimed}
 
 infixr 10 ◌▸◌
-
 -- the first of some facts, and then the others
 abbrev pub ◌▸◌ : {A B : Type 0} → A → B → A × B
 a ▸ b = (a, b)
