@@ -10,7 +10,7 @@ returns c =
     let w = c.args.world.now in
     let h = c.args.books.now in
     let plain = c.legal_histories_are_plain.ensures w c.requires.world h c.requires.legal in
-    record {
+    rw (c.new.ensures) (record {
       history = h;
       legal = c.requires.legal;
       timed = c.requires.timed;
@@ -18,4 +18,4 @@ returns c =
       text = search (rules);
       one = only_one c.printed_runs_tell.ensures w h _ plain (search (rules));
       status = subst (IsStatus w (after w h)) (sym c.run_status.ensures) (status_is w (after w h) c.args.end c.requires.end);
-    }
+    })

@@ -13,7 +13,7 @@ pub returns : goal.returns
 returns g c =
     let w = c.args.world.now in
     let h = c.args.run.now.history in
-    record {
+    rw (c.new.ensures) (record {
       history = h;
       legal = c.requires.legal;
       timed = c.requires.timed;
@@ -22,4 +22,4 @@ returns g c =
       answered = c.in_ok-all.ensures;
       text = export_text w h c.args.sessions.now c.in_ok-all.all.items _ _ _ c.in_ok-text.ensures c.in_ok-put_ending.ensures (rw (c.as_slice-2.ensures.value, c.as_slice.ensures) at c.in_ok-put_sessions.ensures);
       status = subst (IsStatus w (after w h)) (sym c.run_status.ensures) (status_is w (after w h) c.args.run.now.end c.requires.end);
-    }
+    })

@@ -8,11 +8,11 @@ pub returns : goal.returns
 returns c =
     let w = c.args.world.now in
     let h = c.args.run.now.books in
-    record {
+    rw (c.new.ensures) (record {
       history = h;
       legal = c.requires.legal;
       timed = c.requires.timed;
       headline = c.legal_histories_keep_it.ensures w h c.requires.world c.requires.legal;
       text = c.in_ok-text.ensures;
       status = subst (IsStatus w (after w h)) (sym c.run_status.ensures) (status_is w (after w h) c.args.run.now.end c.requires.end);
-    }
+    })
