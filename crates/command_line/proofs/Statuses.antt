@@ -1,7 +1,6 @@
 -- What the statuses say, from how a call ends.
 use Rattle.std.proofs.Common.{◌≡◌, ◌≢◌, ℕ, ◌⊎◌, Bool, true, false, List, Option, Some, None, unwrap_or, refl, sym, ◌∙◌, ap, subst, inl, inr, arith}
 use Rattle.std.proofs.lemmas.Bool.{false≢true}
-use Rattle.std.specs.Io.KnownBytes.{IsAtEnd}
 use Rattle.outside.specs.Streams.{Rose}
 use Rattle.net_model.specs.Answers.{Answer, usage, read_fault}
 use Rattle.command_line.specs.Asking.{Asking, IsAnswer, IsFirstBad, IsGiven, words_read}

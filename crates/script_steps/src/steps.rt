@@ -2,7 +2,6 @@
 ghost use Rattle.std.specs.Prelude.{◌≡◌, ◌<◌, ◌++◌, drop, length, Some, slice_get, IfOk, OnOk};
 ghost use Rattle.std.specs.List.{enumerate_from};
 ghost use Rattle.net_base.specs.Legal.{IsLegal, IsTimed};
-ghost use Rattle.net_base.specs.Summary.{answered_by};
 ghost use Rattle.net_base.specs.World.{IsWorld};
 ghost use Rattle.plain_runner.specs.Callers.{IsCaller};
 ghost use Rattle.plain_runner.specs.Followed.{Followed};
