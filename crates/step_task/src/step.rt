@@ -232,7 +232,10 @@ fn begin(alloc: Global, step: &Step, left: &Left) -> Result<StepTask, AllocError
 {
     match step {
         Step::Open { name, path, mode } => Ok(once(open(name, path, *mode)?)),
-        Step::Read { name, count } => Ok(once(read(name, *count)?)),
+        Step::Read { name, count } => Ok(once(Request::Read {
+            name: name.clone()?,
+            count: *count,
+        })),
         Step::Write { name, text } => write(name, text),
         Step::Writex { name, text } => write(name, text),
         Step::Close { name } => close(name),
@@ -261,15 +264,6 @@ fn begin(alloc: Global, step: &Step, left: &Left) -> Result<StepTask, AllocError
         Step::Rwrite { name, text } => rwrite(alloc, name, text, left),
         Step::Rclose { name } => rclose(alloc, name, left),
     }
-}
-
-fn read(name: &Octets, count: u32) -> Result<Request, AllocError>
-    ensures { IfOk result (λ q. q ≡ request.Read name.now count) }
-{
-    Ok(Request::Read {
-        name: name.clone()?,
-        count,
-    })
 }
 
 fn close(name: &Octets) -> Result<StepTask, AllocError>
@@ -419,7 +413,10 @@ pub fn first_request(
         Step::Open { name, path, mode } if !is_remote(left, name.as_slice()) => {
             Ok(Some(open(name, path, *mode)?))
         }
-        Step::Read { name, count } => Ok(Some(read(name, *count)?)),
+        Step::Read { name, count } => Ok(Some(Request::Read {
+            name: name.clone()?,
+            count: *count,
+        })),
         Step::Write { name, text } => Ok(Some(Request::Write {
             name: name.clone()?,
             text: text.clone()?,
