@@ -55,10 +55,11 @@ impl Errand {
         ensures value { IfOk result (λ t. t ≡ spec.reads name.now count left.now) }
         ensures stands { IfOk result (λ t. spec.Begins t left.now (step.Rread name.now count)) }
     {
-        match remote_of(left, name) {
-            None => Errand::unbound(alloc, name),
-            Some(remote) => Errand::sends(remote, messages::read(alloc, remote.fid, count)?),
-        }
+        let errand = match remote_of(left, name) {
+            None => Errand::unbound(alloc, name)?,
+            Some(remote) => Errand::sends(remote, messages::read(alloc, remote.fid, count)?)?,
+        };
+        Ok(errand)
     }
 
     /// Writes the text to the file, where this is left by earlier steps.
@@ -68,20 +69,22 @@ impl Errand {
         ensures value { IfOk result (λ t. t ≡ spec.writes name.now text.now left.now) }
         ensures stands { IfOk result (λ t. spec.Begins t left.now (step.Rwrite name.now text.now)) }
     {
-        match remote_of(left, name) {
-            None => Errand::unbound(alloc, name),
-            Some(remote) => Errand::sends(remote, messages::write(alloc, remote.fid, text)?),
-        }
+        let errand = match remote_of(left, name) {
+            None => Errand::unbound(alloc, name)?,
+            Some(remote) => Errand::sends(remote, messages::write(alloc, remote.fid, text)?)?,
+        };
+        Ok(errand)
     }
 
     // Closes the file.
     fn close(alloc: Global, name: &[u8], left: &Left) -> Result<Errand, AllocError>
         ensures { IfOk result (λ t. t ≡ spec.closes name.now left.now) }
     {
-        match remote_of(left, name) {
-            None => Errand::unbound(alloc, name),
-            Some(remote) => Errand::sends(remote, messages::clunk(alloc, remote.fid)?),
-        }
+        let errand = match remote_of(left, name) {
+            None => Errand::unbound(alloc, name)?,
+            Some(remote) => Errand::sends(remote, messages::clunk(alloc, remote.fid)?)?,
+        };
+        Ok(errand)
     }
 }
 
