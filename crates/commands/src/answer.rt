@@ -40,7 +40,8 @@ pub fn found(alloc: Global, lines: &Lines) -> Result<Answer, AllocError>
     ensures { IfOk result (λ answer. answer ≡ spec.lines_answer lines.now) }
 {
     if lines.len() == 0 {
-        return Answer::nothing(alloc);
+        let nothing = Answer::nothing(alloc)?;
+        return Ok(nothing);
     }
     let text = text_of_lines(alloc, lines)?;
     Ok(Answer::whole(text))
