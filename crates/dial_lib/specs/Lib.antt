@@ -13,8 +13,6 @@ pub mod WriteTextLaws
 pub mod Reject
 pub mod RejectLaws
 pub mod Beside
-pub mod Listen
-pub mod Accept
 pub mod BesideLaws
 pub mod Announce
 pub mod AnnounceLaws
