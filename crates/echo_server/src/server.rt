@@ -3,7 +3,7 @@ ghost use Rattle.std.specs.Prelude.{◌≡◌, Some, IfOk, OnErr, unwrap_or};
 ghost use Rattle.echo_server.specs.Serving.{after_read, closes, reads, stage_after, writes};
 
 use agenda::OwnTask;
-use dial_lib::{Accept, Announce, Listen};
+use dial_lib::{Announce, Beside};
 use net_base::{Octets, Reply};
 use script_task::{Names, Request, Task};
 use std::alloc::{AllocError, Global};
@@ -15,8 +15,8 @@ const COUNT: u32 = 8192;
 #[derive(Debug, Drop)]
 pub enum Stage {
     Announce(Announce),
-    Listen(Listen),
-    Accept(Accept),
+    Listen(Beside),
+    Accept(Beside),
     Read,
     Echo(Octets),
     CloseData,
@@ -77,17 +77,17 @@ fn behind(alloc: Global, stage: &mut Stage, reply: Reply) -> Result<Option<Stage
 {
     match stage {
         Stage::Announce(task) => {
-            let listen = Listen::new(alloc, b"c", b"a")?;
+            let listen = Beside::listen(alloc, b"c", b"a")?;
             task.told(alloc, reply)?;
             Ok(task.is_through().then_some(Stage::Listen(listen)))
         }
-        Stage::Listen(_) => Ok(Some(Stage::Accept(Accept::new(alloc, b"d", b"c")?))),
+        Stage::Listen(_) => Ok(Some(Stage::Accept(Beside::accept(alloc, b"d", b"c")?))),
         Stage::Accept(_) => Ok(Some(Stage::Read)),
         Stage::Read => Ok(Some(behind_read(reply))),
         Stage::Echo(_) if matches!(reply, Reply::Count { .. }) => Ok(Some(Stage::Read)),
         Stage::Echo(_) => Ok(Some(Stage::CloseData)),
         Stage::CloseData => Ok(Some(Stage::CloseCall)),
-        Stage::CloseCall => Ok(Some(Stage::Listen(Listen::new(alloc, b"c", b"a")?))),
+        Stage::CloseCall => Ok(Some(Stage::Listen(Beside::listen(alloc, b"c", b"a")?))),
     }
 }
 
