@@ -60,15 +60,15 @@ pub fn put_actor(out: &mut Octets, actor: ActorName) -> Result<(), AllocError>
         ActorName::Dir(host, proto) => {
             out.append(b" dir.")?;
             put_decimal(out, host as u64)?;
-            out.append(b".")?;
+            out.push(b'.')?;
             out.append(proto_name(proto))
         }
         ActorName::Conv(host, proto, slot) => {
             out.append(b" conv.")?;
             put_decimal(out, host as u64)?;
-            out.append(b".")?;
+            out.push(b'.')?;
             out.append(proto_name(proto))?;
-            out.append(b".")?;
+            out.push(b'.')?;
             put_decimal(out, slot as u64)
         }
         ActorName::Medium(number) => {
