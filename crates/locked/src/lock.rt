@@ -47,6 +47,13 @@ impl<J: Naming, M: Machine> Locked<J, M> {
         self.actor
     }
 
+    /// The actor's place in the list of actors.
+    pub fn number(&self) -> u32
+        ensures { result ≡ self.now.number }
+    {
+        self.number
+    }
+
     /// One event at the actor by the caller. Two calls of the gate are made where it is recorded, inside the lock before
     /// the record and after the lock.
     pub fn act<R: Wait, G: Gate>(

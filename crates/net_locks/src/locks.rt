@@ -42,7 +42,7 @@ pub struct Locks<J: Naming + Placing, M: Machine> {
     locks: Vec<Locked<J, M>>,
     pub(crate) ways: WorldWays,
     // who waits for an actor sees here whether it has had an entry
-    marks: Marks,
+    pub(crate) marks: Marks,
     hosts: u32,
     media: u32,
     ghost of: { IsNetOf J.world J.run.roster hosts media ways (map (λ l. l.actor) locks.items) } by { net_prop },
@@ -106,11 +106,6 @@ impl<J: Naming + Placing> Locks<J, WorldActor<J>> {
     /// Whether the actor has had no entry since.
     pub fn stands(&self, spot: Spot) -> bool {
         self.marks.stands(spot)
-    }
-
-    // The actor has had an entry more.
-    pub(crate) fn count(&self, actor: ActorName) {
-        self.marks.add(number_of(self.hosts, self.media, actor));
     }
 
     /// The journal, and the books of all actors, in the order of their numbers. Each entry was a step of its actor.

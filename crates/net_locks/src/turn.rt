@@ -169,7 +169,11 @@ impl<J: Naming + Placing> Locks<J, WorldActor<J>> {
         let (caller, now) = (bearer.caller, bearer.now);
         let pass = &mut bearer.pass;
         match lock.act(rt, &self.journal, gate, pass, caller, now, work, cites) {
-            Answer::Done { stamp, outcome } => Ok((stamp, outcome)),
+            Answer::Done { stamp, outcome } => {
+                // who waits for the actor sees that it has had an entry more
+                self.marks.add(lock.number() as usize);
+                Ok((stamp, outcome))
+            }
             Answer::NotReady { front: _ } => Err(Turn::NotReady),
             Answer::Memory => Err(Turn::Memory),
         }
@@ -194,7 +198,6 @@ impl<J: Naming + Placing> Locks<J, WorldActor<J>> {
     {
         let shown = self.ways.owe(actor, stamp, work, outcome, duties);
         touched.note(actor, stamp);
-        self.count(actor);
         Turn::Recorded {
             stamp,
             reply: shown.reply,
