@@ -70,11 +70,11 @@ fn who_goes_on_alone_leaves_with_the_others(rt: HostRuntime) -> Result<(), Fail>
 fn who_waits_after_each_round_leaves_with_the_others(rt: HostRuntime) -> Result<(), Fail> {
     let crew = Crew::new(2);
     let (mut one, two) = (crew.begin(&rt), crew.begin(&rt));
-    for _ in 0..63_u32 {
+    for _ in 0..7_u32 {
         assert!(rt; crew.record(&rt, &mut one) && crew.tell(&rt, &mut one));
     }
     assert!(rt; crew.record(&rt, &mut one) && !crew.tell(&rt, &mut one));
-    assert!(rt; crew.rest(&rt, 64));
+    assert!(rt; crew.rest(&rt, 8));
     crew.leave(&rt, one);
     crew.leave(&rt, two);
     assert!(rt; crew.has_waited(&rt) && !crew.has_paid(&rt));
