@@ -1,8 +1,9 @@
 #!/usr/bin/env python3
 """How long runs of the program take, on inputs of known size: a benchmark, and no part of the gate.
 
-.ci/speed.py [BINARY [RUNS]]: of each command the least and the middle of RUNS (7), as milliseconds of wall and of
-processor time, and the same of mawk and grep. BINARY is crates/netsh/out/netsh, the proved one, unless another is named. Measure on a quiet machine.
+.ci/speed.py [BINARY [RUNS]]: of each command the least and the middle of RUNS (7), as milliseconds of wall and of processor time,
+and the most memory that it had, in MB (never told below what this script has itself, some 10); the same of mawk and grep.
+BINARY is crates/netsh/out/netsh, the proved one, unless another is named. Measure on a quiet machine.
 """
 
 import os
@@ -18,8 +19,17 @@ TUPLES = 10000
 PAIRS = 4
 MESSAGES = 2000
 MOMENTS = 5000
-# what others take to find the same line
-BESIDE = [["mawk", '{ for (i = 1; i <= NF; i++) if ($i == "dom=h99.example.com") print }'], ["grep", "-F", "dom=h99.example.com"]]
+# what others take to find the same line: by its fields, by its head, by its text
+BESIDE = [
+    ["mawk", '{ for (i = 1; i <= NF; i++) if ($i == "dom=h99.example.com") print }'],
+    ["mawk", "/^\\tdom=h99.example.com$/"],
+    ["grep", "-F", "dom=h99.example.com"],
+]
+# an input of the greatest length
+MOST = 4 * 1024 * 1024
+PIECE = 65536
+# what such an input is made of, again and again
+SHAPES = ["a\n", "a ", "%file a\n", "\n", 'sys="a b" x="c d"\n', "sys=x y=z\n", "sys=h1 ip=10.0.0.1\n\tdom=h1.example.com\n"]
 # bytes of memory in which a run has room, and no stack of a thread
 NO_STACK = 8000 * 1024
 
@@ -82,30 +92,44 @@ def examples():
                 yield name, text.read()
 
 
-def measure(words, text, runs, room=resource.RLIM_INFINITY):
-    """The wall and the processor time of each run with so many bytes of memory, in milliseconds."""
-    walls, processors = [], []
+def shapes():
+    """Inputs of about the greatest length, each of one shape, by name, in pieces; the last is one value."""
+    for unit in SHAPES:
+        yield repr(unit[:14]), [unit * (PIECE // len(unit))] * (MOST // PIECE)
+    yield "one value", ["sys="] + ["x" * PIECE] * (MOST // PIECE - 1)
+
+
+def measure(words, pieces, runs, room=None):
+    """The wall and the processor time of each run, in milliseconds, and its most memory, in MB; with so many bytes of memory."""
+    walls, processors, peaks = [], [], []
 
     def limit():
         resource.setrlimit(resource.RLIMIT_AS, (room, room))
 
     with tempfile.TemporaryFile() as data:
-        data.write(text.encode())
+        data.writelines(piece.encode() for piece in pieces)
         for _ in range(runs):
             data.seek(0)
-            before, began = resource.getrusage(resource.RUSAGE_CHILDREN), time.monotonic()
-            subprocess.run(words, stdin=data, stdout=subprocess.DEVNULL, check=False, preexec_fn=limit)
+            began = time.monotonic()
+            with subprocess.Popen(words, stdin=data, stdout=subprocess.DEVNULL, preexec_fn=limit if room else None) as run:
+                _, run.returncode, used = os.wait4(run.pid, 0)
             walls.append(1000 * (time.monotonic() - began))
-            after = resource.getrusage(resource.RUSAGE_CHILDREN)
-            processors.append(1000 * (after.ru_utime + after.ru_stime - before.ru_utime - before.ru_stime))
-    return sorted(walls), sorted(processors)
+            processors.append(1000 * (used.ru_utime + used.ru_stime))
+            peaks.append(used.ru_maxrss / 1000)
+    return sorted(walls), sorted(processors), sorted(peaks)
 
 
 def main():
     binary = sys.argv[1] if len(sys.argv) > 1 else os.path.join(TOP, "crates", "netsh", "out", "netsh")
     runs = int(sys.argv[2]) if len(sys.argv) > 2 else 7
-    cases = [("cs", ["cs", "h5", "net!h9990!9fs"], database()), ("query", ["query", "dom", "h99.example.com"], database())]
-    cases += [(f"{n} queries", ["run", "1"], asking(n)) for n in (1, TUPLES)]
+    show("cs", *measure([binary, "cs", "h5", "net!h9990!9fs"], [database()], runs))
+    show("query", *measure([binary, "query", "dom", "h99.example.com"], [database()], runs))
+    for words in BESIDE:
+        if shutil.which(words[0]):
+            show(" ".join(words)[:20], *measure(words, [database()], runs))
+    for name, pieces in shapes():
+        show(name, *measure([binary, "query", "no", "body"], pieces, runs))
+    cases = [(f"{n} queries", ["run", "1"], asking(n)) for n in (1, TUPLES)]
     for crossed in (False, True):
         name, text = f"{PAIRS} {'crossed' if crossed else 'pairs'}", pairs(crossed)
         cases += [(f"{name}, run {n}", ["run", str(n)], text) for n in (1, 2, 4, 16)]
@@ -115,17 +139,15 @@ def main():
     cases += [(f"{name}, run {n}", ["run", str(n)], text) for name, text in examples() for n in (1, 16)]
     cases += [(f"big {n}", ["big", str(n)], "") for n in (1000, 9000)]
     for name, words, text in cases:
-        show(name, *measure([binary, *words], text, runs))
-    for words in BESIDE:
-        if shutil.which(words[0]):
-            show(words[0], *measure(words, database(), runs))
-    show("no thread, run 4", *measure([binary, "run", "4"], dict(examples())["callers"], runs, NO_STACK))
+        show(name, *measure([binary, *words], [text], runs))
+    show("no thread, run 4", *measure([binary, "run", "4"], [dict(examples())["callers"]], runs, NO_STACK))
 
 
-def show(name, walls, processors):
-    """The least and the middle of each."""
+def show(name, walls, processors, peaks):
+    """The least and the middle of each, and the most memory."""
     middle = len(walls) // 2
-    print(f"{name:20} wall {walls[0]:7.1f} {walls[middle]:7.1f}   processor {processors[0]:7.1f} {processors[middle]:7.1f}")
+    times = f"wall {walls[0]:7.1f} {walls[middle]:7.1f}   processor {processors[0]:7.1f} {processors[middle]:7.1f}"
+    print(f"{name:20} {times}   memory {peaks[-1]:6.1f}", flush=True)
 
 
 if __name__ == "__main__":

@@ -5,7 +5,7 @@
 --     IsExported    what a run over a translated world prints, with the answers of its sessions
 --     IsWorldOf     the world that a command runs
 --     IsAnswer      an answer to a command and its input
-use Rattle.std.specs.Prelude.{◌≡◌, ◌↔◌, ◌⊎◌, ◌&&◌, ℕ, Bool, true, false, List, [], ◌∷◌, ◌++◌, length, map, flat_map, nat_lt, Option, Some, None, Ok, option_and_then, option_to_list, Err}
+use Rattle.std.specs.Prelude.{◌≡◌, ◌↔◌, ◌⊎◌, ◌&&◌, ℕ, Bool, true, false, List, [], ◌∷◌, ◌++◌, length, map, nat_lt, Option, Some, None, Ok, option_and_then, option_to_list, Err}
 use Rattle.net_base.specs.declared.address.Proto.TheVariants.{Il, Udp}
 use Rattle.net_base.specs.declared.history.Entry.{Entry}
 use Rattle.net_base.specs.declared.world.World.{World}
@@ -15,7 +15,7 @@ use Rattle.net_base.specs.NdbText.{lines_of}
 use Rattle.net_base.specs.NdbBundle as bundle
 use Rattle.net_base.specs.Ndb.{NdbPair}
 use Rattle.net_base.specs.Search.{tuples_with, all_beside}
-use Rattle.ndb_reader.specs.Written.{line_text}
+use Rattle.ndb_query.specs.Told.{tuple_text}
 use Rattle.net_base.specs.Cs.{cs_list}
 use Rattle.net_base.specs.Hexadecimal.{hex_digits, hex_text}
 use Rattle.net_base.specs.DomainAnswers.{dns_answer}
@@ -85,10 +85,6 @@ abbrev pub cs_over : List ℕ → List ℕ → List ℕ → Answer
 cs_over sys query input = unless_bad (bundle.bad_line input) (cs_found sys query input)
 
 -- Answers of query.
-
--- the pairs of a tuple in order, as one line
-abbrev pub tuple_text : List (List NdbPair) → List ℕ
-tuple_text tuple = line_text (flat_map (λ line. line) tuple)
 
 -- the lines of a query: the tuples with the pair, each with its pairs in order, or the values beside the pair in all of them
 abbrev pub query_lines : List ℕ → List ℕ → Option (List ℕ) → List (List (List NdbPair)) → List (List ℕ)

@@ -198,9 +198,13 @@ flat_flat : (db : List (List (List NdbPair))) → length (all_pairs db) ≡ leng
 unfolding flat
 flat_flat [] = refl
 flat_flat (tuple ∷ db) =
-    omega (arith, length-append (flat_map (λ (l : List NdbPair). l) tuple) (all_pairs db), flat_flat db,
-    ap (λ (ps : List NdbPair). length ps) (flat_map-append (λ (l : List NdbPair). l) tuple (flat_map (λ (t : List (List NdbPair)). t) db)),
-    length-append (flat_map (λ (l : List NdbPair). l) tuple) (flat_map (λ (l : List NdbPair). l) (flat_map (λ (t : List (List NdbPair)). t) db)))
+    omega (
+      arith,
+      length-append (flat_map (λ (l : List NdbPair). l) tuple) (all_pairs db),
+      flat_flat db,
+      ap (λ (ps : List NdbPair). length ps) (flat_map-append (λ (l : List NdbPair). l) tuple (flat_map (λ (t : List (List NdbPair)). t) db)),
+      length-append (flat_map (λ (l : List NdbPair). l) tuple) (flat_map (λ (l : List NdbPair). l) (flat_map (λ (t : List (List NdbPair)). t) db)),
+    )
 
 lines_count : (n : ℕ) (db : List (List (List NdbPair))) → length (all_lines n db) ≡ length (flat_map (λ tuple. tuple) db)
 lines_count n [] = refl
