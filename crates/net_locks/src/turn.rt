@@ -115,6 +115,7 @@ impl<J: Naming + Placing> Locks<J, WorldActor<J>> {
     }
 
     // One try to record the first duty.
+    #[inline(always)]
     fn attempt_first<R: Wait, G: Gate>(
         &self,
         rt: &R,
@@ -140,6 +141,7 @@ impl<J: Naming + Placing> Locks<J, WorldActor<J>> {
 
     // One try to record a work at an actor. The answer is the stamp of its entry and what the step gave, or else what became
     // of the turn.
+    #[inline(always)]
     fn attempt<R: Wait, G: Gate>(
         &self,
         rt: &R,
@@ -180,6 +182,7 @@ impl<J: Naming + Placing> Locks<J, WorldActor<J>> {
     }
 
     // What an entry owes is owed after the others, and its actor is noted. The turn is that it was recorded.
+    #[inline(always)]
     fn settle(
         &self,
         duties: &mut Duties,
@@ -206,6 +209,7 @@ impl<J: Naming + Placing> Locks<J, WorldActor<J>> {
 }
 
 // Takes the room for an entry of the caller and for what it may owe. Where there is none, the turn is this one.
+#[inline(always)]
 fn lacks_room<J: Naming + Placing>(
     bearer: &Bearer<J>,
     duties: &mut Duties,
