@@ -165,15 +165,11 @@ fn prepare<J: Naming, M: Machine>(
     ensures err { OnErr result (machine.new ≡ machine.old) }
 {
     book.reserve()?;
-    let Outcome {
-        reply,
-        copy,
-        emit,
-        taken,
-        ended,
-    } = machine.step(asked.now, asked.work)?;
-    let Some(copy) = copy else { unreachable!() };
-    let emits = match &emit {
+    let mut outcome = machine.step(asked.now, asked.work)?;
+    let Some(copy) = outcome.copy.take() else {
+        unreachable!()
+    };
+    let emits = match &outcome.emit {
         Some(packet) => Some(packet.header()),
         None => None,
     };
@@ -185,14 +181,7 @@ fn prepare<J: Naming, M: Machine>(
         cites: asked.cites,
         reply: copy,
         emits,
-        ended,
-    };
-    let outcome = Outcome {
-        reply,
-        copy: None,
-        emit,
-        taken,
-        ended,
+        ended: outcome.ended,
     };
     Ok((entry, outcome))
 }
