@@ -33,7 +33,7 @@ use net_base::{ActorName, Event, With, Work, World};
 use outside::Gate;
 use std::alloc::{AllocError, Global};
 use std::sync::{Arc, Wait};
-use workers::{Marks, Spot};
+use workers::{Awaited, Marks, Spot};
 
 /// Every actor of a world behind its lock, each at its number, with the journal of the run.
 #[derive(Drop)]
@@ -98,12 +98,17 @@ impl<J: Naming + Placing> Locks<J, WorldActor<J>> {
         Some(&self.locks[number_of(self.hosts, self.media, actor)])
     }
 
-    /// How many entries an actor has had, to be looked at again.
-    pub fn spot_of(&self, actor: ActorName) -> Spot {
-        self.marks.spot(number_of(self.hosts, self.media, actor))
+    /// How many entries an actor has had of those after which this event may be ready, to be looked at again.
+    pub fn spot_of(&self, actor: ActorName, event: &Event) -> Spot {
+        let awaited = match event {
+            Event::Read { .. } => Awaited::Text,
+            _ => Awaited::Entry,
+        };
+        self.marks
+            .spot(number_of(self.hosts, self.media, actor), awaited)
     }
 
-    /// Whether the actor has had no entry since.
+    /// Whether the actor has had none of them since.
     pub fn stands(&self, spot: Spot) -> bool {
         self.marks.stands(spot)
     }

@@ -27,7 +27,7 @@ use guest_laws::{
 };
 use journal::Naming;
 use locked::Answer;
-use net_base::{ActorName, Event, Outcome, Reply, With, Work};
+use net_base::{ActorName, Body, Event, IlKind, Outcome, Reply, With, Work};
 use outside::Gate;
 use std::sync::Wait;
 
@@ -173,7 +173,7 @@ impl<J: Naming + Placing> Locks<J, WorldActor<J>> {
         match lock.act(rt, &self.journal, gate, pass, caller, now, work, cites) {
             Answer::Done { stamp, outcome } => {
                 // who waits for the actor sees that it has had an entry more
-                self.marks.add(lock.number() as usize);
+                self.marks.add(lock.number() as usize, may_give_text(work));
                 Ok((stamp, outcome))
             }
             Answer::NotReady { front: _ } => Err(Turn::NotReady),
@@ -205,6 +205,17 @@ impl<J: Naming + Placing> Locks<J, WorldActor<J>> {
             stamp,
             reply: shown.reply,
         }
+    }
+}
+
+// Whether there may be more to read at an actor that has done this work: all does that but a message that only acknowledges.
+fn may_give_text(work: &Work) -> bool {
+    match &work.with {
+        With::Packet(packet) => match &packet.body {
+            Body::Il(message) => message.kind != IlKind::Ack,
+            Body::Udp(_) => true,
+        },
+        _ => true,
     }
 }
 
