@@ -181,9 +181,9 @@ impl IlCore {
     pub fn read(&mut self, count: usize) -> Result<Result<Octets, Cause>, AllocError>
         requires ready { IsTrue (table.may_read self.old) }
         requires some { 0 < count }
-        ensures bytes { IfOk result (λ told. IfOk told (λ bytes. (read_refusal self.old ≡ None)
+        ensures bytes { IfOk result (λ told. IfOk told (λ bytes. (None ≡ read_refusal self.old)
             × (bytes ≡ take count (table.first_unread self.old)))) }
-        ensures refusal { IfOk result (λ told. IfErr told (λ cause. read_refusal self.old ≡ Some cause)) }
+        ensures refusal { IfOk result (λ told. IfErr told (λ cause. Some cause ≡ read_refusal self.old)) }
         ensures end { OnOk result (self.new ≡ after_read count self.old) }
         ensures err { OnErr result (self.new ≡ self.old) }
         ensures memory { OnErr result (table.has_unread self.old ≡ true) }
