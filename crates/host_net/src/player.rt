@@ -15,7 +15,7 @@ use crate::guest::Guest;
 use crate::net::Net;
 use guest_laws::{guests_begin, locks_keep_actors};
 use journal::Naming;
-use net_base::{ActorName, Reply, World};
+use net_base::{ActorName, Event, Reply, World};
 use net_locks::{Placing, Spot, Turn, WorldActor};
 use outside::Gate;
 use script_task::replies_fit;
@@ -330,7 +330,7 @@ impl<J: Naming + Placing> Net<J, WorldActor<J>> {
         ensures same { IsSamePlayer player.old player.new }
         ensures turn { PlaysOn J.tasks J.world player.old result player.new }
     {
-        player.spot = self.locks.spot_of(ActorName::Medium(medium));
+        player.spot = self.locks.spot_of(ActorName::Medium(medium), &Event::Take);
         played_of(&self.courier_turn(rt, gate, &mut player.guest, medium))
     }
 

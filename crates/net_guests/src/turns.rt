@@ -26,7 +26,7 @@ pub fn first_spot<J: Naming + Placing>(
     bundle: &Bundle<J>,
 ) -> Spot {
     match bundle.visitor.duties.first() {
-        Some(duty) => locks.spot_of(duty.actor),
+        Some(duty) => locks.spot_of(duty.actor, &duty.work().event),
         None => Spot::nowhere(),
     }
 }
@@ -137,7 +137,7 @@ impl<J: Naming + Placing> Bundle<J> {
         if reserve(&mut self.fids, &effect).is_err() {
             return Turn::Memory;
         }
-        *spot = locks.spot_of(actor);
+        *spot = locks.spot_of(actor, &event);
         let turn = locks.own(rt, gate, &mut self.visitor, actor, event);
         settle_turn(&mut self.fids, effect, &turn);
         turn

@@ -27,7 +27,7 @@ use guest_laws::{
 };
 use journal::Naming;
 use locked::Answer;
-use net_base::{ActorName, Event, Outcome, Reply, With, Work};
+use net_base::{ActorName, Body, Event, IlKind, Outcome, Reply, With, Work};
 use outside::Gate;
 use std::sync::Wait;
 
@@ -115,6 +115,7 @@ impl<J: Naming + Placing> Locks<J, WorldActor<J>> {
     }
 
     // One try to record the first duty.
+    #[inline(always)]
     fn attempt_first<R: Wait, G: Gate>(
         &self,
         rt: &R,
@@ -140,6 +141,7 @@ impl<J: Naming + Placing> Locks<J, WorldActor<J>> {
 
     // One try to record a work at an actor. The answer is the stamp of its entry and what the step gave, or else what became
     // of the turn.
+    #[inline(always)]
     fn attempt<R: Wait, G: Gate>(
         &self,
         rt: &R,
@@ -169,13 +171,18 @@ impl<J: Naming + Placing> Locks<J, WorldActor<J>> {
         let (caller, now) = (bearer.caller, bearer.now);
         let pass = &mut bearer.pass;
         match lock.act(rt, &self.journal, gate, pass, caller, now, work, cites) {
-            Answer::Done { stamp, outcome } => Ok((stamp, outcome)),
+            Answer::Done { stamp, outcome } => {
+                // who waits for the actor sees that it has had an entry more
+                self.marks.add(lock.number() as usize, may_give_text(work));
+                Ok((stamp, outcome))
+            }
             Answer::NotReady { front: _ } => Err(Turn::NotReady),
             Answer::Memory => Err(Turn::Memory),
         }
     }
 
     // What an entry owes is owed after the others, and its actor is noted. The turn is that it was recorded.
+    #[inline(always)]
     fn settle(
         &self,
         duties: &mut Duties,
@@ -194,7 +201,6 @@ impl<J: Naming + Placing> Locks<J, WorldActor<J>> {
     {
         let shown = self.ways.owe(actor, stamp, work, outcome, duties);
         touched.note(actor, stamp);
-        self.count(actor);
         Turn::Recorded {
             stamp,
             reply: shown.reply,
@@ -202,7 +208,19 @@ impl<J: Naming + Placing> Locks<J, WorldActor<J>> {
     }
 }
 
+// Whether there may be more to read at an actor that has done this work: all does that but a message that only acknowledges.
+fn may_give_text(work: &Work) -> bool {
+    match &work.with {
+        With::Packet(packet) => match &packet.body {
+            Body::Il(message) => message.kind != IlKind::Ack,
+            Body::Udp(_) => true,
+        },
+        _ => true,
+    }
+}
+
 // Takes the room for an entry of the caller and for what it may owe. Where there is none, the turn is this one.
+#[inline(always)]
 fn lacks_room<J: Naming + Placing>(
     bearer: &Bearer<J>,
     duties: &mut Duties,

@@ -9,6 +9,7 @@ use net_base::{Addr, Octets};
 use std::alloc::AllocError;
 
 /// A word as it is.
+#[inline(always)]
 pub fn put_word(out: &mut Octets, word: &[u8]) -> Result<(), AllocError>
     ensures { OnOk result (out.new ≡ out.old ++ spaced (word.now ∷ [])) }
 {
@@ -17,6 +18,7 @@ pub fn put_word(out: &mut Octets, word: &[u8]) -> Result<(), AllocError>
 }
 
 /// A number.
+#[inline(always)]
 pub fn put_number(out: &mut Octets, n: u64) -> Result<(), AllocError>
     ensures { OnOk result (out.new ≡ out.old ++ spaced (numeral n ∷ [])) }
 {
