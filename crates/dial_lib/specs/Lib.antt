@@ -31,4 +31,4 @@ pub mod DnsLaws
 pub use Rattle.net_base.specs.Steps
 pub use Rattle.script_task.specs.Task
 pub use Rattle.net_base.specs.Requests
-pub use Rattle.script_task.specs.Requests
+pub use Rattle.script_task.specs.Requests as Rooms
