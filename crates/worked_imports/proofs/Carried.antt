@@ -41,15 +41,15 @@ three = drop 50 carried_history
 
 first_follow : Follow carried_world [] (opening_net carried_world) one
 unfolding number digits state_after most_requests t_bytes r_bytes counted_at qid_at list_at many_at t_version t_attach t_at r_version r_attach r_at
-first_follow = (stands (record { answers = refl; at_moment = refl; cites = refl; asked = refl; is_ready = refl; is_known = (refl, omega arith); has_room = omega arith }), stands (record { answers = refl; at_moment = refl; cites = refl; asked = refl; is_ready = refl; is_known = (refl, omega arith); has_room = omega arith }), stands (record { answers = refl; at_moment = refl; cites = refl; asked = refl; is_ready = refl; is_known = (refl, omega arith); has_room = omega arith }), stands (record { answers = refl; at_moment = refl; cites = refl; asked = refl; is_ready = refl; is_known = (refl, omega arith); has_room = omega arith }), stands (record { answers = refl; at_moment = refl; cites = refl; asked = refl; is_ready = refl; is_known = (refl, omega arith); has_room = omega arith }), record { answers = refl; at_moment = refl; cites = refl; is_asked = tt; is_ready = refl; is_known = (refl, omega arith); has_room = omega arith }, stands (record { answers = refl; at_moment = refl; cites = refl; asked = refl; is_ready = refl; is_known = (refl, omega arith); has_room = omega arith }), stands (record { answers = refl; at_moment = refl; cites = refl; asked = refl; is_ready = refl; is_known = (refl, omega arith); has_room = omega arith }), stands (record { answers = refl; at_moment = refl; cites = refl; asked = refl; is_ready = refl; is_known = (refl, omega arith); has_room = omega arith }), stands (record { answers = refl; at_moment = refl; cites = refl; asked = refl; is_ready = refl; is_known = (refl, omega arith); has_room = omega arith }), stands (record { answers = refl; at_moment = refl; cites = refl; asked = refl; is_ready = refl; is_known = (refl, omega arith); has_room = omega arith }), stands (record { answers = refl; at_moment = refl; cites = refl; asked = refl; is_ready = refl; is_known = (refl, omega arith); has_room = omega arith }), stands (record { answers = refl; at_moment = refl; cites = refl; asked = refl; is_ready = refl; is_known = (refl, omega arith); has_room = omega arith }), stands (record { answers = refl; at_moment = refl; cites = refl; asked = refl; is_ready = refl; is_known = (refl, omega arith); has_room = omega arith }), stands (record { answers = refl; at_moment = refl; cites = refl; asked = refl; is_ready = refl; is_known = (refl, omega arith); has_room = omega arith }), stands (record { answers = refl; at_moment = refl; cites = refl; asked = refl; is_ready = refl; is_known = (refl, omega arith); has_room = omega arith }), stands (record { answers = refl; at_moment = refl; cites = refl; asked = refl; is_ready = refl; is_known = (refl, omega arith); has_room = omega arith }), stands (record { answers = refl; at_moment = refl; cites = refl; asked = refl; is_ready = refl; is_known = (refl, omega arith); has_room = omega arith }), stands (record { answers = refl; at_moment = refl; cites = refl; asked = refl; is_ready = refl; is_known = (refl, omega arith); has_room = omega arith }), stands (record { answers = refl; at_moment = refl; cites = refl; asked = refl; is_ready = refl; is_known = (refl, omega arith); has_room = omega arith }), stands (record { answers = refl; at_moment = refl; cites = refl; asked = refl; is_ready = refl; is_known = (refl, omega arith); has_room = omega arith }), stands (record { answers = refl; at_moment = refl; cites = refl; asked = refl; is_ready = refl; is_known = (refl, omega arith); has_room = omega arith }), stands (record { answers = refl; at_moment = refl; cites = refl; asked = refl; is_ready = refl; is_known = (refl, omega arith); has_room = omega arith }), stands (record { answers = refl; at_moment = refl; cites = refl; asked = refl; is_ready = refl; is_known = (refl, omega arith); has_room = omega arith }), stands (record { answers = refl; at_moment = refl; cites = refl; asked = refl; is_ready = refl; is_known = (refl, omega arith); has_room = omega arith }), stands (record { answers = refl; at_moment = refl; cites = refl; asked = refl; is_ready = refl; is_known = (refl, omega arith); has_room = omega arith }), stands (record { answers = refl; at_moment = refl; cites = refl; asked = refl; is_ready = refl; is_known = (refl, omega arith); has_room = omega arith }), stands (record { answers = refl; at_moment = refl; cites = refl; asked = refl; is_ready = refl; is_known = (refl, omega arith); has_room = omega arith }), stands (record { answers = refl; at_moment = refl; cites = refl; asked = refl; is_ready = refl; is_known = (refl, omega arith); has_room = omega arith }), stands (record { answers = refl; at_moment = refl; cites = refl; asked = refl; is_ready = refl; is_known = (refl, omega arith); has_room = omega arith }), tt)
+first_follow = (stands (record { answers = refl; at_moment = refl; cites = refl; asked = refl; is_ready = refl; is_known = (refl, omega arith); has_room = omega arith }), (stands (record { answers = refl; at_moment = refl; cites = refl; asked = refl; is_ready = refl; is_known = (refl, omega arith); has_room = omega arith }), (stands (record { answers = refl; at_moment = refl; cites = refl; asked = refl; is_ready = refl; is_known = (refl, omega arith); has_room = omega arith }), (stands (record { answers = refl; at_moment = refl; cites = refl; asked = refl; is_ready = refl; is_known = (refl, omega arith); has_room = omega arith }), (stands (record { answers = refl; at_moment = refl; cites = refl; asked = refl; is_ready = refl; is_known = (refl, omega arith); has_room = omega arith }), (record { answers = refl; at_moment = refl; cites = refl; is_asked = tt; is_ready = refl; is_known = (refl, omega arith); has_room = omega arith }, (stands (record { answers = refl; at_moment = refl; cites = refl; asked = refl; is_ready = refl; is_known = (refl, omega arith); has_room = omega arith }), (stands (record { answers = refl; at_moment = refl; cites = refl; asked = refl; is_ready = refl; is_known = (refl, omega arith); has_room = omega arith }), (stands (record { answers = refl; at_moment = refl; cites = refl; asked = refl; is_ready = refl; is_known = (refl, omega arith); has_room = omega arith }), (stands (record { answers = refl; at_moment = refl; cites = refl; asked = refl; is_ready = refl; is_known = (refl, omega arith); has_room = omega arith }), (stands (record { answers = refl; at_moment = refl; cites = refl; asked = refl; is_ready = refl; is_known = (refl, omega arith); has_room = omega arith }), (stands (record { answers = refl; at_moment = refl; cites = refl; asked = refl; is_ready = refl; is_known = (refl, omega arith); has_room = omega arith }), (stands (record { answers = refl; at_moment = refl; cites = refl; asked = refl; is_ready = refl; is_known = (refl, omega arith); has_room = omega arith }), (stands (record { answers = refl; at_moment = refl; cites = refl; asked = refl; is_ready = refl; is_known = (refl, omega arith); has_room = omega arith }), (stands (record { answers = refl; at_moment = refl; cites = refl; asked = refl; is_ready = refl; is_known = (refl, omega arith); has_room = omega arith }), (stands (record { answers = refl; at_moment = refl; cites = refl; asked = refl; is_ready = refl; is_known = (refl, omega arith); has_room = omega arith }), (stands (record { answers = refl; at_moment = refl; cites = refl; asked = refl; is_ready = refl; is_known = (refl, omega arith); has_room = omega arith }), (stands (record { answers = refl; at_moment = refl; cites = refl; asked = refl; is_ready = refl; is_known = (refl, omega arith); has_room = omega arith }), (stands (record { answers = refl; at_moment = refl; cites = refl; asked = refl; is_ready = refl; is_known = (refl, omega arith); has_room = omega arith }), (stands (record { answers = refl; at_moment = refl; cites = refl; asked = refl; is_ready = refl; is_known = (refl, omega arith); has_room = omega arith }), (stands (record { answers = refl; at_moment = refl; cites = refl; asked = refl; is_ready = refl; is_known = (refl, omega arith); has_room = omega arith }), (stands (record { answers = refl; at_moment = refl; cites = refl; asked = refl; is_ready = refl; is_known = (refl, omega arith); has_room = omega arith }), (stands (record { answers = refl; at_moment = refl; cites = refl; asked = refl; is_ready = refl; is_known = (refl, omega arith); has_room = omega arith }), (stands (record { answers = refl; at_moment = refl; cites = refl; asked = refl; is_ready = refl; is_known = (refl, omega arith); has_room = omega arith }), (stands (record { answers = refl; at_moment = refl; cites = refl; asked = refl; is_ready = refl; is_known = (refl, omega arith); has_room = omega arith }), (stands (record { answers = refl; at_moment = refl; cites = refl; asked = refl; is_ready = refl; is_known = (refl, omega arith); has_room = omega arith }), (stands (record { answers = refl; at_moment = refl; cites = refl; asked = refl; is_ready = refl; is_known = (refl, omega arith); has_room = omega arith }), (stands (record { answers = refl; at_moment = refl; cites = refl; asked = refl; is_ready = refl; is_known = (refl, omega arith); has_room = omega arith }), (stands (record { answers = refl; at_moment = refl; cites = refl; asked = refl; is_ready = refl; is_known = (refl, omega arith); has_room = omega arith }), (stands (record { answers = refl; at_moment = refl; cites = refl; asked = refl; is_ready = refl; is_known = (refl, omega arith); has_room = omega arith }), tt))))))))))))))))))))))))))))))
 
 second_follow : Follow carried_world one (after carried_world one) two
 unfolding number digits state_after most_requests t_bytes r_bytes counted_at qid_at list_at many_at t_version t_attach t_at r_version r_attach r_at
-second_follow = (stands (record { answers = refl; at_moment = refl; cites = refl; asked = refl; is_ready = refl; is_known = (refl, omega arith); has_room = omega arith }), stands (record { answers = refl; at_moment = refl; cites = refl; asked = refl; is_ready = refl; is_known = (refl, omega arith); has_room = omega arith }), stands (record { answers = refl; at_moment = refl; cites = refl; asked = refl; is_ready = refl; is_known = (refl, omega arith); has_room = omega arith }), stands (record { answers = refl; at_moment = refl; cites = refl; asked = refl; is_ready = refl; is_known = (refl, omega arith); has_room = omega arith }), stands (record { answers = refl; at_moment = refl; cites = refl; asked = refl; is_ready = refl; is_known = (refl, omega arith); has_room = omega arith }), stands (record { answers = refl; at_moment = refl; cites = refl; asked = refl; is_ready = refl; is_known = (refl, omega arith); has_room = omega arith }), stands (record { answers = refl; at_moment = refl; cites = refl; asked = refl; is_ready = refl; is_known = (refl, omega arith); has_room = omega arith }), stands (record { answers = refl; at_moment = refl; cites = refl; asked = refl; is_ready = refl; is_known = (refl, omega arith); has_room = omega arith }), stands (record { answers = refl; at_moment = refl; cites = refl; asked = refl; is_ready = refl; is_known = (refl, omega arith); has_room = omega arith }), stands (record { answers = refl; at_moment = refl; cites = refl; asked = refl; is_ready = refl; is_known = (refl, omega arith); has_room = omega arith }), stands (record { answers = refl; at_moment = refl; cites = refl; asked = refl; is_ready = refl; is_known = (refl, omega arith); has_room = omega arith }), stands (record { answers = refl; at_moment = refl; cites = refl; asked = refl; is_ready = refl; is_known = (refl, omega arith); has_room = omega arith }), stands (record { answers = refl; at_moment = refl; cites = refl; asked = refl; is_ready = refl; is_known = (refl, omega arith); has_room = omega arith }), stands (record { answers = refl; at_moment = refl; cites = refl; asked = refl; is_ready = refl; is_known = (refl, omega arith); has_room = omega arith }), stands (record { answers = refl; at_moment = refl; cites = refl; asked = refl; is_ready = refl; is_known = (refl, omega arith); has_room = omega arith }), stands (record { answers = refl; at_moment = refl; cites = refl; asked = refl; is_ready = refl; is_known = (refl, omega arith); has_room = omega arith }), stands (record { answers = refl; at_moment = refl; cites = refl; asked = refl; is_ready = refl; is_known = (refl, omega arith); has_room = omega arith }), stands (record { answers = refl; at_moment = refl; cites = refl; asked = refl; is_ready = refl; is_known = (refl, omega arith); has_room = omega arith }), stands (record { answers = refl; at_moment = refl; cites = refl; asked = refl; is_ready = refl; is_known = (refl, omega arith); has_room = omega arith }), stands (record { answers = refl; at_moment = refl; cites = refl; asked = refl; is_ready = refl; is_known = (refl, omega arith); has_room = omega arith }), tt)
+second_follow = (stands (record { answers = refl; at_moment = refl; cites = refl; asked = refl; is_ready = refl; is_known = (refl, omega arith); has_room = omega arith }), (stands (record { answers = refl; at_moment = refl; cites = refl; asked = refl; is_ready = refl; is_known = (refl, omega arith); has_room = omega arith }), (stands (record { answers = refl; at_moment = refl; cites = refl; asked = refl; is_ready = refl; is_known = (refl, omega arith); has_room = omega arith }), (stands (record { answers = refl; at_moment = refl; cites = refl; asked = refl; is_ready = refl; is_known = (refl, omega arith); has_room = omega arith }), (stands (record { answers = refl; at_moment = refl; cites = refl; asked = refl; is_ready = refl; is_known = (refl, omega arith); has_room = omega arith }), (stands (record { answers = refl; at_moment = refl; cites = refl; asked = refl; is_ready = refl; is_known = (refl, omega arith); has_room = omega arith }), (stands (record { answers = refl; at_moment = refl; cites = refl; asked = refl; is_ready = refl; is_known = (refl, omega arith); has_room = omega arith }), (stands (record { answers = refl; at_moment = refl; cites = refl; asked = refl; is_ready = refl; is_known = (refl, omega arith); has_room = omega arith }), (stands (record { answers = refl; at_moment = refl; cites = refl; asked = refl; is_ready = refl; is_known = (refl, omega arith); has_room = omega arith }), (stands (record { answers = refl; at_moment = refl; cites = refl; asked = refl; is_ready = refl; is_known = (refl, omega arith); has_room = omega arith }), (stands (record { answers = refl; at_moment = refl; cites = refl; asked = refl; is_ready = refl; is_known = (refl, omega arith); has_room = omega arith }), (stands (record { answers = refl; at_moment = refl; cites = refl; asked = refl; is_ready = refl; is_known = (refl, omega arith); has_room = omega arith }), (stands (record { answers = refl; at_moment = refl; cites = refl; asked = refl; is_ready = refl; is_known = (refl, omega arith); has_room = omega arith }), (stands (record { answers = refl; at_moment = refl; cites = refl; asked = refl; is_ready = refl; is_known = (refl, omega arith); has_room = omega arith }), (stands (record { answers = refl; at_moment = refl; cites = refl; asked = refl; is_ready = refl; is_known = (refl, omega arith); has_room = omega arith }), (stands (record { answers = refl; at_moment = refl; cites = refl; asked = refl; is_ready = refl; is_known = (refl, omega arith); has_room = omega arith }), (stands (record { answers = refl; at_moment = refl; cites = refl; asked = refl; is_ready = refl; is_known = (refl, omega arith); has_room = omega arith }), (stands (record { answers = refl; at_moment = refl; cites = refl; asked = refl; is_ready = refl; is_known = (refl, omega arith); has_room = omega arith }), (stands (record { answers = refl; at_moment = refl; cites = refl; asked = refl; is_ready = refl; is_known = (refl, omega arith); has_room = omega arith }), (stands (record { answers = refl; at_moment = refl; cites = refl; asked = refl; is_ready = refl; is_known = (refl, omega arith); has_room = omega arith }), tt))))))))))))))))))))
 
 third_follow : Follow carried_world (one ++ two) (after carried_world (one ++ two)) three
 unfolding number digits state_after most_requests t_bytes r_bytes counted_at qid_at list_at many_at t_version t_attach t_at r_version r_attach r_at
-third_follow = (stands (record { answers = refl; at_moment = refl; cites = refl; asked = refl; is_ready = refl; is_known = (refl, omega arith); has_room = omega arith }), stands (record { answers = refl; at_moment = refl; cites = refl; asked = refl; is_ready = refl; is_known = (refl, omega arith); has_room = omega arith }), stands (record { answers = refl; at_moment = refl; cites = refl; asked = refl; is_ready = refl; is_known = (refl, omega arith); has_room = omega arith }), stands (record { answers = refl; at_moment = refl; cites = refl; asked = refl; is_ready = refl; is_known = (refl, omega arith); has_room = omega arith }), stands (record { answers = refl; at_moment = refl; cites = refl; asked = refl; is_ready = refl; is_known = (refl, omega arith); has_room = omega arith }), stands (record { answers = refl; at_moment = refl; cites = refl; asked = refl; is_ready = refl; is_known = (refl, omega arith); has_room = omega arith }), stands (record { answers = refl; at_moment = refl; cites = refl; asked = refl; is_ready = refl; is_known = (refl, omega arith); has_room = omega arith }), stands (record { answers = refl; at_moment = refl; cites = refl; asked = refl; is_ready = refl; is_known = (refl, omega arith); has_room = omega arith }), stands (record { answers = refl; at_moment = refl; cites = refl; asked = refl; is_ready = refl; is_known = (refl, omega arith); has_room = omega arith }), stands (record { answers = refl; at_moment = refl; cites = refl; asked = refl; is_ready = refl; is_known = (refl, omega arith); has_room = omega arith }), stands (record { answers = refl; at_moment = refl; cites = refl; asked = refl; is_ready = refl; is_known = (refl, omega arith); has_room = omega arith }), stands (record { answers = refl; at_moment = refl; cites = refl; asked = refl; is_ready = refl; is_known = (refl, omega arith); has_room = omega arith }), stands (record { answers = refl; at_moment = refl; cites = refl; asked = refl; is_ready = refl; is_known = (refl, omega arith); has_room = omega arith }), stands (record { answers = refl; at_moment = refl; cites = refl; asked = refl; is_ready = refl; is_known = (refl, omega arith); has_room = omega arith }), stands (record { answers = refl; at_moment = refl; cites = refl; asked = refl; is_ready = refl; is_known = (refl, omega arith); has_room = omega arith }), stands (record { answers = refl; at_moment = refl; cites = refl; asked = refl; is_ready = refl; is_known = (refl, omega arith); has_room = omega arith }), stands (record { answers = refl; at_moment = refl; cites = refl; asked = refl; is_ready = refl; is_known = (refl, omega arith); has_room = omega arith }), stands (record { answers = refl; at_moment = refl; cites = refl; asked = refl; is_ready = refl; is_known = (refl, omega arith); has_room = omega arith }), stands (record { answers = refl; at_moment = refl; cites = refl; asked = refl; is_ready = refl; is_known = (refl, omega arith); has_room = omega arith }), stands (record { answers = refl; at_moment = refl; cites = refl; asked = refl; is_ready = refl; is_known = (refl, omega arith); has_room = omega arith }), tt)
+third_follow = (stands (record { answers = refl; at_moment = refl; cites = refl; asked = refl; is_ready = refl; is_known = (refl, omega arith); has_room = omega arith }), (stands (record { answers = refl; at_moment = refl; cites = refl; asked = refl; is_ready = refl; is_known = (refl, omega arith); has_room = omega arith }), (stands (record { answers = refl; at_moment = refl; cites = refl; asked = refl; is_ready = refl; is_known = (refl, omega arith); has_room = omega arith }), (stands (record { answers = refl; at_moment = refl; cites = refl; asked = refl; is_ready = refl; is_known = (refl, omega arith); has_room = omega arith }), (stands (record { answers = refl; at_moment = refl; cites = refl; asked = refl; is_ready = refl; is_known = (refl, omega arith); has_room = omega arith }), (stands (record { answers = refl; at_moment = refl; cites = refl; asked = refl; is_ready = refl; is_known = (refl, omega arith); has_room = omega arith }), (stands (record { answers = refl; at_moment = refl; cites = refl; asked = refl; is_ready = refl; is_known = (refl, omega arith); has_room = omega arith }), (stands (record { answers = refl; at_moment = refl; cites = refl; asked = refl; is_ready = refl; is_known = (refl, omega arith); has_room = omega arith }), (stands (record { answers = refl; at_moment = refl; cites = refl; asked = refl; is_ready = refl; is_known = (refl, omega arith); has_room = omega arith }), (stands (record { answers = refl; at_moment = refl; cites = refl; asked = refl; is_ready = refl; is_known = (refl, omega arith); has_room = omega arith }), (stands (record { answers = refl; at_moment = refl; cites = refl; asked = refl; is_ready = refl; is_known = (refl, omega arith); has_room = omega arith }), (stands (record { answers = refl; at_moment = refl; cites = refl; asked = refl; is_ready = refl; is_known = (refl, omega arith); has_room = omega arith }), (stands (record { answers = refl; at_moment = refl; cites = refl; asked = refl; is_ready = refl; is_known = (refl, omega arith); has_room = omega arith }), (stands (record { answers = refl; at_moment = refl; cites = refl; asked = refl; is_ready = refl; is_known = (refl, omega arith); has_room = omega arith }), (stands (record { answers = refl; at_moment = refl; cites = refl; asked = refl; is_ready = refl; is_known = (refl, omega arith); has_room = omega arith }), (stands (record { answers = refl; at_moment = refl; cites = refl; asked = refl; is_ready = refl; is_known = (refl, omega arith); has_room = omega arith }), (stands (record { answers = refl; at_moment = refl; cites = refl; asked = refl; is_ready = refl; is_known = (refl, omega arith); has_room = omega arith }), (stands (record { answers = refl; at_moment = refl; cites = refl; asked = refl; is_ready = refl; is_known = (refl, omega arith); has_room = omega arith }), (stands (record { answers = refl; at_moment = refl; cites = refl; asked = refl; is_ready = refl; is_known = (refl, omega arith); has_room = omega arith }), (stands (record { answers = refl; at_moment = refl; cites = refl; asked = refl; is_ready = refl; is_known = (refl, omega arith); has_room = omega arith }), tt))))))))))))))))))))
 
 two_parts : IsLegal carried_world (one ++ two)
 two_parts = legal_along carried_world one (after carried_world one) two refl (is_legal carried_world one first_follow) second_follow
