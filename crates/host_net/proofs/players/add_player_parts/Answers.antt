@@ -1,5 +1,6 @@
 use Rattle.std.proofs.Common.{◌≡◌, ◌++◌, List, [], ◌∷◌, length, length-append, reverse, ap, sym, ◌∙◌, arith}
 use Rattle.std.proofs.lemmas.List.{append-nil, reverse-reverse}
+use Rattle.std.proofs.lemmas.Result.{err_from_is_err_and}
 use Rattle.host_net.specs.Groups.{visits}
 use Rattle.host_net.specs.Playing.{guests_of}
 use Rattle.net_guests.specs.Visits.{Visit}
@@ -39,3 +40,7 @@ returns-clause-same g c =
     nil_of c.loop-player.players.items (omega (arith, c.in_default.ensures.cases.0, c.loop-player.players.ok.0)) in
     let parts = guests_of c.loop-player.parts.items in
     sym (append-nil parts) ∙ (ap (λ l. parts ++ visits (reverse l)) (sym none_left) ∙ c.loop-player.invariant.0)
+
+pub returns-in_err-push-clause-same : goal.returns-in_err-push-clause-same
+returns-in_err-push-clause-same g c =
+    let p = err_from_is_err_and c.from_residual-in_err-push.result c.from_residual-in_err-push.ensures.1 in rw (p.1) tt
