@@ -79,7 +79,7 @@ fn is_open_request(event: &Event) -> bool
 
 // Whether a remote file was opened, by the last entry of its step and the one before it.
 fn has_opened(alloc: Global, last: &Entry, before: Option<&Entry>) -> Result<bool, AllocError>
-    ensures { IfOk result (λ opened. opened ≡ spec.has_opened last.now (option_map (λ y. y.now) before)) }
+    ensures { IfOk result (λ opened. opened ≡ spec.has_opened last.now (option_map (λ y. y.now) before.entry)) }
 {
     let Some(before) = before else {
         return Ok(false);
@@ -96,7 +96,7 @@ fn put_opened(
     last: &Entry,
     before: Option<&Entry>,
 ) -> Result<(), AllocError>
-    ensures { OnOk result (out.new ≡ out.old ++ spec.opened_text last.now (option_map (λ y. y.now) before)) }
+    ensures { OnOk result (out.new ≡ out.old ++ spec.opened_text last.now (option_map (λ y. y.now) before.entry)) }
 {
     let opened = has_opened(alloc, last, before)?;
     if opened {
