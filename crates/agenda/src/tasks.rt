@@ -176,9 +176,9 @@ fn ended_of<'a, J: Naming + Placing, T: OwnTask + Drop>(
     players: Players<J, PlaceTask<'a, T>>,
 ) -> Result<Ended<J, T>, AllocError>
     requires places { places ≡ length J.world.scripts }
-    ensures all { IfOk result (λ back. (c : ℕ) → c < players.callers → HasGuest c back.guests.items) }
+    ensures all { IfOk result (λ back. (c : ℕ) → c < players.entry.callers → HasGuest c back.guests.items) }
     ensures plays { IfOk result (λ back. ArePlayed J.tasks J.world back.guests.items) }
-    ensures same { IfOk result (λ back. back.guests.items ≡ visits (all_members players.groups)) }
+    ensures same { IfOk result (λ back. back.guests.items ≡ visits (all_members players.entry.groups)) }
     ensures tasks { IfOk result (λ back. AreBack T.asks T.after T.Keeps J.tasks J.world back.guests.items back.tasks.items) }
     ensures many { IfOk result (λ back. length back.tasks.items ≡ length J.world.scripts) }
     ensures theirs { IfOk result (λ back. AreTheirs J.tasks back.tasks.items) }

@@ -5,12 +5,15 @@ use Rattle.agenda.proofs.Backing.{begun_own, goes_at_first}
 use Rattle.agenda.proofs.Dealing.{deals_more, next_caller, next_fresh}
 use Rattle.agenda.proofs.tasks.players_of.Goals as goal
 
-pub place_task-task-requires-clause-begun : goal.place_task-task-requires-clause-begun
-place_task-task-requires-clause-begun g c =
+pub place_task-task-requires : goal.place_task-task-requires
+place_task-task-requires g c =
     let guest = c.in-Some.guest in
     let n = next_caller _ _ _ _ _ guest _ c.loop-guest.invariant.0 c.in-Some.ensures.steps.0 in
-    begun_own g.T.OwnTask.asks g.T.OwnTask.after g.T.OwnTask.Keeps c.args.tasks.items c.take-own.result guest.caller c.requires.begun
-    (c.take-own.ensures.there ∙ (ap (task_at c.loop-guest.tasks.items) c.caller-caller.ensures ∙ c.loop-guest.invariant.1 guest.caller (omega (arith, n))))
+    record {
+      begun =
+          begun_own g.T.OwnTask.asks g.T.OwnTask.after g.T.OwnTask.Keeps c.args.tasks.items c.take-own.result guest.caller c.requires.begun
+          (c.take-own.ensures.there ∙ (ap (task_at c.loop-guest.tasks.items) c.caller-caller.ensures ∙ c.loop-guest.invariant.1 guest.caller (omega (arith, n))));
+    }
 
 pub new-player-requires-clause-fresh : goal.new-player-requires-clause-fresh
 new-player-requires-clause-fresh g c = next_fresh _ _ _ _ _ c.in-Some.guest _ c.loop-guest.invariant.0 c.in-Some.ensures.steps.0

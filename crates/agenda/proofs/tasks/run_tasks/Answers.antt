@@ -9,10 +9,10 @@ returns-clause-asked g c = λ k s t there given.
     let asks = g.T.OwnTask.asks in
     let after = g.T.OwnTask.after in
     let w = c.args.world.now in
-    c.tasks_ask_in_order.ensures (tasks_of asks after c.args.tasks.items) w c.in_ok-run.run.history k s (asking_of after asks t) c.in_ok-run.ensures.legal
+    c.tasks_ask_in_order.ensures (tasks_of asks after c.args.tasks.items) w c.in_ok-run.run'.history k s (asking_of after asks t) c.in_ok-run.ensures.legal
     (script_is w k s there) (ap (option_map (asking_of after asks)) given)
 
 pub returns-clause-prefixes : goal.returns-clause-prefixes
 returns-clause-prefixes g c =
-    c.tasks_keep_prefixes.ensures (tasks_of g.T.OwnTask.asks g.T.OwnTask.after c.args.tasks.items) c.args.world.now c.in_ok-run.run.history c.requires.world
+    c.tasks_keep_prefixes.ensures (tasks_of g.T.OwnTask.asks g.T.OwnTask.after c.args.tasks.items) c.args.world.now c.in_ok-run.run'.history c.requires.world
     c.in_ok-run.ensures.legal
