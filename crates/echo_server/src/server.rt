@@ -95,10 +95,13 @@ fn behind(alloc: Global, stage: &mut Stage, reply: Reply) -> Result<Option<Stage
 fn behind_read(reply: Reply) -> Stage
     ensures { result ≡ after_read reply }
 {
-    match reply {
-        Reply::Bytes { bytes } if bytes.len() != 0 => Stage::Echo(bytes),
-        _ => Stage::CloseData,
+    let Reply::Bytes { bytes } = reply else {
+        return Stage::CloseData;
+    };
+    if bytes.len() == 0 {
+        return Stage::CloseData;
     }
+    Stage::Echo(bytes)
 }
 
 /// Reads a message of the call.
