@@ -2,7 +2,8 @@
 """How long runs of the program take, on inputs of known size: a benchmark, and no part of the gate.
 
 .ci/speed.py [BINARY [RUNS]]: of each command the least and the middle of RUNS (7), as milliseconds of wall and of processor time,
-and the most memory that it had, in MB (never told below what this script has itself, some 10); the same of mawk and grep.
+and the most memory that it had, in MB (never told below what this script has itself, some 10); the same of mawk and grep. Of a
+long run also the bytes of memory that an entry took beside its text.
 BINARY is crates/netsh/out/netsh, the proved one, unless another is named. Measure on a quiet machine.
 """
 
@@ -19,6 +20,7 @@ TUPLES = 10000
 PAIRS = 4
 MESSAGES = 2000
 MOMENTS = 5000
+LONG = 9000
 # what others take to find the same line: by its fields, by its head, by its text
 BESIDE = [
     ["mawk", '{ for (i = 1; i <= NF; i++) if ($i == "dom=h99.example.com") print }'],
@@ -99,6 +101,27 @@ def shapes():
     yield "one value", ["sys="] + ["x" * PIECE] * (MOST // PIECE - 1)
 
 
+def made(binary, messages):
+    """The world of so many messages that the program makes."""
+    return subprocess.run([binary, "make", str(messages)], stdout=subprocess.PIPE, check=True).stdout.decode()
+
+
+def peak(words):
+    """The most memory of a command in bytes, by a process that has little itself: what a child had includes what its parent ever had."""
+    code = "import os, subprocess, sys; p = subprocess.Popen(sys.argv[1:], stdout=subprocess.DEVNULL); print(os.wait4(p.pid, 0)[2].ru_maxrss)"
+    return 1024 * int(subprocess.run([sys.executable, "-c", code, *words], stdin=subprocess.DEVNULL, stdout=subprocess.PIPE, check=True).stdout)
+
+
+def entry_bytes(binary):
+    """The bytes of memory that `big`, which makes no text, takes for an entry more, with its share of the made world."""
+    entries, peaks = [], []
+    for messages in (LONG // 2, LONG):
+        text = subprocess.run([binary, "run", "1"], input=made(binary, messages).encode(), stdout=subprocess.PIPE, check=True).stdout
+        entries.append(sum(line[:1].isdigit() for line in text.splitlines()))
+        peaks.append(peak([binary, "big", str(messages)]))
+    return (peaks[1] - peaks[0]) / (entries[1] - entries[0])
+
+
 def measure(words, pieces, runs, room=None):
     """The wall and the processor time of each run, in milliseconds, and its most memory, in MB; with so many bytes of memory."""
     walls, processors, peaks = [], [], []
@@ -137,9 +160,11 @@ def main():
         text = moments(scripts)
         cases += [(f"{scripts} x until, run {n}", ["run", str(n)], text) for n in (1, 2, 4, 16)]
     cases += [(f"{name}, run {n}", ["run", str(n)], text) for name, text in examples() for n in (1, 16)]
-    cases += [(f"big {n}", ["big", str(n)], "") for n in (1000, 9000)]
+    cases += [(f"big {n}", ["big", str(n)], "") for n in (1000, LONG)]
+    cases += [(f"make {LONG}, run 1", ["run", "1"], made(binary, LONG))]
     for name, words, text in cases:
         show(name, *measure([binary, *words], [text], runs))
+    print(f"{'an entry':20} {entry_bytes(binary):.0f} bytes", flush=True)
     show("no thread, run 4", *measure([binary, "run", "4"], [dict(examples())["callers"]], runs, NO_STACK))
 
 

@@ -1,3 +1,4 @@
 pub mod Dealing
 pub mod Closing
+pub mod Backing
 pub mod Scripts

@@ -1,10 +1,13 @@
-//! Runs the scripts of a world on any number of workers.
+//! Runs the scripts of a world, or tasks of one's own in their places, on any number of workers.
 #![tactic(auto)]
 
 mod deal;
 mod outcome;
 mod phases;
+mod tasks;
 
-pub use outcome::{BookedRun, Run, RunError};
+pub use outcome::{BookedRun, Run, RunError, TaskRun};
 pub use phases::{run, run_in_books};
 pub use run_record::RunEnd;
+pub use tasks::run_tasks;
+pub use whole_script::{EitherTask, OwnTask};

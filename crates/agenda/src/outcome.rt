@@ -21,6 +21,14 @@ pub struct BookedRun {
     pub end: RunEnd,
 }
 
+/// The history of a run with tasks of one's own, the tasks as they are in the end, each in its place, and how it ends.
+#[derive(Drop)]
+pub struct TaskRun<T> {
+    pub history: History,
+    pub tasks: Vec<Option<T>>,
+    pub end: RunEnd,
+}
+
 /// Why there is no run.
 #[derive(Clone, Copy, Debug, PartialEq, Eq)]
 pub enum RunError {

@@ -1,8 +1,8 @@
 //! A run: phases of players on workers, and the clock between them.
-ghost use Rattle.std.specs.Prelude.{◌≡◌, ◌<◌, ◌≤◌, [], length, IfOk, OnOk};
+ghost use Rattle.std.specs.Prelude.{◌≡◌, ◌<◌, ◌≤◌, ℕ, [], None, length, IfOk, OnOk};
 ghost use Rattle.net_base.specs.declared.world.Script.{Script as AnyScript};
 ghost use Rattle.net_base.specs.Callers.{IsScript, caller_of};
-ghost use Rattle.net_base.specs.Legal.{IsLegal, IsTimed};
+ghost use Rattle.net_base.specs.Legal.{IsLegal, IsLegalBy, IsTimed, IsTimedBy};
 ghost use Rattle.net_base.specs.Net.{after};
 ghost use Rattle.net_base.specs.Summary.{answered_steps};
 ghost use Rattle.net_base.specs.World.{IsWorld};
@@ -13,7 +13,7 @@ ghost use Rattle.whole_script.specs.ScriptTasks.{Plays};
 ghost use Rattle.host_net.specs.Groups.{all_members, visits};
 ghost use Rattle.net_locks.specs.Rosters.{IsRosterOf};
 ghost use Rattle.net_guests.specs.Visits.{AreFresh};
-ghost use Rattle.run_record.specs.Ends.{EndsSo};
+ghost use Rattle.run_record.specs.Ends.{EndsBy, EndsSo};
 ghost use Rattle.agenda.specs.Ending.{EndAllSo};
 
 use crate::deal::{Deal, deal_of};
@@ -29,7 +29,7 @@ use std::alloc::{AllocError, Global};
 use std::marker::Brand;
 use std::sync::Wait;
 use std::thread::Threads;
-use whole_script::ScriptTask;
+use whole_script::{ScriptTask, WholeTask};
 
 /// Runs the scripts of a world on so many workers. Where a thread can't be had, the caller does its work.
 pub fn run<R: Threads + Wait + Sync, G: Gate + Sync>(
@@ -78,8 +78,10 @@ pub fn run_in_books<R: Threads + Wait + Sync, G: Gate + Sync>(
     ensures end { IfOk result (λ run. EndsSo world.now (after world.now run.books) run.end) }
     ensures headline { IfOk result (λ run. Headline world.now run.books) }
 {
+    legal_histories_keep_it();
     let opened = NetOpened::new(alloc, world)?;
-    Ok(run_named::<Brand, R, G>(rt, alloc, world, workers, gate, opened)?)
+    let run = run_named::<Brand, R, G>(rt, alloc, world, workers, gate, opened)?;
+    Ok(run)
 }
 
 // The run, which has a name.
@@ -93,16 +95,15 @@ fn run_named<J: Naming + Placing + Send + Sync, R: Threads + Wait + Sync, G: Gat
 ) -> Result<BookedRun, AllocError>
     requires name { opened ≡ J.run }
     requires world { J.world ≡ world.now }
+    requires scripts { (c : ℕ) → J.tasks c ≡ None }
     requires is { IsWorld world.now }
     requires roster { IsRosterOf J.world J.run.roster }
     requires some { 0 < workers }
-    ensures legal { IfOk result (λ run. IsLegal J.world run.books) }
-    ensures timed { IfOk result (λ run. IsTimed J.world run.books) }
+    ensures legal { IfOk result (λ run. IsLegalBy J.tasks J.world run.books) }
+    ensures timed { IfOk result (λ run. IsTimedBy J.tasks J.world run.books) }
     ensures answered { IfOk result (λ run. run.answered ≡ answered_steps J.world run.books) }
-    ensures end { IfOk result (λ run. EndsSo J.world (after J.world run.books) run.end) }
-    ensures headline { IfOk result (λ run. Headline J.world run.books) }
+    ensures end { IfOk result (λ run. EndsBy J.tasks J.world (after J.world run.books) run.end) }
 {
-    legal_histories_keep_it();
     let (net, guests) = Net::<J, WorldActor<J>>::named(alloc, world, opened)?;
     let deal = deal_of(rt, alloc, world, workers)?;
     let mut players = players_of(alloc, world, guests, deal)?;
@@ -128,6 +129,7 @@ fn players_of<'a, J: Naming + Placing>(
 ) -> Result<Players<J, ScriptTask<'a>>, AllocError>
     requires world { J.world ≡ world.now }
     requires is { IsWorld world.now }
+    requires scripts { (c : ℕ) → J.tasks c ≡ None }
     requires roster { IsRosterOf J.world J.run.roster }
     requires some { 0 < deal.groups }
     requires fresh { AreFresh (zone_of J.world) 0 guests.items }
@@ -143,7 +145,7 @@ fn players_of<'a, J: Naming + Placing>(
 }
 
 // The task of a script, or one without steps for another caller.
-fn task_of<'a>(alloc: Global, world: &'a World, caller: u32) -> ScriptTask<'a>
+pub(crate) fn task_of<'a>(alloc: Global, world: &'a World, caller: u32) -> ScriptTask<'a>
     ensures { (s : AnyScript) → caller_of world.now caller ≡ IsScript s → Plays (zone_of world.now) s [] (no_names (zone_of world.now)) result }
 {
     match world.scripts.as_slice().get(caller as usize) {
@@ -153,19 +155,21 @@ fn task_of<'a>(alloc: Global, world: &'a World, caller: u32) -> ScriptTask<'a>
 }
 
 // The players go on until each of them waits, and then the clock moves, until the run ends.
-fn phases<'a, J: Naming + Placing + Send + Sync, R: Threads + Wait + Sync, G: Gate + Sync>(
+pub(crate) fn phases<J, R: Threads + Wait + Sync, G: Gate + Sync, T: WholeTask + Drop + Send>(
     rt: &R,
     alloc: Global,
     world: &World,
     gate: &G,
     net: &Net<J, WorldActor<J>>,
-    players: &mut Players<J, ScriptTask<'a>>,
+    players: &mut Players<J, T>,
 ) -> Result<RunEnd, AllocError>
+where
+    J: Naming + Placing + Send + Sync,
     requires world { J.world ≡ world.now }
     requires is { IsWorld world.now }
     requires all { players.old.callers ≡ J.run.roster.callers }
     ensures all { OnOk result (players.new.callers ≡ J.run.roster.callers) }
-    ensures ended { IfOk result (EndAllSo J.world (visits (all_members players.new.groups))) }
+    ensures ended { IfOk result (EndAllSo J.tasks J.world (visits (all_members players.new.groups))) }
 {
     for _ in rt.forever() {
         net.play_phase(rt, alloc, gate, players);

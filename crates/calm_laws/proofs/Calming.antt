@@ -13,10 +13,11 @@ use Rattle.net_base.specs.declared.world.World.{World}
 use Rattle.net_base.specs.ActorStep.{Step}
 use Rattle.net_base.specs.Actors.{Actor, IsDesk, IsConv, IsDir, IsMedium, IsPlain, actor_step, step_as}
 use Rattle.net_base.specs.Callers.{Caller, IsScript, IsCourier, IsClock, caller_of, other_caller, caller_count, clock_number, first_courier}
-use Rattle.net_base.specs.Calm.{calm, can_go_on, is_quiet, is_ready, nothing_owed, nothing_pending, owes, scripts_wait}
+use Rattle.net_base.specs.Calm.{calm_by, can_go_on_by, is_quiet, is_ready, nothing_owed, nothing_pending, owes, scripts_wait_by}
 use Rattle.net_base.specs.Medium.{Medium, takes}
 use Rattle.net_base.specs.Net.{Net}
-use Rattle.net_base.specs.Next.{next_of}
+use Rattle.net_base.specs.Next.{next_of_by}
+use Rattle.net_base.specs.Tasks.{Tasks}
 use Rattle.calm_laws.specs.Could.{could}
 use Rattle.calm_laws.proofs.Ranges.{all_range, and_left, and_right, fails_range, or_false}
 
@@ -39,12 +40,12 @@ clock_is w =
     let none : slice_get w.scripts (clock_number w) ≡ None = slice_get_past w.scripts (clock_number w) (omega arith) in
     other_is w (clock_number w) none ∙ rw (le-ltb (clock_number w) (clock_number w) (omega arith), eq-eqb (clock_number w) (clock_number w) refl) refl
 
-pub clock_waits : (w : World) (net : Net) → can_go_on w net (clock_number w) ≡ false
-clock_waits w net = ap (λ (k : Caller). is_ready w net (next_of w k net.past (clock_number w))) (clock_is w)
+pub clock_waits : (ts : Tasks) (w : World) (net : Net) → can_go_on_by ts w net (clock_number w) ≡ false
+clock_waits ts w net = ap (λ (k : Caller). is_ready w net (next_of_by ts w k net.past (clock_number w))) (clock_is w)
 
 -- so it could record only what it owes
-pub clock_only_owes : (w : World) (net : Net) → could w net (clock_number w) ≡ owes net (clock_number w)
-clock_only_owes w net = rw (clock_waits w net) (or_none (owes net (clock_number w)))
+pub clock_only_owes : (ts : Tasks) (w : World) (net : Net) → could ts w net (clock_number w) ≡ owes net (clock_number w)
+clock_only_owes ts w net = rw (clock_waits ts w net) (or_none (owes net (clock_number w)))
   where
     or_none : (b : Bool) → (b || false) ≡ b
     or_none true = refl
@@ -84,9 +85,9 @@ kind_of w c lt = by_script (slice_get w.scripts c) refl
 unfoldable ready_take : World → Net → ℕ → Bool
 ready_take w net m = is_some (actor_step w (name.Medium m) (net.actors (name.Medium m)) net.moment (record { event = event.Take; with = given.Nothing }))
 
-courier_goes : (w : World) (net : Net) (m c : ℕ) → c ≡ length w.scripts + m → m < length w.media → can_go_on w net c ≡ ready_take w net m
+courier_goes : (ts : Tasks) (w : World) (net : Net) (m c : ℕ) → c ≡ length w.scripts + m → m < length w.media → can_go_on_by ts w net c ≡ ready_take w net m
 unfolding ready_take
-courier_goes w net m c at lt = ap (λ (k : Caller). is_ready w net (next_of w k net.past c)) (courier_is w m c at lt)
+courier_goes ts w net m c at lt = ap (λ (k : Caller). is_ready w net (next_of_by ts w k net.past c)) (courier_is w m c at lt)
 
 medium_there : (w : World) (m : ℕ) → m < length w.media → (s : MediumSpec) × (slice_get w.media m ≡ Some s)
 medium_there w m lt = at w.media m lt
@@ -122,12 +123,12 @@ quiet_is w net m lt = by_actor (net.actors (name.Medium m))
 
 -- The calm.
 
-pub is_calm : (w : World) (net : Net) → ((c : ℕ) → c < caller_count w → could w net c ≡ false) → calm w net ≡ true
-is_calm w net none = rw (nothing, pending, waiting) refl
+pub is_calm : (ts : Tasks) (w : World) (net : Net) → ((c : ℕ) → c < caller_count w → could ts w net c ≡ false) → calm_by ts w net ≡ true
+is_calm ts w net none = rw (nothing, pending, waiting) refl
   where
     nothing : nothing_owed w net ≡ true
     nothing = all_range (λ (c : ℕ). not (owes net c)) (caller_count w) 0
-        (λ c lt. ap not (or_false (owes net c) (can_go_on w net c) (none c (omega (arith, lt)))).0)
+        (λ c lt. ap not (or_false (owes net c) (can_go_on_by ts w net c) (none c (omega (arith, lt)))).0)
 
     pending : nothing_pending w net ≡ true
     pending =
@@ -135,27 +136,27 @@ is_calm w net none = rw (nothing, pending, waiting) refl
         let near : m < length w.media = omega (arith, lt) in
         let c : ℕ = length w.scripts + m in
         quiet_is w net m near
-        ∙ ap not (sym (courier_goes w net m c refl near) ∙ (or_false (owes net c) (can_go_on w net c) (none c (omega (arith, near)))).1))
+        ∙ ap not (sym (courier_goes ts w net m c refl near) ∙ (or_false (owes net c) (can_go_on_by ts w net c) (none c (omega (arith, near)))).1))
 
-    waiting : scripts_wait w net ≡ true
-    waiting = all_range (λ (c : ℕ). not (can_go_on w net c)) (length w.scripts) 0
-        (λ c lt. ap not (or_false (owes net c) (can_go_on w net c) (none c (omega (arith, lt)))).1)
+    waiting : scripts_wait_by ts w net ≡ true
+    waiting = all_range (λ (c : ℕ). not (can_go_on_by ts w net c)) (length w.scripts) 0
+        (λ c lt. ap not (or_false (owes net c) (can_go_on_by ts w net c) (none c (omega (arith, lt)))).1)
 
-pub is_busy : (w : World) (net : Net) (c : ℕ) → c < caller_count w → could w net c ≡ true → calm w net ≡ false
-is_busy w net c lt is = by_owes (owes net c) refl is
+pub is_busy : (ts : Tasks) (w : World) (net : Net) (c : ℕ) → c < caller_count w → could ts w net c ≡ true → calm_by ts w net ≡ false
+is_busy ts w net c lt is = by_owes (owes net c) refl is
   where
-    goes_on : can_go_on w net c ≡ true → Kind w c → calm w net ≡ false
+    goes_on : can_go_on_by ts w net c ≡ true → Kind w c → calm_by ts w net ≡ false
     goes_on goes (OfScript s at) =
-        and_right (nothing_owed w net) _ (and_right (nothing_pending w net) (scripts_wait w net)
-        (fails_range (λ (k : ℕ). not (can_go_on w net k)) (length w.scripts) 0 c (omega arith) (omega (arith, slice_get_within w.scripts c s at))
+        and_right (nothing_owed w net) _ (and_right (nothing_pending w net) (scripts_wait_by ts w net)
+        (fails_range (λ (k : ℕ). not (can_go_on_by ts w net k)) (length w.scripts) 0 c (omega arith) (omega (arith, slice_get_within w.scripts c s at))
         (ap not goes)))
     goes_on goes (OfCourier m near at) =
-        and_right (nothing_owed w net) _ (and_left (nothing_pending w net) (scripts_wait w net)
+        and_right (nothing_owed w net) _ (and_left (nothing_pending w net) (scripts_wait_by ts w net)
         (fails_range (λ (k : ℕ). is_quiet (net.actors (name.Medium k))) (length w.media) 0 m (omega arith) (omega (arith, near))
-        (quiet_is w net m near ∙ ap not (sym (courier_goes w net m c at near) ∙ goes))))
-    goes_on goes (OfClock at) = absurd (false≢true (sym (clock_waits w net) ∙ subst (λ (k : ℕ). can_go_on w net k ≡ true) at goes))
+        (quiet_is w net m near ∙ ap not (sym (courier_goes ts w net m c at near) ∙ goes))))
+    goes_on goes (OfClock at) = absurd (false≢true (sym (clock_waits ts w net) ∙ subst (λ (k : ℕ). can_go_on_by ts w net k ≡ true) at goes))
 
-    by_owes : (b : Bool) → owes net c ≡ b → (b || can_go_on w net c) ≡ true → calm w net ≡ false
+    by_owes : (b : Bool) → owes net c ≡ b → (b || can_go_on_by ts w net c) ≡ true → calm_by ts w net ≡ false
     by_owes true owing is = and_left (nothing_owed w net) _ (fails_range (λ (k : ℕ). not (owes net k)) (caller_count w) 0 c (omega arith) (omega (arith, lt))
         (ap not owing))
     by_owes false owing is = goes_on is (kind_of w c lt)

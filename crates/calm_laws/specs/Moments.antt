@@ -6,8 +6,9 @@ use Rattle.net_base.specs.Callers.{caller_count, caller_of}
 use Rattle.net_base.specs.Calm.{awaited_moment}
 use Rattle.net_base.specs.Duties.{conversations, due_of}
 use Rattle.net_base.specs.Net.{Net}
-use Rattle.net_base.specs.Next.{next_of}
+use Rattle.net_base.specs.Next.{next_of_by}
 use Rattle.net_base.specs.Stamped.{In}
+use Rattle.net_base.specs.Tasks.{Tasks}
 
 -- a conversation is due at the moment
 pub record IsDue (w : World) (net : Net) (m : ℕ) : Type 0 where
@@ -16,7 +17,7 @@ pub record IsDue (w : World) (net : Net) (m : ℕ) : Type 0 where
   pub due : due_of (net.actors actor) ≡ Some m
 
 -- a caller's next event waits for the moment
-pub record IsAwaited (w : World) (net : Net) (m : ℕ) : Type 0 where
+pub record IsAwaited (ts : Tasks) (w : World) (net : Net) (m : ℕ) : Type 0 where
   pub caller : ℕ
   pub known : caller < caller_count w
-  pub awaits : awaited_moment (next_of w (caller_of w caller) net.past caller) ≡ Some m
+  pub awaits : awaited_moment (next_of_by ts w (caller_of w caller) net.past caller) ≡ Some m

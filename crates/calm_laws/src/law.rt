@@ -8,11 +8,12 @@ ghost use Rattle.net_base.specs.declared.history.Entry.{Entry};
 ghost use Rattle.net_base.specs.declared.world.World.{World};
 ghost use Rattle.net_base.specs.Actors.{has_actor};
 ghost use Rattle.net_base.specs.Callers.{caller_count, clock_number};
-ghost use Rattle.net_base.specs.Calm.{calm, limited, movable, owes, target, unfinished};
+ghost use Rattle.net_base.specs.Calm.{calm_by, limited_by, movable_by, owes, target_by, unfinished_by};
 ghost use Rattle.net_base.specs.Duties.{conversations};
-ghost use Rattle.net_base.specs.Legal.{IsInTime};
+ghost use Rattle.net_base.specs.Legal.{IsInTimeBy};
 ghost use Rattle.net_base.specs.Net.{Net};
 ghost use Rattle.net_base.specs.Stamped.{In, of_caller};
+ghost use Rattle.net_base.specs.Tasks.{Tasks};
 ghost use Rattle.calm_laws.specs.Could.{could, is_full};
 ghost use Rattle.calm_laws.specs.Moments.{IsAwaited, IsDue};
 
@@ -20,25 +21,25 @@ use history_laws::full_callers_limit;
 
 /// The net is calm exactly where no caller could record. The clock could record only what it owes.
 pub fn calm_is_that_nobody_could()
-    ensures calm { (w : World) (net : Net) → ((c : ℕ) → c < caller_count w → could w net c ≡ false)
-        → calm w net ≡ true }
-    ensures busy { (w : World) (net : Net) (c : ℕ) → c < caller_count w → could w net c ≡ true
-        → calm w net ≡ false }
-    ensures clock { (w : World) (net : Net) → could w net (clock_number w) ≡ owes net (clock_number w) }
+    ensures calm { (ts : Tasks) (w : World) (net : Net) → ((c : ℕ) → c < caller_count w → could ts w net c ≡ false)
+        → calm_by ts w net ≡ true }
+    ensures busy { (ts : Tasks) (w : World) (net : Net) (c : ℕ) → c < caller_count w → could ts w net c ≡ true
+        → calm_by ts w net ≡ false }
+    ensures clock { (ts : Tasks) (w : World) (net : Net) → could ts w net (clock_number w) ≡ owes net (clock_number w) }
 {}
 
 /// Where no full caller could record, and the clock isn't full where it may move, the run isn't limited.
 pub fn nobody_is_limited()
-    ensures { (w : World) (net : Net) → ((c : ℕ) → c < caller_count w → (is_full net c && could w net c) ≡ false)
-        → (is_full net (clock_number w) && movable w net) ≡ false → limited w net ≡ false }
+    ensures { (ts : Tasks) (w : World) (net : Net) → ((c : ℕ) → c < caller_count w → (is_full net c && could ts w net c) ≡ false)
+        → (is_full net (clock_number w) && movable_by ts w net) ≡ false → limited_by ts w net ≡ false }
 {}
 
 /// A full caller that could record limits the run, and so does a full clock that may move.
 pub fn somebody_is_limited()
-    ensures caller { (w : World) (net : Net) (c : ℕ) → c < caller_count w → is_full net c ≡ true
-        → could w net c ≡ true → limited w net ≡ true }
-    ensures clock { (w : World) (net : Net) → is_full net (clock_number w) ≡ true → movable w net ≡ true
-        → limited w net ≡ true }
+    ensures caller { (ts : Tasks) (w : World) (net : Net) (c : ℕ) → c < caller_count w → is_full net c ≡ true
+        → could ts w net c ≡ true → limited_by ts w net ≡ true }
+    ensures clock { (ts : Tasks) (w : World) (net : Net) → is_full net (clock_number w) ≡ true → movable_by ts w net ≡ true
+        → limited_by ts w net ≡ true }
 {
     full_callers_limit();
 }
@@ -54,17 +55,17 @@ pub fn conversations_are_these()
 /// A moment that none of those comes before, and that is one of them or the end moment, is the clock's target. In which
 /// order they are found is no matter.
 pub fn targets_are_least()
-    ensures { (w : World) (net : Net) (t : ℕ) → t ≤ w.end → ((m : ℕ) → IsDue w net m → t ≤ m)
-        → ((m : ℕ) → IsAwaited w net m → t ≤ m) → (t ≡ w.end) ⊎ (IsDue w net t ⊎ IsAwaited w net t)
-        → t ≡ target w net }
+    ensures { (ts : Tasks) (w : World) (net : Net) (t : ℕ) → t ≤ w.end → ((m : ℕ) → IsDue w net m → t ≤ m)
+        → ((m : ℕ) → IsAwaited ts w net m → t ≤ m) → (t ≡ w.end) ⊎ (IsDue w net t ⊎ IsAwaited ts w net t)
+        → t ≡ target_by ts w net }
 {}
 
 /// A move in a calm, before the end and where some script isn't through, comes in time where it goes to the target.
 pub fn moves_are_timely()
-    ensures may { (w : World) (net : Net) → calm w net ≡ true → unfinished w net ≡ true → net.moment < w.end
-        → movable w net ≡ true }
-    ensures timely { (w : World) (net : Net) (m : ℕ) → movable w net ≡ true → m ≡ target w net
-        → IsInTime net w (event.Move m) }
+    ensures may { (ts : Tasks) (w : World) (net : Net) → calm_by ts w net ≡ true → unfinished_by ts w net ≡ true → net.moment < w.end
+        → movable_by ts w net ≡ true }
+    ensures timely { (ts : Tasks) (w : World) (net : Net) (m : ℕ) → movable_by ts w net ≡ true → m ≡ target_by ts w net
+        → IsInTimeBy ts net w (event.Move m) }
 {}
 
 /// Two histories in which each caller has the same entries with the same stamps are one.

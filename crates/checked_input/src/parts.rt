@@ -1,9 +1,9 @@
 //! The two parts of an input, which its first line `%history` divides.
-ghost use Rattle.std.specs.Prelude.{◌≡◌, ◌+◌, ◌∷◌, ◌<◌, ◌≤◌, ◌^◌, length, drop, IfErr, IfOk, None, Some};
-ghost use Rattle.std.specs.List.{position_or_len};
-ghost use Rattle.net_base.specs.NdbText.{is_newline};
+ghost use Rattle.std.specs.Prelude.{◌≡◌, ◌+◌, ◌<◌, ◌≤◌, ◌^◌, length, IfErr, IfOk, None, Some};
 ghost use Rattle.world_text.specs.WorldText.{cuts_of};
 ghost use Rattle.checked_input.specs.Input.{is_mark, parts_of};
+
+use world_file::cut_line;
 
 /// The parts of an input that has a history.
 #[derive(Clone, Copy)]
@@ -27,7 +27,7 @@ pub fn split(input: &[u8]) -> Result<Parts<'_>, u64>
     let mut rest = input;
     let mut lines: u64 = 0;
     while !rest.is_empty() {
-        let (line, behind) = cut(rest);
+        let (line, behind) = cut_line(rest);
         if is_mark(line) {
             return Ok(Parts {
                 world: &input[..input.len() - rest.len()],
@@ -46,34 +46,4 @@ fn is_mark(line: &[u8]) -> bool
     ensures { result ≡ is_mark line.now }
 {
     line == b"%history".as_slice()
-}
-
-// The first line of a text, and what stands behind its newline.
-fn cut(text: &[u8]) -> (&[u8], &[u8])
-    requires { 0 < length text.now }
-    ensures cut { cuts_of text.now ≡ record { line = result.0.now; behind = result.1.now } ∷ cuts_of result.1.now }
-    ensures less { length result.1.now < length text.now }
-{
-    let end = line_len(text);
-    (&text[..end], behind(text, end))
-}
-
-// How many bytes stand before the first newline.
-fn line_len(text: &[u8]) -> usize
-    ensures { result ≡ position_or_len is_newline text.now }
-{
-    text.iter()
-        .position(|byte| *byte == b'\n')
-        .unwrap_or(text.len())
-}
-
-// What stands behind a place.
-fn behind(text: &[u8], place: usize) -> &[u8]
-    ensures { result.now ≡ drop (place + 1) text.now }
-{
-    if place < text.len() {
-        &text[place + 1..]
-    } else {
-        &[]
-    }
 }

@@ -8,54 +8,55 @@ use Rattle.sessions.specs.declared.world.SessionWorld.{SessionWorld}
 use Rattle.sessions.specs.Worlds.{IsTranslated}
 use Rattle.world_text.specs.WorldText.{world_reading}
 use Rattle.world_file.specs.SessionText.{Says}
-use Rattle.commands.specs.Built.{cs_found, cs_over, dns_found, dns_over, made, query_found, query_over, translation, unless_bad, IsAnswer, IsBadTold, IsExported, IsFound, IsGiven, IsRun, IsSummed, IsWorldOf}
+use Rattle.commands.specs.Built.{asking, cs_found, cs_over, dns_found, dns_over, made, query_found, query_over, translation, unless_bad, IsAnswer, IsBadTold, IsExported, IsFound, IsRun, IsSummed, IsWorldOf}
 use Rattle.checked_input.specs.Input.{bad_world}
-use Rattle.commands.proofs.Within.{answer_within, within_limit}
+use Rattle.command_line.specs.Asking.{IsGiven}
+use Rattle.command_line.proofs.BadLines.{answer_within, within_limit}
 
 -- what was found, unless a line is bad
 given_unless : (asked : Command) (input : List ℕ) (answer found : Answer) (bad : Option (ℕ × ℕ)) → (answer ≡ found → IsFound asked input answer)
-    → answer ≡ unless_bad bad found → IsGiven bad asked input answer
+    → answer ≡ unless_bad bad found → IsGiven asking bad asked input answer
 given_unless asked input answer found None so is = so is
 given_unless asked input answer found (Some bad) so is = is
 
 pub gives_cs : (sys query input : List ℕ) (answer : Answer) → length input ≤ input_limit (Cs sys query) → answer ≡ cs_over sys query input
     → IsAnswer (Cs sys query) input answer
 gives_cs sys query input answer fits is =
-    answer_within (Cs sys query) input answer (bundle.bad_line input) (within_limit (Cs sys query) input fits) refl (λ other told. told)
+    answer_within _ asking (Cs sys query) input answer (bundle.bad_line input) (within_limit _ asking (Cs sys query) input fits) refl (λ other told. told)
     (given_unless (Cs sys query) input answer (cs_found sys query input) (bundle.bad_line input) (λ found. found) is)
 
 pub gives_query : (attr value : List ℕ) (other : Option (List ℕ)) (input : List ℕ) (answer : Answer) → length input ≤ input_limit (Query attr value other)
     → answer ≡ query_over attr value other input → IsAnswer (Query attr value other) input answer
 gives_query attr value other input answer fits is =
-    answer_within (Query attr value other) input answer (bundle.bad_line input) (within_limit (Query attr value other) input fits) refl (λ found told. told)
+    answer_within _ asking (Query attr value other) input answer (bundle.bad_line input) (within_limit _ asking (Query attr value other) input fits) refl (λ found told. told)
     (given_unless (Query attr value other) input answer (query_found attr value other input) (bundle.bad_line input) (λ found. found) is)
 
 pub gives_dns : (word input : List ℕ) (answer : Answer) → length input ≤ input_limit (Dns word) → answer ≡ dns_over word input → IsAnswer (Dns word) input answer
 gives_dns word input answer fits is =
-    answer_within (Dns word) input answer (bundle.bad_line input) (within_limit (Dns word) input fits) refl (λ found told. told)
+    answer_within _ asking (Dns word) input answer (bundle.bad_line input) (within_limit _ asking (Dns word) input fits) refl (λ found told. told)
     (given_unless (Dns word) input answer (dns_found word input) (bundle.bad_line input) (λ found. found) is)
 
 pub gives_made : (messages : ℕ) (input : List ℕ) (answer : Answer) → answer ≡ made messages → IsAnswer (Make messages) input answer
-gives_made messages input answer is = answer_within (Make messages) input answer None refl refl (λ other told. told) is
+gives_made messages input answer is = answer_within _ asking (Make messages) input answer None refl refl (λ other told. told) is
 
 pub gives_summed : (messages : ℕ) (input : List ℕ) (w : World) (answer : Answer) → IsWorldOf (Big messages) input w → IsSummed w answer
     → IsAnswer (Big messages) input answer
 gives_summed messages input w answer is summed =
-    answer_within (Big messages) input answer None refl refl (λ other told. told) (w, is, summed)
+    answer_within _ asking (Big messages) input answer None refl refl (λ other told. told) (w, is, summed)
 
 -- a run's world is that of its input
 pub gives_run : (workers : ℕ) (input : List ℕ) (w : World) (answer : Answer) → length input ≤ input_limit (Run workers) → world_reading input ≡ Ok w
     → IsRun w answer → IsAnswer (Run workers) input answer
 gives_run workers input w answer fits is ran =
     let good : bad_world (world_reading input) ≡ None = ap bad_world is in
-    answer_within (Run workers) input answer None (within_limit (Run workers) input fits) (sym good) (λ other told. told ∙ good) (w, is, ran)
+    answer_within _ asking (Run workers) input answer None (within_limit _ asking (Run workers) input fits) (sym good) (λ other told. told ∙ good) (w, is, ran)
 
 -- or the input has a bad line
 pub gives_bad_run : (workers : ℕ) (input : List ℕ) (line cause : ℕ) (answer : Answer) → length input ≤ input_limit (Run workers)
     → world_reading input ≡ Err (line, cause) → answer ≡ bad_input line cause → IsAnswer (Run workers) input answer
 gives_bad_run workers input line cause answer fits is bad =
     let found : bad_world (world_reading input) ≡ Some (line, cause) = ap bad_world is in
-    answer_within (Run workers) input answer (Some (line, cause)) (within_limit (Run workers) input fits) (sym found) (λ other told. told ∙ found) bad
+    answer_within _ asking (Run workers) input answer (Some (line, cause)) (within_limit _ asking (Run workers) input fits) (sym found) (λ other told. told ∙ found) bad
 
 -- ---- worlds with sessions
 
@@ -79,20 +80,20 @@ told_one one input (Some bad) (Some other) told again = ap (λ (b : ℕ × ℕ).
 pub gives_translation : SayOne → (input : List ℕ) (s : SessionWorld) (answer : Answer) → length input ≤ input_limit Translate → Says input (Ok s)
     → (w : World) × IsTranslated s w × (answer ≡ translation w) → IsAnswer Translate input answer
 gives_translation one input s answer fits says is =
-    answer_within Translate input answer None (within_limit Translate input fits) (s, says) (λ other told. told_one one input None other (s, says) told) (s, says, is.0, is.1, is.2)
+    answer_within _ asking Translate input answer None (within_limit _ asking Translate input fits) (s, says) (λ other told. told_one one input None other (s, says) told) (s, says, is.0, is.1, is.2)
 
 pub gives_bad_translation : SayOne → (input : List ℕ) (line cause : ℕ) (answer : Answer) → length input ≤ input_limit Translate → Says input (Err (line, cause))
     → answer ≡ bad_input line cause → IsAnswer Translate input answer
 gives_bad_translation one input line cause answer fits says bad =
-    answer_within Translate input answer (Some (line, cause)) (within_limit Translate input fits) says (λ other told. told_one one input (Some (line, cause)) other says told) bad
+    answer_within _ asking Translate input answer (Some (line, cause)) (within_limit _ asking Translate input fits) says (λ other told. told_one one input (Some (line, cause)) other says told) bad
 
 -- a run over it, with the answers of its sessions
 pub gives_export : SayOne → (workers : ℕ) (input : List ℕ) (s : SessionWorld) (answer : Answer) → length input ≤ input_limit (Export workers) → Says input (Ok s)
     → (w : World) × IsTranslated s w × IsExported w s.sessions answer → IsAnswer (Export workers) input answer
 gives_export one workers input s answer fits says is =
-    answer_within (Export workers) input answer None (within_limit (Export workers) input fits) (s, says) (λ other told. told_one one input None other (s, says) told) (s, says, is.0, is.1, is.2)
+    answer_within _ asking (Export workers) input answer None (within_limit _ asking (Export workers) input fits) (s, says) (λ other told. told_one one input None other (s, says) told) (s, says, is.0, is.1, is.2)
 
 pub gives_bad_export : SayOne → (workers : ℕ) (input : List ℕ) (line cause : ℕ) (answer : Answer) → length input ≤ input_limit (Export workers) → Says input (Err (line, cause))
     → answer ≡ bad_input line cause → IsAnswer (Export workers) input answer
 gives_bad_export one workers input line cause answer fits says bad =
-    answer_within (Export workers) input answer (Some (line, cause)) (within_limit (Export workers) input fits) says (λ other told. told_one one input (Some (line, cause)) other says told) bad
+    answer_within _ asking (Export workers) input answer (Some (line, cause)) (within_limit _ asking (Export workers) input fits) says (λ other told. told_one one input (Some (line, cause)) other says told) bad

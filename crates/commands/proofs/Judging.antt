@@ -10,9 +10,9 @@ use Rattle.netcheck.specs.Judged.{HasFault}
 use Rattle.checked_input.specs.Told.{HandsIn, Refuses}
 use Rattle.checked_input.specs.declared.fault.InputError.{InputError}
 use Rattle.checked_input.specs.declared.fault.InputError.TheVariants as error
-use Rattle.commands.specs.Built.{IsAnswer, IsJudged}
+use Rattle.commands.specs.Built.{asking, IsAnswer, IsJudged}
 use Rattle.commands.specs.Checked.{IsChecked, IsEntryFault, IsOwn, TellsError}
-use Rattle.commands.proofs.Within.{answer_within, within_limit}
+use Rattle.command_line.proofs.BadLines.{answer_within, within_limit}
 
 -- The rules.
 
@@ -82,7 +82,7 @@ module _ (w : World) (h : List Entry) (told : Option (List ℕ)) (answer : Answe
 module _ (input : List ℕ) (answer : Answer) (fits : length input ≤ input_limit Check) where
   -- what was handed in is judged
   pub judges : (w : World) (h : List Entry) (told : Option (List ℕ)) → HandsIn input w h told → IsChecked w h told answer → IsAnswer Check input answer
-  judges w h told hands checked = answer_within Check input answer None (within_limit Check input fits) hands.good.is hands.good.only given
+  judges w h told hands checked = answer_within _ asking Check input answer None (within_limit _ asking Check input fits) hands.good.is hands.good.only given
     where
       given : IsJudged input answer
       given handed =
@@ -93,6 +93,6 @@ module _ (input : List ℕ) (answer : Answer) (fits : length input ≤ input_lim
 
   -- or what is wrong is told
   pub refuses : AFaultIsOne → (wrong : InputError) → Refuses input wrong → TellsError wrong answer → IsAnswer Check input answer
-  refuses one (error.Bad line cause) first given = answer_within Check input answer (Some (line, cause)) (within_limit Check input fits) first.is first.only given
+  refuses one (error.Bad line cause) first given = answer_within _ asking Check input answer (Some (line, cause)) (within_limit _ asking Check input fits) first.is first.only given
   refuses one (error.Fault stamp rule) (w, h, told, hands, fault) given = judges w h told hands (entry_breaks w h told answer one stamp rule fault given)
   refuses one error.Memory wants given = absurd given

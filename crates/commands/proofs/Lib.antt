@@ -5,4 +5,3 @@ pub mod Judging
 pub mod MadeText
 pub mod OneHistory
 pub mod RunEnds
-pub mod Within

@@ -1,11 +1,12 @@
 -- The answers in the forms that are built.
+--     asking        what is asked of the program: which commands have an input, its bad lines, and what is found in a good one
 --     IsFirstBad    the first bad line of an input, for a command
 --     IsRun         what a run over a world prints, and its status
 --     IsSummed      the summary of such a run alone
 --     IsExported    what a run over a translated world prints, with the answers of its sessions
 --     IsWorldOf     the world that a command runs
 --     IsAnswer      an answer to a command and its input
-use Rattle.std.specs.Prelude.{◌≡◌, ◌↔◌, ◌⊎◌, ◌&&◌, ℕ, Bool, true, false, List, [], ◌∷◌, ◌++◌, length, map, nat_lt, Option, Some, None, Ok, option_and_then, option_to_list, Err}
+use Rattle.std.specs.Prelude.{◌≡◌, ◌↔◌, ◌⊎◌, ℕ, true, List, [], ◌∷◌, ◌++◌, map, Option, Some, None, Ok, option_and_then, option_to_list, Err}
 use Rattle.net_base.specs.declared.address.Proto.TheVariants.{Il, Udp}
 use Rattle.net_base.specs.declared.history.Entry.{Entry}
 use Rattle.net_base.specs.declared.world.World.{World}
@@ -27,6 +28,8 @@ use Rattle.net_model.specs.Headline.{Headline}
 use Rattle.made_world.specs.Made.{made_world}
 use Rattle.world_text.specs.WorldText.{world_reading}
 use Rattle.world_writer.specs.Written.{file_text}
+use Rattle.command_line.specs.Asking as calls
+use Rattle.command_line.specs.Asking.{Asking}
 use Rattle.net_model.specs.Answers.{Answer, bad_input, lines_answer, cs_answer, input_limit}
 use Rattle.net_model.specs.Words.{Command, Cs, Query, Dns, Run, Make, Big, Check, reads, Export, Translate}
 use Rattle.sessions.specs.declared.world.Session.{Session}
@@ -39,10 +42,6 @@ use Rattle.commands.specs.AnswerLines.{answer_lines}
 use Rattle.commands.specs.Checked.{IsChecked}
 
 -- Bad lines.
-
--- whether a command has an input that is over its limit
-abbrev pub is_over : Command → List ℕ → Bool
-is_over asked input = reads asked && nat_lt (input_limit asked) (length input)
 
 -- the first bad line of a text of a world with sessions
 abbrev pub IsBadTold : List ℕ → Option (ℕ × ℕ) → Type 0
@@ -60,14 +59,6 @@ IsBadLine (Big messages) input found = found ≡ None
 IsBadLine Check input found = IsBadHanded (parts_of input) input found
 IsBadLine (Export workers) input found = IsBadTold input found
 IsBadLine Translate input found = IsBadTold input found
-
--- the same of any input: one over the limit has cause 9 at line 0
-abbrev pub IsBadOf : Bool → Command → List ℕ → Option (ℕ × ℕ) → Type 0
-IsBadOf true asked input found = found ≡ Some (0, 9)
-IsBadOf false asked input found = IsBadLine asked input found
-
-abbrev pub IsFirstBad : Command → List ℕ → Option (ℕ × ℕ) → Type 0
-IsFirstBad asked input found = IsBadOf (is_over asked input) asked input found
 
 -- an answer to an input without a bad line, or the first bad line and its least cause
 abbrev pub unless_bad : Option (ℕ × ℕ) → Answer → Answer
@@ -198,15 +189,14 @@ IsFound Check input answer = IsJudged input answer
 IsFound (Export workers) input answer = (s : SessionWorld) × Says input (Ok s) × (w : World) × IsTranslated s w × IsExported w s.sessions answer
 IsFound Translate input answer = (s : SessionWorld) × Says input (Ok s) × (w : World) × IsTranslated s w × (answer ≡ translation w)
 
--- an answer to an input with this first bad line, if any
-abbrev pub IsGiven : Option (ℕ × ℕ) → Command → List ℕ → Answer → Type 0
-IsGiven None asked input answer = IsFound asked input answer
-IsGiven (Some bad) asked input answer = answer ≡ bad_input bad.0 bad.1
+-- what is asked of the program
+abbrev pub asking : Asking Command
+asking = record { reads = reads; limit = input_limit; IsBadLine = IsBadLine; IsFound = IsFound }
+
+-- the first bad line of any input
+abbrev pub IsFirstBad : Command → List ℕ → Option (ℕ × ℕ) → Type 0
+IsFirstBad asked input found = calls.IsFirstBad asking asked input found
 
 -- an answer to a command and its input
-pub record IsAnswer (asked : Command) (input : List ℕ) (answer : Answer) : Type 0 where
-  pub found : Option (ℕ × ℕ)
-  pub first : IsFirstBad asked input found
-  -- and no other line is the first bad one
-  pub only : (other : Option (ℕ × ℕ)) → IsFirstBad asked input other → other ≡ found
-  pub given : IsGiven found asked input answer
+abbrev pub IsAnswer : Command → List ℕ → Answer → Type 0
+IsAnswer asked input answer = calls.IsAnswer asking asked input answer

@@ -1,4 +1,4 @@
-//! The answers: a status, and the text that is written, made whole.
+//! The answers of the commands, made whole.
 ghost use Rattle.std.specs.Prelude.{◌≡◌, ◌≢◌, ◌++◌, flat_map, true, IfOk, OnOk};
 ghost use Rattle.net_model.specs.Answers as spec;
 ghost use Rattle.net_model.specs.Headline.{Headline};
@@ -16,6 +16,7 @@ ghost use Rattle.run_record.specs.Ends.{EndsSo};
 
 use crate::answer_lines::put_sessions;
 use agenda::{BookedRun, Run, RunEnd};
+use command_line::Answer;
 use cs_resolver::CsError;
 use journal::ClosedBooks;
 use net_base::{Lines, Octets, World};
@@ -23,216 +24,130 @@ use net_export::answers_by_caller;
 use net_model::{legal_histories_are_plain, legal_histories_keep_it};
 use sessions::Sessions;
 use std::alloc::{AllocError, Global};
-use std::marker::Model;
 use std::thread::Threads;
 use transcript::{RunStatus, printed_runs_tell, summary_by, text_by};
 
-/// The words give no command.
-pub const USAGE: &str = "! usage\n";
-
-/// The input is over the limit.
-pub const TOO_LONG: &str = "! line 0 cause 9\n";
-
-/// The input couldn't be read.
-pub const READ_FAULT: &str = "! read fault\n";
-
-/// A status and a text.
-#[derive(Debug, Drop)]
-pub struct Answer {
-    status: u8,
-    text: Octets,
+/// The lines of cs.
+pub fn listed(alloc: Global, lines: &Lines) -> Result<Answer, AllocError>
+    ensures { IfOk result (λ answer. answer ≡ spec.cs_answer (ListOf lines.now)) }
+{
+    let text = text_of_lines(alloc, lines)?;
+    Ok(Answer::whole(text))
 }
 
-impl Model for Answer {
-    ghost use Rattle.net_model.specs.Answers as spec;
-
-    ghost Value = { spec.Answer };
-
-    ghost view = { λ answer. record { status = answer.status; text = answer.text } };
+/// The lines that were found, or that there are none.
+pub fn found(alloc: Global, lines: &Lines) -> Result<Answer, AllocError>
+    ensures { IfOk result (λ answer. answer ≡ spec.lines_answer lines.now) }
+{
+    if lines.len() == 0 {
+        let nothing = Answer::nothing(alloc)?;
+        return Ok(nothing);
+    }
+    let text = text_of_lines(alloc, lines)?;
+    Ok(Answer::whole(text))
 }
 
-impl Answer {
-    /// The input has a bad line, the first one, and its least cause.
-    pub fn bad_input(alloc: Global, line: u64, cause: u32) -> Result<Answer, AllocError>
-        ensures { IfOk result (λ answer. answer ≡ spec.bad_input line cause) }
-    {
-        let text = format!(in alloc; "! line {line} cause {cause}\n")?;
-        Ok(Answer {
-            status: 2,
-            text: Octets::from_vec(text.into_bytes()),
-        })
+/// The refusal of cs, unless it had no memory.
+pub fn refusal(alloc: Global, error: CsError) -> Result<Answer, AllocError>
+    ensures told { OnOk result (error ≢ CsError.Memory) }
+    ensures value { IfOk result (λ answer. answer ≡ spec.cs_answer (Refused (number_of error))) }
+{
+    if error == CsError::Memory {
+        return Err(AllocError);
     }
+    let number = error.number();
+    let text = format!(in alloc; "! {number} {}\n", refusal_text(error))?;
+    Ok(Answer::new(5, Octets::from_vec(text.into_bytes())))
+}
 
-    /// The lines of cs.
-    pub fn lines(alloc: Global, lines: &Lines) -> Result<Answer, AllocError>
-        ensures { IfOk result (λ answer. answer ≡ spec.cs_answer (ListOf lines.now)) }
-    {
-        let text = text_of_lines(alloc, lines)?;
-        Ok(Answer { status: 0, text })
-    }
+/// A history of so many entries keeps all rules.
+pub fn all_kept(alloc: Global, entries: u64) -> Result<Answer, AllocError>
+    ensures { IfOk result (λ answer. answer ≡ spec.all_kept entries) }
+{
+    let text = format!(in alloc; "ok {entries}\n")?;
+    Ok(Answer::whole(Octets::from_vec(text.into_bytes())))
+}
 
-    /// The lines that were found, or that there are none.
-    pub fn found(alloc: Global, lines: &Lines) -> Result<Answer, AllocError>
-        ensures { IfOk result (λ answer. answer ≡ spec.lines_answer lines.now) }
-    {
-        if lines.len() == 0 {
-            let text = Octets::from_slice(alloc, b"! no answer\n")?;
-            return Ok(Answer { status: 5, text });
-        }
-        let text = text_of_lines(alloc, lines)?;
-        let status = 0;
-        Ok(Answer { status, text })
-    }
+/// The text of a run: its history, made by so many workers, with its summary.
+pub fn of_run<R: Threads + Sync>(
+    rt: &R,
+    alloc: Global,
+    workers: u32,
+    world: &World,
+    run: &BookedRun,
+) -> Result<Answer, AllocError>
+    requires world { IsWorld world.now }
+    requires legal { IsLegal world.now run.now.books }
+    requires timed { IsTimed world.now run.now.books }
+    requires answered { run.now.answered ≡ answered_steps world.now run.now.books }
+    requires end { EndsSo world.now (after world.now run.now.books) run.now.end }
+    ensures { IfOk result (λ answer. IsRun world.now answer) }
+{
+    let lines = summary_of_run(alloc, world, run)?;
+    let text = text_by(rt, alloc, workers, &run.books)?;
+    of_books(world, &run.books, text, &lines, run.end)
+}
 
-    /// The refusal of cs, unless it had no memory.
-    pub fn refusal(alloc: Global, error: CsError) -> Result<Answer, AllocError>
-        ensures told { OnOk result (error ≢ CsError.Memory) }
-        ensures value { IfOk result (λ answer. answer ≡ spec.cs_answer (Refused (number_of error))) }
-    {
-        if error == CsError::Memory {
-            return Err(AllocError);
-        }
-        let number = error.number();
-        let text = format!(in alloc; "! {number} {}\n", refusal_text(error))?;
-        Ok(Answer {
-            status: 5,
-            text: Octets::from_vec(text.into_bytes()),
-        })
-    }
+/// The text of a run: its history, made by so many workers, with its summary and the answers of sessions.
+pub fn of_export<R: Threads + Sync>(
+    rt: &R,
+    alloc: Global,
+    workers: u32,
+    world: &World,
+    sessions: &Sessions,
+    run: &Run,
+) -> Result<Answer, AllocError>
+    requires played { ArePlayed world.now sessions.now }
+    requires legal { IsLegal world.now run.now.history }
+    requires timed { IsTimed world.now run.now.history }
+    requires answered { run.now.answered ≡ answered_steps world.now run.now.history }
+    requires headline { Headline world.now run.now.history }
+    requires end { EndsSo world.now (after world.now run.now.history) run.now.end }
+    ensures { IfOk result (λ answer. IsExported world.now sessions.now answer) }
+{
+    let all = answers_by_caller(alloc, world, sessions, &run.history)?;
+    let mut text = text_by(rt, alloc, workers, &run.history)?;
+    put_ending(alloc, &mut text, world, run)?;
+    put_sessions(&mut text, sessions.as_slice(), all.as_slice())?;
+    let end = run.end;
+    Ok(Answer::new(run_status(end), text))
+}
 
-    /// A history of so many entries keeps all rules.
-    pub fn all_kept(alloc: Global, entries: u64) -> Result<Answer, AllocError>
-        ensures { IfOk result (λ answer. answer ≡ spec.all_kept entries) }
-    {
-        let text = format!(in alloc; "ok {entries}\n")?;
-        Ok(Answer {
-            status: 0,
-            text: Octets::from_vec(text.into_bytes()),
-        })
-    }
+/// The summary of a run alone.
+pub fn of_made_run(alloc: Global, world: &World, run: &BookedRun) -> Result<Answer, AllocError>
+    requires world { IsWorld world.now }
+    requires legal { IsLegal world.now run.now.books }
+    requires timed { IsTimed world.now run.now.books }
+    requires answered { run.now.answered ≡ answered_steps world.now run.now.books }
+    requires end { EndsSo world.now (after world.now run.now.books) run.now.end }
+    ensures { IfOk result (λ answer. IsSummed world.now answer) }
+{
+    legal_histories_keep_it();
+    let text = summary_of_run(alloc, world, run)?;
+    Ok(Answer::new(run_status(run.end), text))
+}
 
-    /// A rule is broken at a stamp.
-    pub fn rule_broken(alloc: Global, stamp: u64, rule: u32) -> Result<Answer, AllocError>
-        ensures { IfOk result (λ answer. answer ≡ spec.rule_broken stamp rule) }
-    {
-        let text = format!(in alloc; "! stamp {stamp} rule {rule}\n")?;
-        Ok(Answer {
-            status: 5,
-            text: Octets::from_vec(text.into_bytes()),
-        })
-    }
-
-    /// A text that is the defined answer.
-    pub fn whole(text: Octets) -> Answer
-        ensures { result ≡ record { status = 0; text = text } }
-    {
-        Answer { status: 0, text }
-    }
-
-    /// The text of a run: its history, made by so many workers, with its summary.
-    pub fn run<R: Threads + Sync>(
-        rt: &R,
-        alloc: Global,
-        workers: u32,
-        world: &World,
-        run: &BookedRun,
-    ) -> Result<Answer, AllocError>
-        requires world { IsWorld world.now }
-        requires legal { IsLegal world.now run.now.books }
-        requires timed { IsTimed world.now run.now.books }
-        requires answered { run.now.answered ≡ answered_steps world.now run.now.books }
-        requires end { EndsSo world.now (after world.now run.now.books) run.now.end }
-        ensures { IfOk result (λ answer. IsRun world.now answer) }
-    {
-        let lines = summary_of_run(alloc, world, run)?;
-        let text = text_by(rt, alloc, workers, &run.books)?;
-        Answer::of_books(world, &run.books, text, &lines, run.end)
-    }
-
-    /// The text of a run: its history, made by so many workers, with its summary and the answers of sessions.
-    pub fn export<R: Threads + Sync>(
-        rt: &R,
-        alloc: Global,
-        workers: u32,
-        world: &World,
-        sessions: &Sessions,
-        run: &Run,
-    ) -> Result<Answer, AllocError>
-        requires played { ArePlayed world.now sessions.now }
-        requires legal { IsLegal world.now run.now.history }
-        requires timed { IsTimed world.now run.now.history }
-        requires answered { run.now.answered ≡ answered_steps world.now run.now.history }
-        requires headline { Headline world.now run.now.history }
-        requires end { EndsSo world.now (after world.now run.now.history) run.now.end }
-        ensures { IfOk result (λ answer. IsExported world.now sessions.now answer) }
-    {
-        let all = answers_by_caller(alloc, world, sessions, &run.history)?;
-        let mut text = text_by(rt, alloc, workers, &run.history)?;
-        put_ending(alloc, &mut text, world, run)?;
-        put_sessions(&mut text, sessions.as_slice(), all.as_slice())?;
-        let end = run.end;
-        Ok(Answer {
-            status: run_status(end),
-            text,
-        })
-    }
-
-    /// The summary of a run alone.
-    pub fn big(alloc: Global, world: &World, run: &BookedRun) -> Result<Answer, AllocError>
-        requires world { IsWorld world.now }
-        requires legal { IsLegal world.now run.now.books }
-        requires timed { IsTimed world.now run.now.books }
-        requires answered { run.now.answered ≡ answered_steps world.now run.now.books }
-        requires end { EndsSo world.now (after world.now run.now.books) run.now.end }
-        ensures { IfOk result (λ answer. IsSummed world.now answer) }
-    {
-        legal_histories_keep_it();
-        let text = summary_of_run(alloc, world, run)?;
-        Ok(Answer {
-            status: run_status(run.end),
-            text,
-        })
-    }
-
-    // The text of a history with the lines of its summary.
-    fn of_books(
-        world: &World,
-        books: &ClosedBooks,
-        mut text: Octets,
-        lines: &Octets,
-        end: RunEnd,
-    ) -> Result<Answer, AllocError>
-        requires world { IsWorld world.now }
-        requires legal { IsLegal world.now books.now }
-        requires timed { IsTimed world.now books.now }
-        requires text { text ≡ history_text books.now }
-        requires lines { lines.now ≡ summary world.now books.now }
-        requires end { EndsSo world.now (after world.now books.now) end }
-        ensures { IfOk result (λ answer. IsRun world.now answer) }
-    {
-        legal_histories_keep_it();
-        legal_histories_are_plain();
-        printed_runs_tell();
-        text.append(lines.as_slice())?;
-        Ok(Answer {
-            status: run_status(end),
-            text,
-        })
-    }
-
-    /// The status where the text is written whole.
-    pub fn status(&self) -> u8
-        ensures { result ≡ self.now.status }
-    {
-        self.status
-    }
-
-    /// The text.
-    pub fn text(&self) -> &[u8]
-        ensures { result.now ≡ self.now.text }
-    {
-        self.text.as_slice()
-    }
+// The text of a history with the lines of its summary.
+fn of_books(
+    world: &World,
+    books: &ClosedBooks,
+    mut text: Octets,
+    lines: &Octets,
+    end: RunEnd,
+) -> Result<Answer, AllocError>
+    requires world { IsWorld world.now }
+    requires legal { IsLegal world.now books.now }
+    requires timed { IsTimed world.now books.now }
+    requires text { text ≡ history_text books.now }
+    requires lines { lines.now ≡ summary world.now books.now }
+    requires end { EndsSo world.now (after world.now books.now) end }
+    ensures { IfOk result (λ answer. IsRun world.now answer) }
+{
+    legal_histories_keep_it();
+    legal_histories_are_plain();
+    printed_runs_tell();
+    text.append(lines.as_slice())?;
+    Ok(Answer::new(run_status(end), text))
 }
 
 /// Lines with a newline behind each.

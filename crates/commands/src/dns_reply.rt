@@ -4,7 +4,8 @@ ghost use Rattle.net_base.specs.Hexadecimal.{hex_digits};
 ghost use Rattle.net_base.specs.DomainAnswers.{dns_answer};
 ghost use Rattle.commands.specs.Built.{dns_lines, dns_over};
 
-use crate::answer::Answer;
+use crate::answer::found;
+use command_line::Answer;
 use ndb_dns::dns_answer;
 use ndb_index::Index;
 use ndb_reader::{NdbError, read_ndb};
@@ -58,5 +59,5 @@ pub fn dns(alloc: Global, word: &[u8], input: &[u8]) -> Result<Answer, AllocErro
         Err(NdbError::Memory) => return Err(AllocError),
     };
     let lines = lines_over(alloc, db, word)?;
-    Answer::found(alloc, &lines)
+    found(alloc, &lines)
 }

@@ -8,8 +8,9 @@ ghost use Rattle.net_model.specs.Answers.{input_limit};
 ghost use Rattle.net_model.specs.Words.{Export, Translate};
 ghost use Rattle.sessions.specs.Worlds.{HaveHosts, HaveStreams, IsTranslated};
 
-use crate::answer::Answer;
+use crate::answer::of_export;
 use agenda::RunError;
+use command_line::Answer;
 use net_base::World;
 use net_export::{sessions_are_played, translate as translate_world};
 use outside::Gate;
@@ -110,7 +111,7 @@ fn export_world<R: Threads + Wait + Sync, G: Gate + Sync>(
 {
     match agenda::run(rt, alloc, world, workers, gate) {
         Ok(run) => {
-            let answer = Answer::export(rt, alloc, workers, world, sessions, &run);
+            let answer = of_export(rt, alloc, workers, world, sessions, &run);
             // the same as above
             mem::forget(run);
             answer

@@ -7,8 +7,9 @@ ghost use Rattle.net_model.specs.Words.{Check as AnyCheck};
 ghost use Rattle.commands.specs.Built.{IsAnswer};
 ghost use Rattle.commands.specs.Checked.{IsChecked, IsOwn, TellsError};
 
-use crate::answer::Answer;
+use crate::answer::all_kept;
 use checked_input::{InputError, check_input};
+use command_line::Answer;
 use net_base::{History, Octets, World};
 use netcheck::a_fault_is_one;
 use plain_runner::summary_of;
@@ -61,7 +62,7 @@ fn judge_summary(
     let entries = history.len() as u64;
     let own = is_own(alloc, world, history, told)?;
     if own {
-        return Answer::all_kept(alloc, entries);
+        return all_kept(alloc, entries);
     }
     Answer::rule_broken(alloc, entries, SUMMARY_RULE)
 }

@@ -13,7 +13,6 @@ mod query;
 mod resolving;
 mod run;
 
-pub use answer::{Answer, READ_FAULT, TOO_LONG, USAGE};
 pub use dns_reply::dns;
 pub use exporting::{export_over, translate};
 pub use judgement::check;

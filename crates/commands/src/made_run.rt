@@ -4,8 +4,9 @@ ghost use Rattle.net_model.specs.Words.{Big};
 ghost use Rattle.net_base.specs.World.{IsWorld};
 ghost use Rattle.commands.specs.Built.{IsAnswer, IsSummed};
 
-use crate::answer::Answer;
+use crate::answer::of_made_run;
 use agenda::RunError;
+use command_line::Answer;
 use made_world::make_world;
 use net_base::World;
 use outside::Gate;
@@ -45,7 +46,7 @@ fn run_made<R: Threads + Wait + Sync, G: Gate + Sync>(
 {
     match agenda::run_in_books(rt, alloc, world, WORKERS, gate) {
         Ok(run) => {
-            let answer = Answer::big(alloc, world, &run);
+            let answer = of_made_run(alloc, world, &run);
             // the same as above
             mem::forget(run);
             answer

@@ -2,7 +2,7 @@
 ghost use Rattle.std.specs.Prelude.{◌≡◌, IfOk};
 ghost use Rattle.commands.specs.Built.{made};
 
-use crate::answer::Answer;
+use command_line::Answer;
 use made_world::make_world;
 use std::alloc::{AllocError, Global};
 use world_writer::write_world;

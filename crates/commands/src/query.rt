@@ -2,7 +2,8 @@
 ghost use Rattle.std.specs.Prelude.{◌≡◌, None, Some, IfOk};
 ghost use Rattle.commands.specs.Built.{query_over};
 
-use crate::answer::Answer;
+use crate::answer::found;
+use command_line::Answer;
 use ndb_query::{tuples_found, values_found};
 use ndb_reader::{NdbError, read_ndb};
 use std::alloc::{AllocError, Global};
@@ -22,7 +23,7 @@ pub fn query_tuples(
         Err(NdbError::Memory) => return Err(AllocError),
     };
     let lines = tuples_found(alloc, db, attr, value)?;
-    Answer::found(alloc, &lines)
+    found(alloc, &lines)
 }
 
 /// The values beside a pair in the database that an input is.
@@ -41,5 +42,5 @@ pub fn query_beside(
         Err(NdbError::Memory) => return Err(AllocError),
     };
     let lines = values_found(alloc, db, attr, value, other)?;
-    Answer::found(alloc, &lines)
+    found(alloc, &lines)
 }

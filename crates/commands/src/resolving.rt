@@ -5,7 +5,8 @@ ghost use Rattle.net_base.specs.Cs.{cs_list, Lines as Found};
 ghost use Rattle.cs_resolver.specs.Errors.{Tells};
 ghost use Rattle.commands.specs.Built.{cs_over};
 
-use crate::answer::Answer;
+use crate::answer::{listed, refusal};
+use command_line::Answer;
 use cs_resolver::{CsError, answer_indexed};
 use ndb_index::Index;
 use ndb_reader::{NdbError, read_ndb};
@@ -45,7 +46,7 @@ pub fn cs(alloc: Global, sys: &[u8], query: &[u8], input: &[u8]) -> Result<Answe
         Err(NdbError::Memory) => return Err(AllocError),
     };
     match indexed(alloc, db, sys, query) {
-        Ok(lines) => Answer::lines(alloc, &lines),
-        Err(error) => Answer::refusal(alloc, error),
+        Ok(lines) => listed(alloc, &lines),
+        Err(error) => refusal(alloc, error),
     }
 }

@@ -5,8 +5,9 @@ ghost use Rattle.net_model.specs.Words.{Run};
 ghost use Rattle.net_base.specs.World.{IsWorld};
 ghost use Rattle.commands.specs.Built.{IsAnswer, IsRun};
 
-use crate::answer::Answer;
+use crate::answer::of_run;
 use agenda::RunError;
+use command_line::Answer;
 use net_base::World;
 use outside::Gate;
 use std::alloc::{AllocError, Global};
@@ -54,7 +55,7 @@ fn run_world<R: Threads + Wait + Sync, G: Gate + Sync>(
 {
     match agenda::run_in_books(rt, alloc, world, workers, gate) {
         Ok(run) => {
-            let answer = Answer::run(rt, alloc, workers, world, &run);
+            let answer = of_run(rt, alloc, workers, world, &run);
             // the same as above
             mem::forget(run);
             answer

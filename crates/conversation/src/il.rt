@@ -1,5 +1,5 @@
 //! The IL end of a conversation, with the end that it stands for.
-ghost use Rattle.std.specs.Prelude.{◌≡◌, ◌↔◌, ◌<◌, ◌^◌, Some, IfOk, OnOk, OnErr, IsTrue, take, true, if◌then◌else◌};
+ghost use Rattle.std.specs.Prelude.{◌≡◌, ◌↔◌, ◌<◌, ◌^◌, Some, None, IfOk, IfErr, OnOk, OnErr, IsTrue, take, true, if◌then◌else◌};
 ghost use Rattle.net_base.specs.IlEnd as spec;
 ghost use Rattle.net_base.specs.IlTable as table;
 ghost use Rattle.il_machine.specs.Stands.{IsShort, after_read, arrival_takes, read_refusal, write_takes};
@@ -12,7 +12,7 @@ use crate::changes::{
 };
 use crate::ghost_end::GhostEnd;
 use il_machine::{Ask, HungupError, IlEnd};
-use net_base::{Cause, IlMsg, IlState, Timers};
+use net_base::{Cause, IlMsg, IlState, Octets, Timers};
 use std::alloc::{AllocError, Global};
 use std::marker::Model;
 
@@ -178,20 +178,22 @@ impl IlCore {
     }
 
     /// Reads what `peek` showed, or says why nothing more is read.
-    pub fn read(&mut self, count: usize) -> Result<Option<Cause>, AllocError>
+    pub fn read(&mut self, count: usize) -> Result<Result<Octets, Cause>, AllocError>
         requires ready { IsTrue (table.may_read self.old) }
         requires some { 0 < count }
-        ensures refusal { IfOk result (λ cause. cause ≡ read_refusal self.old) }
+        ensures bytes { IfOk result (λ told. IfOk told (λ bytes. (None ≡ read_refusal self.old)
+            × (bytes ≡ take count (table.first_unread self.old)))) }
+        ensures refusal { IfOk result (λ told. IfErr told (λ cause. Some cause ≡ read_refusal self.old)) }
         ensures end { OnOk result (self.new ≡ after_read count self.old) }
         ensures err { OnErr result (self.new ≡ self.old) }
         ensures memory { OnErr result (table.has_unread self.old ≡ true) }
     {
         match self.kept.read(count) {
-            Ok(_) => {
+            Ok(bytes) => {
                 self.stood_for = self.stood_for.after(&Reads { count });
-                Ok(None)
+                Ok(Ok(bytes))
             }
-            Err(HungupError::Hungup(cause)) => Ok(Some(cause)),
+            Err(HungupError::Hungup(cause)) => Ok(Err(cause)),
             Err(HungupError::Memory) => Err(AllocError),
         }
     }

@@ -160,33 +160,25 @@ impl ReplyAndCopy {
         }
     }
 
-    pub fn no_bytes(alloc: Global) -> ReplyAndCopy
-        ensures { result ≡ reply.Bytes [] }
-    {
-        ReplyAndCopy {
-            reply: Reply::Bytes {
-                bytes: Octets::new(alloc),
-            },
-            copy: Reply::Bytes {
-                bytes: Octets::new(alloc),
-            },
-        }
-    }
-
     /// These bytes.
     pub fn bytes(alloc: Global, bytes: &[u8]) -> Result<ReplyAndCopy, AllocError>
         ensures ok { IfOk result (λ answer. answer ≡ reply.Bytes bytes.now) }
         ensures memory { OnErr result (0 < length bytes.now) }
     {
-        if bytes.is_empty() {
-            return Ok(ReplyAndCopy::no_bytes(alloc));
-        }
-        let copy = Octets::from_slice(alloc, bytes)?;
-        let bytes = Octets::from_slice(alloc, bytes)?;
-        Ok(ReplyAndCopy {
+        let copy = copied(alloc, bytes)?;
+        let bytes = copied(alloc, bytes)?;
+        Ok(ReplyAndCopy::read(bytes, copy))
+    }
+
+    /// These bytes, of which there is a copy.
+    pub fn read(bytes: Octets, copy: Octets) -> ReplyAndCopy
+        requires { copy ≡ bytes }
+        ensures { result ≡ reply.Bytes bytes }
+    {
+        ReplyAndCopy {
             reply: Reply::Bytes { bytes },
             copy: Reply::Bytes { bytes: copy },
-        })
+        }
     }
 
     /// These names.
@@ -199,4 +191,15 @@ impl ReplyAndCopy {
             copy: Reply::Names { names: copy },
         })
     }
+}
+
+/// These bytes once more. None take no memory.
+pub fn copied(alloc: Global, bytes: &[u8]) -> Result<Octets, AllocError>
+    ensures ok { IfOk result (λ copy. copy ≡ bytes.now) }
+    ensures memory { OnErr result (0 < length bytes.now) }
+{
+    if bytes.is_empty() {
+        return Ok(Octets::new(alloc));
+    }
+    Octets::from_slice(alloc, bytes)
 }

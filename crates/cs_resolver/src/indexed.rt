@@ -9,13 +9,12 @@ ghost use Rattle.cs_resolver.specs.Targets.{NamesHost, target_texts};
 
 use crate::addresses::{covered_first, ip_targets, once_each};
 use crate::error::CsError;
-use crate::line::Target;
+use crate::line::{Target, add_lines_of};
 use crate::named::words_addresses;
 use crate::numbers::numbers_beside;
 use crate::query::{
     Query, is_any, is_attribute, is_named, is_numeric, name_attr, names_some, read_query,
 };
-use crate::resolve::add_lines_of;
 use ndb_index::{Index, Steps};
 use ndb_tuple::Kind;
 use net_base::{Lines, Octets, Proto};

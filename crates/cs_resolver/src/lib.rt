@@ -9,9 +9,10 @@ mod line;
 mod named;
 mod numbers;
 mod query;
-mod resolve;
 
+pub use addresses::{covered_first, ip_targets, once_each};
 pub use error::CsError;
 pub use indexed::{answer_counted, answer_indexed};
 pub use law::worked_bounds;
-pub use resolve::answer;
+pub use line::{Target, add_lines_of};
+pub use query::{Query, is_any, is_attribute, is_numeric, name_attr, nets_of, read_query};

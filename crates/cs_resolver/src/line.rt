@@ -1,9 +1,9 @@
-//! A line of an answer.
-ghost use Rattle.std.specs.Prelude.{◌≡◌, ◌++◌, codes, OnOk, IfOk};
+//! The lines of an answer.
+ghost use Rattle.std.specs.Prelude.{◌≡◌, ◌++◌, codes, flat_map, map, OnOk, IfOk};
 ghost use Rattle.net_base.specs.Cs as spec;
 ghost use Rattle.cs_resolver.specs.Targets.{target_text};
 
-use net_base::{Octets, Proto};
+use net_base::{Lines, Octets, Proto};
 use std::alloc::{AllocError, Global};
 use words::{put_address, put_decimal};
 
@@ -49,4 +49,38 @@ pub fn line_of(alloc: Global, net: Proto, target: Target, port: u32) -> Result<O
     line.append(b"!")?;
     put_decimal(&mut line, u64::from(port))?;
     Ok(line)
+}
+
+/// Adds the lines of a net at an address.
+fn add_lines_at(
+    alloc: Global,
+    net: Proto,
+    target: Target,
+    ports: &[u32],
+    lines: &mut Lines,
+) -> Result<(), AllocError>
+    ensures { OnOk result (lines.new
+        ≡ lines.old ++ map (spec.cs_line net (target_text target)) ports.now) }
+{
+    for port in ports {
+        lines.push(line_of(alloc, net, target, *port)?)?;
+    }
+    Ok(())
+}
+
+/// Adds the lines of a net, by its ports.
+pub fn add_lines_of(
+    alloc: Global,
+    net: Proto,
+    targets: &[Target],
+    ports: &[u32],
+    lines: &mut Lines,
+) -> Result<(), AllocError>
+    ensures { OnOk result (lines.new
+        ≡ lines.old ++ flat_map (λ target. map (spec.cs_line net (target_text target)) ports.now) targets.now) }
+{
+    for target in targets {
+        add_lines_at(alloc, net, *target, ports, lines)?;
+    }
+    Ok(())
 }

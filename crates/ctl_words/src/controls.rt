@@ -147,16 +147,7 @@ fn announce_port(line: &[u8], host: &[u8]) -> Option<Ctl>
             },
         );
     }
-    match port(host) {
-        Some(port) => keep(
-            line,
-            Ctl::Announce {
-                ip: None,
-                port: Some(port),
-            },
-        ),
-        None => None,
-    }
+    announce_anywhere(line, host)
 }
 
 // A star or an address, and a port.

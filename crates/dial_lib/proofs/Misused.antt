@@ -5,8 +5,8 @@ use Rattle.net_base.specs.DatagramHeaders.{text_behind}
 use Rattle.net_base.specs.Steps.{Names, data_name, is_answer, open_call}
 use Rattle.net_tree.specs.Bindings.{file_of}
 use Rattle.net_tree.specs.declared.fids.Fid.{Fid}
-use Rattle.script_task.specs.declared.request.Request.{Request}
-use Rattle.script_task.specs.declared.request.Request.TheVariants as request
+use Rattle.net_base.specs.declared.request.Request.{Request}
+use Rattle.net_base.specs.declared.request.Request.TheVariants as request
 use Rattle.dial_lib.specs.Hwrite.{writes_by, writes_so}
 
 pub misused : (name called own bytes seen : List ℕ) (names : Names) (o : Option Fid) → name ≡ data_name → called ≡ own → seen ≡ bytes → is_some o ≡ true

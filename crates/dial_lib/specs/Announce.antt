@@ -9,8 +9,8 @@ use Rattle.dial_lib.specs.Lines.{first, first_line}
 use Rattle.dial_lib.specs.declared.announce.Announce.{Announce}
 use Rattle.dial_lib.specs.declared.announce.AnnouncePhase.{AnnouncePhase}
 use Rattle.dial_lib.specs.declared.announce.AnnouncePhase.TheVariants as phase
-use Rattle.script_task.specs.declared.request.Request.{Request}
-use Rattle.script_task.specs.declared.request.Request.TheVariants as request
+use Rattle.net_base.specs.declared.request.Request.{Request}
+use Rattle.net_base.specs.declared.request.Request.TheVariants as request
 use Rattle.script_task.specs.Fitting.{is_opening}
 
 abbrev pub begins : Names → List ℕ → List ℕ → Request

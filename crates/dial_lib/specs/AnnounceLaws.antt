@@ -14,10 +14,10 @@ use Rattle.dial_lib.specs.Moves.{MovesBy, moves_from, by_test, chosen, no_lines}
 use Rattle.dial_lib.specs.Names.{same_bytes, unbind_free}
 use Rattle.dial_lib.specs.Openings.{unopened_no, Gave, Opens, Refuses, gave, path_range}
 use Rattle.dial_lib.specs.Puts.{puts_head, put_other, announces_other}
-use Rattle.script_task.specs.declared.request.Request.{Request}
-use Rattle.script_task.specs.declared.request.Request.TheVariants as request
+use Rattle.net_base.specs.declared.request.Request.{Request}
+use Rattle.net_base.specs.declared.request.Request.TheVariants as request
 use Rattle.script_task.specs.Fitting.{is_opening}
-use Rattle.script_task.specs.Requests.{settled, settles, bound_after}
+use Rattle.net_base.specs.Requests.{settled, settles, bound_after}
 use Rattle.script_task.specs.Task.{Heads, AsksSo, MovesSo, follow, fits_play}
 
 -- Its requests.

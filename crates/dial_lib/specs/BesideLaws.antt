@@ -8,18 +8,15 @@ use Rattle.net_base.specs.declared.reply.Reply.{Reply}
 use Rattle.net_base.specs.declared.world.Step.TheVariants as step
 use Rattle.net_base.specs.Paths.{walk, path_of, is_read_alone}
 use Rattle.net_base.specs.Steps.{Names, Fid, Play, Ends, fid_of, is_bound, bind, uses, on_fid, opens_beside, opened_fid, openable, play_of}
-use Rattle.dial_lib.specs.declared.beside.Listen.{Listen}
-use Rattle.dial_lib.specs.declared.beside.Accept.{Accept}
+use Rattle.dial_lib.specs.declared.beside.Beside.{Beside}
 use Rattle.dial_lib.specs.Beside as spec
 use Rattle.dial_lib.specs.Beside.{Stands, IsFresh, IsThrough, asks_file, opens_file}
-use Rattle.dial_lib.specs.Listen as listen
-use Rattle.dial_lib.specs.Accept as accept
 use Rattle.dial_lib.specs.FilePaths.{file_walked}
 use Rattle.dial_lib.specs.Moves.{MovesBy, moves_from}
 use Rattle.dial_lib.specs.Names.{slot_of}
 use Rattle.dial_lib.specs.Slots.{HaveSlots}
-use Rattle.script_task.specs.declared.request.Request.TheVariants as request
-use Rattle.script_task.specs.Requests.{settled, settles, bound_after}
+use Rattle.net_base.specs.declared.request.Request.TheVariants as request
+use Rattle.net_base.specs.Requests.{settled, settles, bound_after}
 use Rattle.script_task.specs.Task.{Heads, AsksSo, MovesSo, follow}
 
 -- The file's path names the file.
@@ -56,9 +53,10 @@ heads_file : (to : FileName) (h : ℕ) (names : Names) (called from : List ℕ) 
 heads_file to h names called from None is slots both = (_, refl, refl)
 heads_file to h names called from (Some f) is slots both = heads_new to h names called from f (is_bound names called) refl (slot_of from names f slots is) both
 
-heads : (to : FileName) (h : ℕ) (names : Names) (called from : List ℕ) (b : Bool) (p : Play) → is_read_alone to ≡ false → Stands to h names called from b p → Heads h names (spec.asks_by to called from b names) p
-heads to h names called from _ _ both (IsFresh slots) = heads_file to h names called from (fid_of from names) refl slots both
-heads to h names called from _ _ both IsThrough = refl
+heads : (to : FileName) (h : ℕ) (names : Names) (called from : List ℕ) (b : Bool) (p : Play) → Stands to h names called from b p
+    → Heads h names (spec.asks_by to called from b names) p
+heads to h names called from _ _ (IsFresh slots both) = heads_file to h names called from (fid_of from names) refl slots both
+heads to h names called from _ _ IsThrough = refl
 
 -- Replies.
 
@@ -80,40 +78,27 @@ move_file : (to : FileName) (h : ℕ) (names : Names) (called from : List ℕ) (
 move_file to h names called from None r is slots both = IsThrough
 move_file to h names called from (Some f) r is slots both = move_new to h names called from f (is_bound names called) r refl (slot_of from names f slots is) both
 
-moves : (to : FileName) (h : ℕ) (names : Names) (called from : List ℕ) (b : Bool) (p : Play) (r : Reply) → is_read_alone to ≡ false → Stands to h names called from b p
+moves : (to : FileName) (h : ℕ) (names : Names) (called from : List ℕ) (b : Bool) (p : Play) (r : Reply) → Stands to h names called from b p
     → Stands to h (settles names (spec.asks_by to called from b names) r) called from true (follow p r)
-moves to h names called from _ _ r both (IsFresh slots) = move_file to h names called from (fid_of from names) r refl slots both
-moves to h names called from _ _ r both IsThrough = IsThrough
+moves to h names called from _ _ r (IsFresh slots both) = move_file to h names called from (fid_of from names) r refl slots both
+moves to h names called from _ _ r IsThrough = IsThrough
 
--- Listening and accepting.
+-- The task.
 
-pub listen_asks_so : AsksSo Listen listen.asks listen.StandsFor
-listen_asks_so h names t p stands = heads file.Listen h names t.name t.from t.is_through p refl stands
+pub asks_so : AsksSo Beside spec.asks spec.StandsFor
+asks_so h names t p stands = heads t.file h names t.name t.from t.is_through p stands
 
-listen_moves_by : MovesBy Listen listen.asks listen.after listen.StandsFor
-listen_moves_by h names t p q r stands asked fit = moves file.Listen h names t.name t.from t.is_through p r refl stands
+moves_by : MovesBy Beside spec.asks spec.after spec.StandsFor
+moves_by h names t p q r stands asked fit = moves t.file h names t.name t.from t.is_through p r stands
 
-pub listen_moves_so : MovesSo Listen listen.asks listen.after listen.StandsFor
-listen_moves_so = moves_from Listen listen.asks listen.after listen.StandsFor listen_moves_by
-
-pub accept_asks_so : AsksSo Accept accept.asks accept.StandsFor
-accept_asks_so h names t p stands = heads file.Data h names t.name t.from t.is_through p refl stands
-
-accept_moves_by : MovesBy Accept accept.asks accept.after accept.StandsFor
-accept_moves_by h names t p q r stands asked fit = moves file.Data h names t.name t.from t.is_through p r refl stands
-
-pub accept_moves_so : MovesSo Accept accept.asks accept.after accept.StandsFor
-accept_moves_so = moves_from Accept accept.asks accept.after accept.StandsFor accept_moves_by
+pub moves_so : MovesSo Beside spec.asks spec.after spec.StandsFor
+moves_so = moves_from Beside spec.asks spec.after spec.StandsFor moves_by
 
 -- a fresh one stands for its step
-pub listen_fresh : (h : ℕ) (names : Names) (called from name other : List ℕ) → name ≡ called → other ≡ from → HaveSlots names
-    → listen.StandsFor h names (record { name = name; from = other; is_through = false }) (play_of h names (step.Listen called from))
-listen_fresh h names called from name other is other_is slots =
-    subst (λ (n : List ℕ). Stands file.Listen h names n other false (play_of h names (step.Listen called from))) (sym is)
-    (subst (λ (n : List ℕ). Stands file.Listen h names called n false (play_of h names (step.Listen called from))) (sym other_is) (IsFresh slots))
+pub listen_fresh : (t : Beside) (called from : List ℕ) → t ≡ spec.begun file.Listen called from → spec.Begins t (step.Listen called from)
+listen_fresh t called from is =
+    λ h names slots. subst (λ (x : Beside). spec.StandsFor h names x (play_of h names (step.Listen called from))) (sym is) (IsFresh slots refl)
 
-pub accept_fresh : (h : ℕ) (names : Names) (called from name other : List ℕ) → name ≡ called → other ≡ from → HaveSlots names
-    → accept.StandsFor h names (record { name = name; from = other; is_through = false }) (play_of h names (step.Accept called from))
-accept_fresh h names called from name other is other_is slots =
-    subst (λ (n : List ℕ). Stands file.Data h names n other false (play_of h names (step.Accept called from))) (sym is)
-    (subst (λ (n : List ℕ). Stands file.Data h names called n false (play_of h names (step.Accept called from))) (sym other_is) (IsFresh slots))
+pub accept_fresh : (t : Beside) (called from : List ℕ) → t ≡ spec.begun file.Data called from → spec.Begins t (step.Accept called from)
+accept_fresh t called from is =
+    λ h names slots. subst (λ (x : Beside). spec.StandsFor h names x (play_of h names (step.Accept called from))) (sym is) (IsFresh slots refl)

@@ -22,9 +22,9 @@ use Rattle.dial_lib.specs.FilePaths.{file_walked}
 use Rattle.dial_lib.specs.Names.{below, slot_of}
 use Rattle.dial_lib.specs.Openings.{flip, unopened_shut}
 use Rattle.dial_lib.specs.Slots.{HaveSlots}
-use Rattle.script_task.specs.declared.request.Request.{Request}
+use Rattle.net_base.specs.declared.request.Request.{Request}
 use Rattle.script_task.specs.Fitting.{fits_listen, fits_open, is_opening}
-use Rattle.script_task.specs.Requests.{settled, bound_after}
+use Rattle.net_base.specs.Requests.{settled, bound_after}
 use Rattle.script_task.specs.Task.{Heads, follow, fits_play}
 
 -- What an open gives.

@@ -13,8 +13,8 @@ use Rattle.dial_lib.specs.declared.call.CallPhase.{CallPhase}
 use Rattle.dial_lib.specs.declared.call.CallPhase.TheVariants as phase
 use Rattle.dial_lib.specs.Beside.{opens_so}
 use Rattle.dial_lib.specs.Slots.{HaveSlots}
-use Rattle.script_task.specs.declared.request.Request.{Request}
-use Rattle.script_task.specs.declared.request.Request.TheVariants as request
+use Rattle.net_base.specs.declared.request.Request.{Request}
+use Rattle.net_base.specs.declared.request.Request.TheVariants as request
 use Rattle.script_task.specs.Fitting.{is_opening}
 
 -- Requests.

@@ -7,7 +7,7 @@ use Rattle.dial_lib.specs.AnnounceLaws.{found, writing_heads}
 use Rattle.dial_lib.specs.BesideLaws.{opens_head}
 use Rattle.dial_lib.specs.Dials.{Stands, IsFresh, IsOpen, IsOver, IsWrite, IsWait, IsRetry, IsData, IsClose, IsThrough, Holds, asks_by, retrying}
 use Rattle.dial_lib.specs.Names.{apart}
-use Rattle.script_task.specs.declared.request.Request.TheVariants as request
+use Rattle.net_base.specs.declared.request.Request.TheVariants as request
 use Rattle.script_task.specs.Task.{Heads}
 
 fresh : (h : ℕ) (names : Names) (called dotted address : List ℕ) (next : List (List ℕ) → Play) (b c : Bool)

@@ -16,9 +16,9 @@ use Rattle.dial_lib.specs.Moves.{by_test, no_lines}
 use Rattle.dial_lib.specs.Names.{apart_too}
 use Rattle.dial_lib.specs.Openings.{unopened_no, Gave, Opens, Refuses, gave, path_range}
 use Rattle.dial_lib.specs.Puts.{Put, Waits, Goes, put}
-use Rattle.script_task.specs.declared.request.Request.{Request}
+use Rattle.net_base.specs.declared.request.Request.{Request}
 use Rattle.script_task.specs.Fitting.{is_opening}
-use Rattle.script_task.specs.Requests.{settled, settles, bound_after}
+use Rattle.net_base.specs.Requests.{settled, settles, bound_after}
 use Rattle.script_task.specs.Task.{follow, fits_play}
 
 unbind_front : (called : List ℕ) (base names : Names) (made : Fid) → Holds called base names made → unbind (dotted_name called) names ≡ base

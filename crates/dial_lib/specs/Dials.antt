@@ -11,8 +11,8 @@ use Rattle.dial_lib.specs.Beside.{opens_file}
 use Rattle.dial_lib.specs.Lines.{first, first_line, other_lines}
 use Rattle.dial_lib.specs.declared.dial.DialPhase.{DialPhase}
 use Rattle.dial_lib.specs.declared.dial.DialPhase.TheVariants as phase
-use Rattle.script_task.specs.declared.request.Request.{Request}
-use Rattle.script_task.specs.declared.request.Request.TheVariants as request
+use Rattle.net_base.specs.declared.request.Request.{Request}
+use Rattle.net_base.specs.declared.request.Request.TheVariants as request
 use Rattle.script_task.specs.Fitting.{is_opening, is_granted}
 
 -- The task.

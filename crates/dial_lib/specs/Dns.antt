@@ -12,8 +12,8 @@ use Rattle.dial_lib.specs.declared.call.CallPhase.TheVariants as phase
 use Rattle.dial_lib.specs.declared.dns.Dns.{Dns}
 use Rattle.dial_lib.specs.Calls as calls
 use Rattle.dial_lib.specs.Slots.{HaveSlots}
-use Rattle.script_task.specs.declared.request.Request.{Request}
-use Rattle.script_task.specs.declared.request.Request.TheVariants as request
+use Rattle.net_base.specs.declared.request.Request.{Request}
+use Rattle.net_base.specs.declared.request.Request.TheVariants as request
 
 abbrev pub writes_by : Option (List ℕ) → Request
 writes_by None = request.Close data_name

@@ -18,9 +18,9 @@ use Rattle.dial_lib.specs.Dns as spec
 use Rattle.dial_lib.specs.Dns.{Stands, IsTaking, IsAnswer, IsLeaveData, IsLeaveCall}
 use Rattle.dial_lib.specs.Moves.{MovesBy, moves_from}
 use Rattle.dial_lib.specs.Slots.{HaveSlots}
-use Rattle.script_task.specs.declared.request.Request.{Request}
-use Rattle.script_task.specs.declared.request.Request.TheVariants as request
-use Rattle.script_task.specs.Requests.{settled, settles}
+use Rattle.net_base.specs.declared.request.Request.{Request}
+use Rattle.net_base.specs.declared.request.Request.TheVariants as request
+use Rattle.net_base.specs.Requests.{settled, settles}
 use Rattle.script_task.specs.Task.{Heads, AsksSo, MovesSo, follow, fits_play}
 
 -- Numbers and answers.

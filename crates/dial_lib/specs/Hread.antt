@@ -9,8 +9,8 @@ use Rattle.dial_lib.specs.declared.call.CallPhase.TheVariants as phase
 use Rattle.dial_lib.specs.declared.hread.Hread.{Hread}
 use Rattle.dial_lib.specs.Calls as calls
 use Rattle.dial_lib.specs.Slots.{HaveSlots}
-use Rattle.script_task.specs.declared.request.Request.{Request}
-use Rattle.script_task.specs.declared.request.Request.TheVariants as request
+use Rattle.net_base.specs.declared.request.Request.{Request}
+use Rattle.net_base.specs.declared.request.Request.TheVariants as request
 
 abbrev pub heard_so : List ℕ → Addr → Addr → Heard
 heard_so called remote local = record { name = called; remote = remote; local = local }

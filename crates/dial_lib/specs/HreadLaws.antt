@@ -14,7 +14,7 @@ use Rattle.dial_lib.specs.CallLaws as laws
 use Rattle.dial_lib.specs.Hread as spec
 use Rattle.dial_lib.specs.Moves.{MovesBy, moves_from}
 use Rattle.dial_lib.specs.Slots.{HaveSlots}
-use Rattle.script_task.specs.Requests.{settles}
+use Rattle.net_base.specs.Requests.{settles}
 use Rattle.script_task.specs.Task.{AsksSo, MovesSo, follow, fits_play}
 
 -- what was told changes no name

@@ -9,8 +9,8 @@ use Rattle.net_base.specs.Steps.{Names, Fid, Play, Asks, Ends, fid_of, unbind, c
 use Rattle.dial_lib.specs.declared.hwrite.Hwrite.{Hwrite}
 use Rattle.dial_lib.specs.declared.hwrite.HwritePhase.{HwritePhase}
 use Rattle.dial_lib.specs.declared.hwrite.HwritePhase.TheVariants as phase
-use Rattle.script_task.specs.declared.request.Request.{Request}
-use Rattle.script_task.specs.declared.request.Request.TheVariants as request
+use Rattle.net_base.specs.declared.request.Request.{Request}
+use Rattle.net_base.specs.declared.request.Request.TheVariants as request
 use Rattle.script_task.specs.Fitting.{is_unopened}
 
 abbrev pub writes_by : List ℕ → Names → Option Fid → Request

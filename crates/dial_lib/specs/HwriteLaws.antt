@@ -20,8 +20,8 @@ use Rattle.dial_lib.specs.Hwrite.{Stands, IsWrite, IsLeaveData, IsLeaveCall, IsT
 use Rattle.dial_lib.specs.Moves.{MovesBy, moves_from}
 use Rattle.dial_lib.specs.Names.{none_bound, unbind_free}
 use Rattle.dial_lib.specs.Openings.{written_free}
-use Rattle.script_task.specs.declared.request.Request.TheVariants as request
-use Rattle.script_task.specs.Requests.{head, settled, settles}
+use Rattle.net_base.specs.declared.request.Request.TheVariants as request
+use Rattle.net_base.specs.Requests.{head, settled, settles}
 use Rattle.script_task.specs.Task.{Heads, AsksSo, MovesSo, follow, fits_play}
 
 -- The open call.

@@ -13,8 +13,6 @@ pub mod WriteTextLaws
 pub mod Reject
 pub mod RejectLaws
 pub mod Beside
-pub mod Listen
-pub mod Accept
 pub mod BesideLaws
 pub mod Announce
 pub mod AnnounceLaws
@@ -32,4 +30,5 @@ pub mod Dns
 pub mod DnsLaws
 pub use Rattle.net_base.specs.Steps
 pub use Rattle.script_task.specs.Task
-pub use Rattle.script_task.specs.Requests
+pub use Rattle.net_base.specs.Requests
+pub use Rattle.script_task.specs.Requests as Rooms

@@ -5,10 +5,10 @@ use Rattle.net_base.specs.declared.reply.Reply.{Reply}
 use Rattle.net_base.specs.declared.reply.Reply.TheVariants as reply
 use Rattle.net_base.specs.Paths.{walk}
 use Rattle.net_base.specs.Steps.{Ask, Names, Fid, Play, Asks, Ends, is_bound, uses, opens, bind, opened_fid, openable, is_accepted, lines_in}
-use Rattle.script_task.specs.declared.request.Request.{Request}
-use Rattle.script_task.specs.declared.request.Request.TheVariants as request
+use Rattle.net_base.specs.declared.request.Request.{Request}
+use Rattle.net_base.specs.declared.request.Request.TheVariants as request
 use Rattle.script_task.specs.Fitting.{fits}
-use Rattle.script_task.specs.Requests.{head, request_play, settled, settles, bound_after}
+use Rattle.net_base.specs.Requests.{head, request_play, settled, settles, bound_after}
 use Rattle.script_task.specs.Task.{Heads, MovesSo, follow, fits_play}
 use Rattle.dial_lib.specs.Names.{bind_slots, unbind_slots}
 use Rattle.dial_lib.specs.Openings.{Gave, Opens, Refuses, gave, path_range}

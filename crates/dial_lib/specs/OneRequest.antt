@@ -3,8 +3,8 @@ use Rattle.std.specs.Prelude.{◌≡◌, ℕ, Bool, true, false, List, Option, S
 use Rattle.net_base.specs.declared.reply.Reply.{Reply}
 use Rattle.net_base.specs.Steps.{Ask, Names, Play, Ends}
 use Rattle.dial_lib.specs.declared.one_request.OneRequest.{OneRequest}
-use Rattle.script_task.specs.declared.request.Request.{Request}
-use Rattle.script_task.specs.Requests.{head, request_play, settled}
+use Rattle.net_base.specs.declared.request.Request.{Request}
+use Rattle.net_base.specs.Requests.{head, request_play, settled}
 use Rattle.script_task.specs.Task.{follow}
 
 abbrev pub asks_by : Request → Bool → Option Request

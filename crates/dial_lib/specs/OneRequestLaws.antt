@@ -6,8 +6,8 @@ use Rattle.dial_lib.specs.declared.one_request.OneRequest.{OneRequest}
 use Rattle.dial_lib.specs.Moves.{MovesBy, moves_from}
 use Rattle.dial_lib.specs.OneRequest as spec
 use Rattle.dial_lib.specs.OneRequest.{Stands, IsFresh, IsThrough}
-use Rattle.script_task.specs.declared.request.Request.{Request}
-use Rattle.script_task.specs.Requests.{settled, settles}
+use Rattle.net_base.specs.declared.request.Request.{Request}
+use Rattle.net_base.specs.Requests.{settled, settles}
 use Rattle.script_task.specs.Task.{Heads, AsksSo, MovesSo, follow}
 
 heads : (h : ℕ) (names : Names) (q : Request) (b : Bool) (p : Play) → Stands h names q b p → Heads h names (spec.asks_by q b) p

@@ -13,7 +13,7 @@ use Rattle.net_base.specs.declared.reply.Reply.TheVariants as reply
 use Rattle.net_base.specs.ControlWords as control
 use Rattle.net_base.specs.Steps.{Ask, Fid, Play, Asks, puts, controls, conversation_of, if_accepted, is_accepted}
 use Rattle.script_task.specs.Fitting.{is_granted, fits_grant}
-use Rattle.script_task.specs.Requests.{head}
+use Rattle.net_base.specs.Requests.{head}
 use Rattle.script_task.specs.Task.{follow, fits_play}
 use Rattle.dial_lib.specs.Openings.{flip, written_free}
 

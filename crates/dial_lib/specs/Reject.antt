@@ -8,8 +8,8 @@ use Rattle.net_base.specs.Steps.{Names, Fid, Play, Ends, fid_of, conversation_of
 use Rattle.dial_lib.specs.declared.reject.Reject.{Reject}
 use Rattle.dial_lib.specs.declared.reject.RejectPhase.{RejectPhase}
 use Rattle.dial_lib.specs.declared.reject.RejectPhase.TheVariants as phase
-use Rattle.script_task.specs.declared.request.Request.{Request}
-use Rattle.script_task.specs.declared.request.Request.TheVariants as request
+use Rattle.net_base.specs.declared.request.Request.{Request}
+use Rattle.net_base.specs.declared.request.Request.TheVariants as request
 
 abbrev pub asks_by : RejectPhase → List ℕ → Option Request
 asks_by phase.Write called = Some (request.Write called (codes "hangup"))

@@ -12,7 +12,7 @@ use Rattle.dial_lib.specs.Openings.{unopened_no}
 use Rattle.dial_lib.specs.Puts.{puts_head, put_other, hangs}
 use Rattle.dial_lib.specs.Reject as spec
 use Rattle.dial_lib.specs.Reject.{Stands, IsWrite, IsClose, IsThrough, closing}
-use Rattle.script_task.specs.Requests.{head, settles}
+use Rattle.net_base.specs.Requests.{head, settles}
 use Rattle.script_task.specs.Task.{Heads, AsksSo, MovesSo, follow, fits_play}
 
 -- Its requests.

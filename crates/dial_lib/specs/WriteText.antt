@@ -6,10 +6,10 @@ use Rattle.net_base.specs.Steps.{Names, Fid, Play, Asks, Ends, fid_of, conversat
 use Rattle.dial_lib.specs.declared.write_text.WritePhase.{WritePhase}
 use Rattle.dial_lib.specs.declared.write_text.WritePhase.TheVariants as phase
 use Rattle.dial_lib.specs.declared.write_text.WriteText.{WriteText}
-use Rattle.script_task.specs.declared.request.Request.{Request}
-use Rattle.script_task.specs.declared.request.Request.TheVariants as request
+use Rattle.net_base.specs.declared.request.Request.{Request}
+use Rattle.net_base.specs.declared.request.Request.TheVariants as request
 use Rattle.script_task.specs.Fitting.{is_granted}
-use Rattle.script_task.specs.Requests.{request_play}
+use Rattle.net_base.specs.Requests.{request_play}
 
 abbrev pub asks_by : WritePhase → List ℕ → List ℕ → Option Request
 asks_by phase.Write called text = Some (request.Write called text)

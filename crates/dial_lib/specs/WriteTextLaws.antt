@@ -11,8 +11,8 @@ use Rattle.dial_lib.specs.Openings.{unopened_no}
 use Rattle.dial_lib.specs.Puts.{Put, Waits, Goes, put, puts_head, granted_no}
 use Rattle.dial_lib.specs.WriteText as spec
 use Rattle.dial_lib.specs.WriteText.{Stands, IsWrite, IsWait, IsThrough}
-use Rattle.script_task.specs.declared.request.Request.TheVariants as request
-use Rattle.script_task.specs.Requests.{head, request_play, settles}
+use Rattle.net_base.specs.declared.request.Request.TheVariants as request
+use Rattle.net_base.specs.Requests.{head, request_play, settles}
 use Rattle.script_task.specs.Task.{Heads, AsksSo, MovesSo, follow, fits_play}
 
 -- what is written through a name: it isn't bound, it isn't writable, or the text goes to its file

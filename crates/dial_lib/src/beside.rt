@@ -1,12 +1,11 @@
 //! Opening another file of a conversation: listening and accepting.
 ghost use Rattle.std.specs.Prelude.{◌≡◌, IfOk};
 ghost use Rattle.net_base.specs.Paths as paths;
+ghost use Rattle.net_base.specs.declared.names.FileName.TheVariants as files;
 ghost use Rattle.net_base.specs.declared.names.Node.TheVariants as node;
 ghost use Rattle.net_base.specs.declared.world.Step.TheVariants as step;
 ghost use Rattle.net_tree.specs.Bindings.{file_of};
-ghost use Rattle.dial_lib.specs.Accept as accept;
 ghost use Rattle.dial_lib.specs.Beside as spec;
-ghost use Rattle.dial_lib.specs.Listen as listen;
 
 use net_base::{FileName, Mode, Octets, Proto, Reply};
 use net_tree::Fid;
@@ -14,100 +13,62 @@ use script_task::{Names, Request, Task};
 use std::alloc::{AllocError, Global};
 use words::{file_name, proto_name, put_decimal};
 
-/// Waits for a call at a conversation, and binds a name to the ctl file of the call.
+/// Opens another file of a conversation with a new name.
 #[derive(Debug, Drop)]
-pub struct Listen {
+pub struct Beside {
     name: Octets,
     from: Octets,
+    file: FileName,
     is_through: bool,
 }
 
-impl Listen {
-    /// Binds `name` to a call at the conversation of `from`.
-    #[tactic(auto, using(crate::specs::BesideLaws::listen_fresh))]
-    pub fn new(alloc: Global, name: &[u8], from: &[u8]) -> Result<Listen, AllocError>
-        ensures value { IfOk result (λ t. t ≡ listen.begun name.now from.now) }
-        ensures stands { IfOk result (λ t. listen.Begins t (step.Listen name.now from.now)) }
+impl Beside {
+    /// Waits for a call at the conversation of `from`, and binds `name` to the ctl file of the call.
+    pub fn listen(alloc: Global, name: &[u8], from: &[u8]) -> Result<Beside, AllocError>
+        ensures value { IfOk result (λ t. t ≡ spec.begun files.Listen name.now from.now) }
+        ensures stands { IfOk result (λ t. spec.Begins t (step.Listen name.now from.now)) }
     {
-        Ok(Listen {
+        Beside::new(alloc, name, from, FileName::Listen)
+    }
+
+    /// Accepts a call: binds `name` to the data file of the conversation of `from`.
+    pub fn accept(alloc: Global, name: &[u8], from: &[u8]) -> Result<Beside, AllocError>
+        ensures value { IfOk result (λ t. t ≡ spec.begun files.Data name.now from.now) }
+        ensures stands { IfOk result (λ t. spec.Begins t (step.Accept name.now from.now)) }
+    {
+        Beside::new(alloc, name, from, FileName::Data)
+    }
+
+    fn new(alloc: Global, name: &[u8], from: &[u8], file: FileName) -> Result<Beside, AllocError>
+        ensures { IfOk result (λ t. t ≡ spec.begun file name.now from.now) }
+    {
+        Ok(Beside {
             name: Octets::from_slice(alloc, name)?,
             from: Octets::from_slice(alloc, from)?,
+            file,
             is_through: false,
         })
     }
 }
 
-impl Task for Listen {
+impl Task for Beside {
     ghost use Rattle.dial_lib.specs.BesideLaws as laws;
 
-    ghost asks = { listen.asks };
+    ghost asks = { spec.asks };
 
-    ghost after = { listen.after };
+    ghost after = { spec.after };
 
-    ghost Stands = { listen.StandsFor };
+    ghost Stands = { spec.StandsFor };
 
-    ghost asks_so = { laws.listen_asks_so };
+    ghost asks_so = { laws.asks_so };
 
-    ghost moves_so = { laws.listen_moves_so };
+    ghost moves_so = { laws.moves_so };
 
     fn next(&self, alloc: Global, fids: &Names) -> Result<Option<Request>, AllocError> {
         if self.is_through {
             return Ok(None);
         }
-        Ok(Some(request_of(alloc, fids, &self.name, &self.from, FileName::Listen)?))
-    }
-
-    fn is_through(&self) -> bool {
-        self.is_through
-    }
-
-    fn told(&mut self, _alloc: Global, _reply: Reply) -> Result<(), AllocError> {
-        self.is_through = true;
-        Ok(())
-    }
-}
-
-/// Accepts a call: opens the data file of its conversation.
-#[derive(Debug, Drop)]
-pub struct Accept {
-    name: Octets,
-    from: Octets,
-    is_through: bool,
-}
-
-impl Accept {
-    /// Binds `name` to the data file of the conversation of `from`.
-    #[tactic(auto, using(crate::specs::BesideLaws::accept_fresh))]
-    pub fn new(alloc: Global, name: &[u8], from: &[u8]) -> Result<Accept, AllocError>
-        ensures value { IfOk result (λ t. t ≡ accept.begun name.now from.now) }
-        ensures stands { IfOk result (λ t. accept.Begins t (step.Accept name.now from.now)) }
-    {
-        Ok(Accept {
-            name: Octets::from_slice(alloc, name)?,
-            from: Octets::from_slice(alloc, from)?,
-            is_through: false,
-        })
-    }
-}
-
-impl Task for Accept {
-    ghost use Rattle.dial_lib.specs.BesideLaws as laws;
-
-    ghost asks = { accept.asks };
-
-    ghost after = { accept.after };
-
-    ghost Stands = { accept.StandsFor };
-
-    ghost asks_so = { laws.accept_asks_so };
-
-    ghost moves_so = { laws.accept_moves_so };
-
-    fn next(&self, alloc: Global, fids: &Names) -> Result<Option<Request>, AllocError> {
-        if self.is_through {
-            return Ok(None);
-        }
-        Ok(Some(request_of(alloc, fids, &self.name, &self.from, FileName::Data)?))
+        Ok(Some(request_of(alloc, fids, &self.name, &self.from, self.file)?))
     }
 
     fn is_through(&self) -> bool {

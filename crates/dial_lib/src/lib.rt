@@ -18,7 +18,7 @@ mod write_text;
 
 pub use address::netmkaddr;
 pub use announce::{Announce, AnnouncePhase};
-pub use beside::{Accept, Listen};
+pub use beside::Beside;
 pub use call::CallPhase;
 pub use dial::{Dial, DialPhase};
 pub use dns::Dns;

@@ -7,27 +7,7 @@ use Rattle.net_base.specs.declared.event.Event.{Event}
 use Rattle.net_base.specs.declared.event.Event.TheVariants as event
 use Rattle.net_base.specs.declared.history.With.TheVariants as given
 use Rattle.net_base.specs.Duties.{Duty, owes}
-
--- the generation that an event of a conversation names
-abbrev pub generation_in : Event → Option ℕ
-generation_in (event.Begin g) = Some g
-generation_in (event.Born g) = Some g
-generation_in (event.Claim g) = Some g
-generation_in (event.Connect g) = Some g
-generation_in (event.Announced g) = Some g
-generation_in (event.Bound g) = Some g
-generation_in (event.Await g) = Some g
-generation_in (event.File g file count) = Some g
-generation_in (event.Read g count) = Some g
-generation_in (event.Write g text) = Some g
-generation_in (event.Hangup g) = Some g
-generation_in (event.Ttl g n) = Some g
-generation_in (event.Tos g n) = Some g
-generation_in (event.Ctl g text) = Some g
-generation_in (event.Close g) = Some g
-generation_in (event.ArriveAt g) = Some g
-generation_in (event.Tick g) = Some g
-generation_in _ = None
+use Rattle.table_laws.specs.ConvRows.{generation_in}
 
 abbrev pub release_of : ℕ → Proto → ℕ → ℕ → Option ℕ → List Duty
 release_of h p n s (Some g) = owes s (name.Dir h p) (event.Release n g) given.Nothing

@@ -1,7 +1,8 @@
 //! The release of a conversation that ended.
 ghost use Rattle.std.specs.Prelude.{◌≡◌, ◌+◌, ◌≤◌, if◌then◌else◌};
 ghost use Rattle.duties.specs.Queue.{Adds};
-ghost use Rattle.duties.specs.Releasing.{generation_in, released};
+ghost use Rattle.duties.specs.Releasing.{released};
+ghost use Rattle.table_laws.specs.ConvRows.{generation_in};
 
 use crate::queue::Duties;
 use net_base::{ActorName, Event, With};

@@ -101,7 +101,7 @@ module _ (w : World) (c : ℕ) (K : Net → Noted → Type 0) where
 
 -- with one entry more
 pub gains : (w : World) (c : ℕ) (log : List Noted) (x : Noted) → Gains w c log x (log ++ x ∷ [])
-gains w c log x = record { turns = own_push w c (IsTurnOf w) log x; nexts = own_push w c (IsNextOf w) log x; timely = own_push w c (IsTimelyIn w) log x }
+gains w c log x = record { turns = own_push w c (IsTurnOf w) log x; nexts = λ ts. own_push w c (IsNextOf ts w) log x; timely = λ ts. own_push w c (IsTimelyIn ts w) log x }
 
 -- a later history of entries with the same of a caller's
 abbrev pub LaterStands : Type 0
@@ -117,8 +117,8 @@ stands_by still w c log more same =
       owes = ap (λ (net : Net). net.owed c) (noted_from-append w (opening_net w) log more) ∙ owed_from w (noted_net w log) (length log) more c none;
       comes_next = (still w (entries log) (entries (log ++ more)) c front recorded).comes_next;
       turns = own_stays w c (IsTurnOf w) log more none;
-      nexts = own_stays w c (IsNextOf w) log more none;
-      timely = own_stays w c (IsTimelyIn w) log more none;
+      nexts = λ ts. own_stays w c (IsNextOf ts w) log more none;
+      timely = λ ts. own_stays w c (IsTimelyIn ts w) log more none;
     }
 
 -- what a caller owes, what comes next for it and what its entries are stay while it records nothing

@@ -17,9 +17,10 @@ use Rattle.net_base.specs.Callers.{caller_of}
 use Rattle.net_base.specs.Duties.{Duty, duties}
 use Rattle.net_base.specs.Legal.{IsAsked, cites_of, shown_of}
 use Rattle.net_base.specs.Net.{with_of}
-use Rattle.net_base.specs.Next.{next}
+use Rattle.net_base.specs.Next.{next, next_by}
 use Rattle.net_base.specs.Steps.{Ask}
 use Rattle.net_base.specs.Stamped.{at, In}
+use Rattle.net_base.specs.Tasks.{Tasks, nobody}
 use Rattle.journal.specs.declared.law.Roster.{Roster}
 use Rattle.journal.specs.declared.tokens.Sight.{Sight}
 use Rattle.journal.specs.Rule.{Held, gain}
@@ -95,24 +96,24 @@ module _ (still : LaterStands)
       step_under a (actor_step w a ((noted_net w d.past).actors a) now work) d.step
       (ap (λ (q : Named). answer_in w q now work) (sym (state_is w d.past a)) ∙ d.ready)
 
-  nexts_are : next w (entries p.seen) c ≡ next w (noted_net w d.past).past c
-  nexts_are = sym stands.comes_next ∙ ap (λ (l : List Entry). next w l c) (sym (past_is w d.past))
+  nexts_are : (ts : Tasks) → next_by ts w (entries p.seen) c ≡ next_by ts w (noted_net w d.past).past c
+  nexts_are ts = sym (stands.comes_next ts) ∙ ap (λ (l : List Entry). next_by ts w l c) (sym (past_is w d.past))
 
   turn : IsTurnOf w (noted_net w d.past) the
   turn = record {
     given = t.given ∙ ap with_of (sym owes);
     cites = t.cites_it ∙ ap cites_of (sym owes);
     asked = subst (λ (q : List Duty). IsAskedButOfScripts q (caller_of w c) (next w (noted_net w d.past).past c) the.entry) (sym owes)
-        (subst (λ (q : Option Ask). IsAskedButOfScripts ds (caller_of w c) q the.entry) nexts_are (t.asked now o));
+        (subst (λ (q : Option Ask). IsAskedButOfScripts ds (caller_of w c) q the.entry) (nexts_are nobody) (t.asked now o));
     step = stepped.0;
     gives = stepped.1;
     shows = ap shown_of d.outcome ∙ ap shown_of (stepped.2);
   }
 
-  is_next : IsAsked ds (caller_of w c) (next w (entries p.seen) c) the.entry → IsNextOf w (noted_net w d.past) the
-  is_next asked =
-      subst (λ (q : List Duty). IsAsked q (caller_of w c) (next w (noted_net w d.past).past c) the.entry) (sym owes)
-      (subst (λ (q : Option Ask). IsAsked ds (caller_of w c) q the.entry) nexts_are asked)
+  is_next : (ts : Tasks) → IsAsked ds (caller_of w c) (next_by ts w (entries p.seen) c) the.entry → IsNextOf ts w (noted_net w d.past) the
+  is_next ts asked =
+      subst (λ (q : List Duty). IsAsked q (caller_of w c) (next_by ts w (noted_net w d.past).past c) the.entry) (sym owes)
+      (subst (λ (q : Option Ask). IsAsked ds (caller_of w c) q the.entry) (nexts_are ts) asked)
 
   abbrev list' : List (ℕ × Noted)
   list' = g.list ++ (stamp, the) ∷ []
@@ -152,8 +153,8 @@ module _ (still : LaterStands)
       owed = ap (λ (l : List Noted). owed_in w l c) d.seen ∙ owed';
       turns = subst (λ (l : List Noted). AreTurns w c l) (sym d.seen) ((gains w c d.past the).turns (stands.turns g.turns) turn);
     };
-    nexts = λ asked before. subst (λ (l : List Noted). AreNext w c l) (sym d.seen) ((gains w c d.past the).nexts (stands.nexts before) (is_next asked));
-    timely = λ timely before. subst (λ (l : List Noted). AreTimely w c l) (sym d.seen) ((gains w c d.past the).timely (stands.timely before) timely);
+    nexts = λ ts asked before. subst (λ (l : List Noted). AreNext ts w c l) (sym d.seen) ((gains w c d.past the).nexts ts (stands.nexts ts before) (is_next ts asked));
+    timely = λ ts timely before. subst (λ (l : List Noted). AreTimely ts w c l) (sym d.seen) ((gains w c d.past the).timely ts (stands.timely ts before) timely);
   }
 
 -- nothing was seen
@@ -167,8 +168,8 @@ begins w r c p lt none held = record {
   turns = subst (λ (l : List Noted). AreTurns w c l) (sym none) tt;
 }
 
-pub no_nexts : (w : World) (c : ℕ) (log : List Noted) → log ≡ [] → AreNext w c log
-no_nexts w c log none = subst (λ (l : List Noted). AreNext w c l) (sym none) tt
+pub no_nexts : (ts : Tasks) (w : World) (c : ℕ) (log : List Noted) → log ≡ [] → AreNext ts w c log
+no_nexts ts w c log none = subst (λ (l : List Noted). AreNext ts w c l) (sym none) tt
 
-pub no_moves : (w : World) (c : ℕ) (log : List Noted) → log ≡ [] → AreTimely w c log
-no_moves w c log none = subst (λ (l : List Noted). AreTimely w c l) (sym none) tt
+pub no_moves : (ts : Tasks) (w : World) (c : ℕ) (log : List Noted) → log ≡ [] → AreTimely ts w c log
+no_moves ts w c log none = subst (λ (l : List Noted). AreTimely ts w c l) (sym none) tt

@@ -6,6 +6,5 @@ pub mod Moves
 pub mod Whole
 pub mod Views
 pub mod Turns
-pub mod ConvCalls
 pub mod FewCalls
 pub mod Away

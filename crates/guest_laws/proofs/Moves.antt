@@ -16,10 +16,11 @@ use Rattle.net_base.specs.declared.world.World.{World}
 use Rattle.net_base.specs.ActorStep.{Step, when}
 use Rattle.net_base.specs.Actors.{Actor, IsDesk, IsDir, IsConv, IsMedium, has_actor, actor_step, table_step, step_as}
 use Rattle.net_base.specs.Desk.{desk_step}
-use Rattle.net_base.specs.Legal.{IsInTime}
+use Rattle.net_base.specs.Legal.{IsInTimeBy}
 use Rattle.net_base.specs.Medium.{medium_step}
 use Rattle.net_base.specs.Net.{Net, moment_after}
 use Rattle.net_base.specs.Stamped.{same_actor}
+use Rattle.net_base.specs.Tasks.{Tasks}
 use Rattle.guest_laws.specs.Works.{step_by, moment_by}
 
 module _ (w : World) where
@@ -54,11 +55,11 @@ module _ (w : World) where
   still a s now m e g t other is = refl
 
   -- what is ready elsewhere than at the clock is no move
-  pub never_moves : (a : ActorName) (s : Actor) (now : ℕ) (work : Work) (t : Step Actor) (net : Net) → same_actor a name.Clock ≡ false
-      → actor_step w a s now work ≡ Some t → IsInTime net w work.event
-  never_moves a s now work t net other is = by_event work.event work.with is
+  pub never_moves : (a : ActorName) (s : Actor) (now : ℕ) (work : Work) (t : Step Actor) (ts : Tasks) (net : Net) → same_actor a name.Clock ≡ false
+      → actor_step w a s now work ≡ Some t → IsInTimeBy ts net w work.event
+  never_moves a s now work t ts net other is = by_event work.event work.with is
     where
-      by_event : (e : Event) (g : With) → actor_step w a s now (record { event = e; with = g }) ≡ Some t → IsInTime net w e
+      by_event : (e : Event) (g : With) → actor_step w a s now (record { event = e; with = g }) ≡ Some t → IsInTimeBy ts net w e
       by_event (event.Move k) g is = absurd (none-some t (sym (ap (when (has_actor w a)) (no_move a s now k g other) ∙ when_none (has_actor w a)) ∙ is))
       by_event e g is = tt
 

@@ -15,10 +15,10 @@ use Rattle.net_base.specs.ActorStep.{Step}
 use Rattle.net_base.specs.Actors.{Actor, has_actor, actor_step}
 use Rattle.net_base.specs.Callers.{Caller, IsScript, IsCourier, IsClock, IsNobody, caller_count, caller_of}
 use Rattle.net_base.specs.Duties.{Duty, duties}
-use Rattle.net_base.specs.Legal.{IsLegal, IsTimed, IsInTime, IsAsked, asked_by, MayFollow, Follows, Shows}
+use Rattle.net_base.specs.Legal.{IsLegalBy, IsTimedBy, IsInTimeBy, IsAsked, asked_by, MayFollowBy, FollowsBy, Shows}
 use Rattle.net_base.specs.Net.{Net, actors_after, after, moment_after, net_after, next_net, outcome_in, owed_after, step_of, work_of}
-use Rattle.net_base.specs.Next.{by, next}
-use Rattle.net_base.specs.Steps.{Ask}
+use Rattle.net_base.specs.Next.{by, next, next_by, next_of, next_of_by}
+use Rattle.net_base.specs.Tasks.{Tasks}
 use Rattle.net_base.specs.Stamped.{In, at}
 use Rattle.history_laws.proofs.Histories.{in_pushed}
 use Rattle.journal.specs.declared.law.Roster.{Roster}
@@ -105,9 +105,9 @@ module _ (w : World) (r : Roster) (past : List Noted) (x : Noted) (fits : Fits r
       ∙ ap (net_after w net x.entry) (sym (step_is ∙ turn.gives))
 
 -- with what its caller asks it follows
-follows : (w : World) (past : List Entry) (net : Net) (x : Entry) → FollowsButScripts w past net x
-    → IsAsked (net.owed x.caller) (caller_of w x.caller) (next w past x.caller) x → Follows w past net x
-follows w past net x f asked = record {
+follows : (ts : Tasks) (w : World) (past : List Entry) (net : Net) (x : Entry) → FollowsButScripts w past net x
+    → IsAsked (net.owed x.caller) (caller_of w x.caller) (next_by ts w past x.caller) x → FollowsBy ts w past net x
+follows ts w past net x f asked = record {
   answers = f.answers;
   at_moment = f.at_moment;
   cites = f.cites;
@@ -117,20 +117,22 @@ follows w past net x f asked = record {
   has_room = f.has_room;
 }
 
-asked_of : (ds : List Duty) (k : Caller) (ask : Option Ask) (x : Entry) → IsAskedButOfScripts ds k ask x
-    → ((s : Script) → k ≡ IsScript s → ds ≡ [] → ask ≡ Some (asked_by x)) → IsAsked ds k ask x
-asked_of [] (IsScript s) ask x is own = own s refl refl
-asked_of [] (IsCourier m) ask x is own = is
-asked_of [] IsClock ask x is own = is
-asked_of [] IsNobody ask x is own = is
-asked_of (d ∷ ds) k ask x is own = is
+-- who plays a task in the place of a script is no matter to the other callers
+asked_of : (ts : Tasks) (w : World) (past : List Entry) (c : ℕ) (ds : List Duty) (k : Caller) (x : Entry) → IsAskedButOfScripts ds k (next_of w k past c) x
+    → ((s : Script) → k ≡ IsScript s → ds ≡ [] → next_of_by ts w k past c ≡ Some (asked_by x)) → IsAsked ds k (next_of_by ts w k past c) x
+asked_of ts w past c [] (IsScript s) x is own = own s refl refl
+asked_of ts w past c [] (IsCourier m) x is own = is
+asked_of ts w past c [] IsClock x is own = is
+asked_of ts w past c [] IsNobody x is own = is
+asked_of ts w past c (d ∷ ds) k x is own = is
 
--- where scripts go on, all of it is legal
-pub made_legal : (w : World) (h : List Entry) → IsLegalButScripts w h → DoScriptsGoOn w h → IsLegal w h
-made_legal w h but own k x is =
+-- where scripts and tasks go on, all of it is legal
+pub made_legal : (ts : Tasks) (w : World) (h : List Entry) → IsLegalButScripts w h → DoScriptsGoOn ts w h → IsLegalBy ts w h
+made_legal ts w h but own k x is =
     let f = but k x is in
-    follows w (take k h) (after w (take k h)) x f
-    (asked_of ((after w (take k h)).owed x.caller) (caller_of w x.caller) (next w (take k h) x.caller) x f.is_asked (λ s script none. own k x s is script none))
+    follows ts w (take k h) (after w (take k h)) x f
+    (asked_of ts w (take k h) x.caller ((after w (take k h)).owed x.caller) (caller_of w x.caller) x f.is_asked
+    (λ s script none. own k x s is script none))
 
 -- the next net of the definitions
 abbrev pub Grows : Type 0
@@ -170,15 +172,15 @@ module _ (grows : Grows) (w : World) (r : Roster) (known : (a : ActorName) → I
     pub but_scripts : IsLegalButScripts w (entries log) × (noted_net w log ≡ after w (entries log))
     but_scripts = each_of (IsTurnOf w) (λ p x. FollowsButScripts w p (after w p) x) (λ past x f k same. f) log lawful turns turns
 
-    pub legal : ((c : ℕ) → c < r.callers → AreNext w c log) → IsLegal w (entries log)
-    legal nexts = (each_of (IsNextOf w) (λ p x. MayFollow w p x)
-        (λ past x f k same. follows w (entries past) (after w (entries past)) x.entry f
+    pub legal : (ts : Tasks) → ((c : ℕ) → c < r.callers → AreNext ts w c log) → IsLegalBy ts w (entries log)
+    legal ts nexts = (each_of (IsNextOf ts w) (λ p x. MayFollowBy ts w p x)
+        (λ past x f k same. follows ts w (entries past) (after w (entries past)) x.entry f
         (subst (λ (l : List Entry). IsAsked ((after w (entries past)).owed x.entry.caller) (caller_of w x.entry.caller)
-        (next w l x.entry.caller) x.entry) (past_is w past)
-        (subst (λ (n : Net). IsAsked (n.owed x.entry.caller) (caller_of w x.entry.caller) (next w (noted_net w past).past x.entry.caller) x.entry)
+        (next_by ts w l x.entry.caller) x.entry) (past_is w past)
+        (subst (λ (n : Net). IsAsked (n.owed x.entry.caller) (caller_of w x.entry.caller) (next_by ts w (noted_net w past).past x.entry.caller) x.entry)
         (sym same) k)))
         log lawful turns nexts).0
 
-    pub timed : ((c : ℕ) → c < r.callers → AreTimely w c log) → IsTimed w (entries log)
-    timed timely = (each_of (IsTimelyIn w) (λ p x. IsInTime (after w p) w x.event)
-        (λ past x f k same. subst (λ (n : Net). IsInTime n w x.entry.event) (sym same) k) log lawful turns timely).0
+    pub timed : (ts : Tasks) → ((c : ℕ) → c < r.callers → AreTimely ts w c log) → IsTimedBy ts w (entries log)
+    timed ts timely = (each_of (IsTimelyIn ts w) (λ p x. IsInTimeBy ts (after w p) w x.event)
+        (λ past x f k same. subst (λ (n : Net). IsInTimeBy ts n w x.entry.event) (sym same) k) log lawful turns timely).0

@@ -10,10 +10,11 @@ use Rattle.net_base.specs.ActorStep.{Step}
 use Rattle.net_base.specs.Actors.{Actor, actor_step, has_actor}
 use Rattle.net_base.specs.Callers.{caller_count, caller_of}
 use Rattle.net_base.specs.Duties.{Duty, duties}
-use Rattle.net_base.specs.Legal.{IsAsked, IsInTime, cites_of}
+use Rattle.net_base.specs.Legal.{IsAsked, IsInTimeBy, cites_of}
 use Rattle.net_base.specs.Net.{with_of}
-use Rattle.net_base.specs.Next.{next}
+use Rattle.net_base.specs.Next.{next, next_by}
 use Rattle.net_base.specs.Stamped.{at, In}
+use Rattle.net_base.specs.Tasks.{Tasks}
 use Rattle.journal.specs.declared.law.Roster.{Roster}
 use Rattle.journal.specs.declared.tokens.Sight.{Sight}
 use Rattle.journal.specs.Rule.{Held, Lawful, same_number}
@@ -57,9 +58,9 @@ pub record HasRecorded (w : World) (r : Roster) (a : ActorName) (c now : ℕ) (w
   pub stepped : actor_step w a ((noted_net w past).actors a) now work ≡ Some step
   pub outcome : o ≡ without_copy step.outcome
   pub guest : IsGuest w r c p' (drop 1 ds ++ duties w (noted_net w past).actors a stamp work step)
-  pub nexts : IsAsked ds (caller_of w c) (next w (entries p.seen) c) (made a c now work cites o).entry →
-      AreNext w c p.seen → AreNext w c p'.seen
-  pub timely : IsInTime (noted_net w past) w work.event → AreTimely w c p.seen → AreTimely w c p'.seen
+  pub nexts : (ts : Tasks) → IsAsked ds (caller_of w c) (next_by ts w (entries p.seen) c) (made a c now work cites o).entry →
+      AreNext ts w c p.seen → AreNext ts w c p'.seen
+  pub timely : (ts : Tasks) → IsInTimeBy ts (noted_net w past) w work.event → AreTimely ts w c p.seen → AreTimely ts w c p'.seen
 
 -- the history of a journal of the world's callers and actors, each of whose callers made its entries as turns
 pub record IsOfGuests (w : World) (r : Roster) (log : List Noted) : Type 0 where

@@ -9,10 +9,11 @@ use Rattle.net_base.specs.Actors.{Actor, has_actor}
 use Rattle.net_base.specs.Callers.{Caller, IsScript, caller_of, caller_count}
 use Rattle.net_base.specs.Calm.{most_entries}
 use Rattle.net_base.specs.Duties.{Duty}
-use Rattle.net_base.specs.Legal.{IsAsked, IsInTime, Shows, asked_by, cites_of, shown_by, shown_of}
+use Rattle.net_base.specs.Legal.{IsAsked, IsInTimeBy, Shows, asked_by, cites_of, shown_by, shown_of}
 use Rattle.net_base.specs.Net.{Net, opening_net, after, outcome_in, owed, with_of}
-use Rattle.net_base.specs.Next.{by, next}
+use Rattle.net_base.specs.Next.{by, next, next_by}
 use Rattle.net_base.specs.Steps.{Ask}
+use Rattle.net_base.specs.Tasks.{Tasks}
 use Rattle.guest_laws.specs.Works.{step_by, next_noted, noted_net, owed_in, entries}
 
 -- the first duty, or what comes next where none is owed; of a script that owes nothing it is any event
@@ -30,14 +31,14 @@ pub record IsTurnOf (w : World) (net : Net) (x : Noted) : Type 0 where
   pub gives : step_by w net x ≡ Some step
   pub shows : shown_by x.entry ≡ shown_of step.outcome
 
--- where nothing is owed it is what comes next
-abbrev pub IsNextOf : World → Net → Noted → Type 0
-IsNextOf w net x = IsAsked (net.owed x.entry.caller) (caller_of w x.entry.caller)
-    (next w net.past x.entry.caller) x.entry
+-- where nothing is owed it is what comes next, by who plays a task in the place of a script
+abbrev pub IsNextOf : Tasks → World → Net → Noted → Type 0
+IsNextOf ts w net x = IsAsked (net.owed x.entry.caller) (caller_of w x.entry.caller)
+    (next_by ts w net.past x.entry.caller) x.entry
 
 -- where it is a move it comes in time
-abbrev pub IsTimelyIn : World → Net → Noted → Type 0
-IsTimelyIn w net x = IsInTime net w x.entry.event
+abbrev pub IsTimelyIn : Tasks → World → Net → Noted → Type 0
+IsTimelyIn ts w net x = IsInTimeBy ts net w x.entry.event
 
 -- each of the caller's entries is so, in the net before it
 abbrev pub OwnFrom : World → ℕ → (Net → Noted → Type 0) → Net → List Noted → Type 0
@@ -51,27 +52,27 @@ EachOwn w c K log = OwnFrom w c K (opening_net w) log
 abbrev pub AreTurns : World → ℕ → List Noted → Type 0
 AreTurns w c log = EachOwn w c (IsTurnOf w) log
 
--- each is the first duty or what comes next, scripts included
-abbrev pub AreNext : World → ℕ → List Noted → Type 0
-AreNext w c log = EachOwn w c (IsNextOf w) log
+-- each is the first duty or what comes next, scripts and tasks included
+abbrev pub AreNext : Tasks → World → ℕ → List Noted → Type 0
+AreNext ts w c log = EachOwn w c (IsNextOf ts w) log
 
 -- each move of the caller comes in time
-abbrev pub AreTimely : World → ℕ → List Noted → Type 0
-AreTimely w c log = EachOwn w c (IsTimelyIn w) log
+abbrev pub AreTimely : Tasks → World → ℕ → List Noted → Type 0
+AreTimely ts w c log = EachOwn w c (IsTimelyIn ts w) log
 
--- after the later entries the caller stands as it stood after the earlier ones
+-- after the later entries the caller stands as it stood after the earlier ones, whoever plays a task
 pub record StandsStill (w : World) (c : ℕ) (earlier later : List Noted) : Type 0 where
   pub owes : owed_in w later c ≡ owed_in w earlier c
-  pub comes_next : next w (entries later) c ≡ next w (entries earlier) c
+  pub comes_next : (ts : Tasks) → next_by ts w (entries later) c ≡ next_by ts w (entries earlier) c
   pub turns : AreTurns w c earlier → AreTurns w c later
-  pub nexts : AreNext w c earlier → AreNext w c later
-  pub timely : AreTimely w c earlier → AreTimely w c later
+  pub nexts : (ts : Tasks) → AreNext ts w c earlier → AreNext ts w c later
+  pub timely : (ts : Tasks) → AreTimely ts w c earlier → AreTimely ts w c later
 
 -- with an entry of its own more
 pub record Gains (w : World) (c : ℕ) (past : List Noted) (x : Noted) (later : List Noted) : Type 0 where
   pub turns : AreTurns w c past → IsTurnOf w (noted_net w past) x → AreTurns w c later
-  pub nexts : AreNext w c past → IsNextOf w (noted_net w past) x → AreNext w c later
-  pub timely : AreTimely w c past → IsTimelyIn w (noted_net w past) x → AreTimely w c later
+  pub nexts : (ts : Tasks) → AreNext ts w c past → IsNextOf ts w (noted_net w past) x → AreNext ts w c later
+  pub timely : (ts : Tasks) → AreTimely ts w c past → IsTimelyIn ts w (noted_net w past) x → AreTimely ts w c later
 
 -- The whole history.
 
@@ -90,7 +91,7 @@ abbrev pub IsLegalButScripts : World → List Entry → Type 0
 IsLegalButScripts w h = (k : ℕ) (x : Entry) → slice_get h k ≡ Some x
     → FollowsButScripts w (take k h) (after w (take k h)) x
 
--- and so they are: where a script owes nothing, its entry is what comes next for it
-abbrev pub DoScriptsGoOn : World → List Entry → Type 0
-DoScriptsGoOn w h = (k : ℕ) (x : Entry) (s : Script) → slice_get h k ≡ Some x → caller_of w x.caller ≡ IsScript s
-    → owed w (take k h) x.caller ≡ [] → next w (take k h) x.caller ≡ Some (asked_by x)
+-- and so they are: where a script, or the task in its place, owes nothing, its entry is what comes next for it
+abbrev pub DoScriptsGoOn : Tasks → World → List Entry → Type 0
+DoScriptsGoOn ts w h = (k : ℕ) (x : Entry) (s : Script) → slice_get h k ≡ Some x → caller_of w x.caller ≡ IsScript s
+    → owed w (take k h) x.caller ≡ [] → next_by ts w (take k h) x.caller ≡ Some (asked_by x)

@@ -19,9 +19,10 @@ ghost use Rattle.net_base.specs.Actors.{Actor, actor_step};
 ghost use Rattle.net_base.specs.Callers.{IsScript, IsCourier, IsClock, caller_of};
 ghost use Rattle.net_base.specs.Duties as duties;
 ghost use Rattle.net_base.specs.Duties.{Duty};
-ghost use Rattle.net_base.specs.Legal.{IsInTime, IsLegal, IsTimed};
+ghost use Rattle.net_base.specs.Legal.{IsInTimeBy, IsLegalBy, IsTimedBy};
 ghost use Rattle.net_base.specs.Net.{Net, after};
 ghost use Rattle.net_base.specs.Stamped.{In, at, moment, same_actor};
+ghost use Rattle.net_base.specs.Tasks.{Tasks};
 ghost use Rattle.journal.specs.declared.law.Roster.{Roster};
 ghost use Rattle.journal.specs.declared.tokens.Sight.{Sight};
 ghost use Rattle.journal.specs.Tokens.{Looked, Met};
@@ -58,8 +59,8 @@ pub fn locks_keep_actors()
 
 /// What is ready elsewhere than at the clock is no move, so that it comes in time.
 pub fn moves_are_the_clocks()
-    ensures { (w : World) (net : Net) (a : ActorName) (s : Actor) (now : ℕ) (work : Work) (t : Step Actor)
-        → same_actor a name.Clock ≡ false → actor_step w a s now work ≡ Some t → IsInTime net w work.event }
+    ensures { (ts : Tasks) (w : World) (net : Net) (a : ActorName) (s : Actor) (now : ℕ) (work : Work) (t : Step Actor)
+        → same_actor a name.Clock ≡ false → actor_step w a s now work ≡ Some t → IsInTimeBy ts net w work.event }
 {}
 
 /// No actor ever tells more than ten calls that waited, whatever works were done before.
@@ -109,8 +110,8 @@ pub fn guests_begin()
     ensures guest { (w : World) (r : Roster) (c : ℕ) (p : Sight) → c < r.callers → p.seen ≡ []
         → In (number.Caller c, []) p.held
         → IsGuest w r c p [] }
-    ensures nexts { (w : World) (c : ℕ) (log : List Noted) → log ≡ [] → AreNext w c log }
-    ensures timely { (w : World) (c : ℕ) (log : List Noted) → log ≡ [] → AreTimely w c log }
+    ensures nexts { (ts : Tasks) (w : World) (c : ℕ) (log : List Noted) → log ≡ [] → AreNext ts w c log }
+    ensures timely { (ts : Tasks) (w : World) (c : ℕ) (log : List Noted) → log ≡ [] → AreTimely ts w c log }
 {}
 
 /// A caller whose turn was recorded owes the duties of the entry after the others, its first duty being done.
@@ -170,15 +171,16 @@ pub fn histories_of_guests_are_legal()
         → IsLegalButScripts w (entries log) }
     ensures net { (w : World) (r : Roster) (log : List Noted) → IsOfGuests w r log
         → noted_net w log ≡ after w (entries log) }
-    ensures legal { (w : World) (r : Roster) (log : List Noted) → IsOfGuests w r log
-        → ((c : ℕ) → c < r.callers → AreNext w c log) → IsLegal w (entries log) }
-    ensures timed { (w : World) (r : Roster) (log : List Noted) → IsOfGuests w r log
-        → ((c : ℕ) → c < r.callers → AreTimely w c log) → IsTimed w (entries log) }
+    ensures legal { (ts : Tasks) (w : World) (r : Roster) (log : List Noted) → IsOfGuests w r log
+        → ((c : ℕ) → c < r.callers → AreNext ts w c log) → IsLegalBy ts w (entries log) }
+    ensures timed { (ts : Tasks) (w : World) (r : Roster) (log : List Noted) → IsOfGuests w r log
+        → ((c : ℕ) → c < r.callers → AreTimely ts w c log) → IsTimedBy ts w (entries log) }
 {
     histories_grow();
 }
 
-/// Where the entries of scripts that owe nothing are their next events, nothing is missing of a legal history.
+/// Where the entries of scripts, and of tasks in their places, that owe nothing are their next events, nothing is missing of a legal
+/// history.
 pub fn scripts_that_go_on_are_legal()
-    ensures { (w : World) (h : List Entry) → IsLegalButScripts w h → DoScriptsGoOn w h → IsLegal w h }
+    ensures { (ts : Tasks) (w : World) (h : List Entry) → IsLegalButScripts w h → DoScriptsGoOn ts w h → IsLegalBy ts w h }
 {}

@@ -11,9 +11,9 @@ use Rattle.net_base.specs.Actors.{Actor}
 use Rattle.net_base.specs.Callers.{Caller, IsScript, IsCourier, IsClock, IsNobody, caller_of}
 use Rattle.net_base.specs.Duties.{Duty, duties}
 use Rattle.net_base.specs.Net.{Net, opening_net, net_after, next_net, net_of, after, owed, step_of, with_of}
-use Rattle.net_base.specs.Next.{by, next_of, zone_of}
+use Rattle.net_base.specs.Next.{by, next_of_by, place_next, zone_of}
 use Rattle.net_base.specs.Stamped.{entries_from, of_caller}
-use Rattle.net_base.specs.Scripts.{at_first, position}
+use Rattle.net_base.specs.Tasks.{Tasks}
 use Rattle.history_laws.specs.Apart.{StandsStill, step_in, own_steps_from, own_steps, owed_then, owed_by}
 use Rattle.history_laws.proofs.Histories.{net_of-append}
 
@@ -58,12 +58,12 @@ module _ (w : World) (c : ℕ) where
       test true own none rest = absurd (no_cons x (by xs c) none)
       test false other none rest = rest none ∙ by_other net x (step_of w net x) other
 
-  next_alike : (k : Caller) (h later : List Entry) → by later c ≡ by h c → next_of w k later c ≡ next_of w k h c
-  next_alike (IsScript s) h later same =
-      ap (λ (xs : List Entry). (position s.host s.steps (at_first (zone_of w)) (map (λ (x : Entry). x.reply) (filter (λ (x : Entry). is_none x.cites) xs))).next) same
-  next_alike (IsCourier m) h later same = refl
-  next_alike IsClock h later same = refl
-  next_alike IsNobody h later same = refl
+  next_alike : (ts : Tasks) (k : Caller) (h later : List Entry) → by later c ≡ by h c → next_of_by ts w k later c ≡ next_of_by ts w k h c
+  next_alike ts (IsScript s) h later same =
+      ap (λ (xs : List Entry). place_next (ts c) (zone_of w) s (map (λ (x : Entry). x.reply) (filter (λ (x : Entry). is_none x.cites) xs))) same
+  next_alike ts (IsCourier m) h later same = refl
+  next_alike ts IsClock h later same = refl
+  next_alike ts IsNobody h later same = refl
 
   by_append : (h more : List Entry) → by (h ++ more) c ≡ by h c ++ by more c
   by_append h more = filter-append (λ (x : Entry). x.caller == c) h more
@@ -77,7 +77,7 @@ module _ (w : World) (c : ℕ) where
       record {
         recorded = same;
         owes = ap (λ (net : Net). net.owed c) (net_of-append w (opening_net w) h more) ∙ left (after w h) more none;
-        comes_next = next_alike (caller_of w c) h (h ++ more) same;
+        comes_next = λ ts. next_alike ts (caller_of w c) h (h ++ more) same;
       }
 
   pub stands_later : (h later : List Entry) → IsPrefix h later → by later c ≡ by h c → StandsStill w c h later

@@ -11,9 +11,10 @@ use Rattle.net_base.specs.declared.history.Entry.{Entry}
 use Rattle.net_base.specs.declared.world.World.{World}
 use Rattle.net_base.specs.ActorStep.{Step}
 use Rattle.net_base.specs.Actors.{Actor, opening_actor, actor_step}
-use Rattle.net_base.specs.Legal.{MayFollow, IsLegal, IsInTime, IsTimed, Rule, Answers, AtMoment, Cites, Asked, Ready, InTime, Known, HasRoom, Keeps, IsFault}
+use Rattle.net_base.specs.Legal.{MayFollow, MayFollowBy, IsLegal, IsLegalBy, IsInTime, IsTimed, Rule, Answers, AtMoment, Cites, Asked, Ready, InTime, Known, HasRoom, Keeps, IsFault}
 use Rattle.net_base.specs.Net.{Net, net_after, next_net, net_of, after, opening_net, state, step_of, work_of, works, works_from, stepped_to, play, played}
 use Rattle.net_base.specs.Stamped.{same_proto, same_actor}
+use Rattle.net_base.specs.Tasks.{Tasks}
 
 -- Tests of actors.
 
@@ -68,13 +69,13 @@ before_push (z ∷ h) x y zero is = is
 before_push (z ∷ h) x y (suc k) is = before_push h x y k is
 
 -- a legal history with one entry more
-pub legal_push : (w : World) (h : List Entry) (x : Entry) → IsLegal w h → MayFollow w h x → IsLegal w (h ++ x ∷ [])
-legal_push w h x legal may k y is =
+pub legal_push : {ts : Tasks} (w : World) (h : List Entry) (x : Entry) → IsLegalBy ts w h → MayFollowBy ts w h x → IsLegalBy ts w (h ++ x ∷ [])
+legal_push {ts = ts} w h x legal may k y is =
     elim (in_pushed h x k y is) [
-      | inl there ↦ subst (λ (p : List Entry). MayFollow w p y) (sym (take-append-le k h (x ∷ []) (omega (arith, there.0)))) (legal k y there.1)
+      | inl there ↦ subst (λ (p : List Entry). MayFollowBy ts w p y) (sym (take-append-le k h (x ∷ []) (omega (arith, there.0)))) (legal k y there.1)
       | inr last ↦
           let here : take k (h ++ x ∷ []) ≡ h = rw last.0 (take_at h (x ∷ []) (length h) refl) in
-          subst (λ (p : List Entry). MayFollow w p y) (sym here) (subst (λ (z : Entry). MayFollow w h z) last.1 may)
+          subst (λ (p : List Entry). MayFollowBy ts w p y) (sym here) (subst (λ (z : Entry). MayFollowBy ts w h z) last.1 may)
     ]
 
 -- a timed one
@@ -88,10 +89,10 @@ timed_push w h x timed in_time k y is =
     ]
 
 -- its parts
-pub legal_front : (w : World) (h : List Entry) (x : Entry) → IsLegal w (h ++ x ∷ []) → IsLegal w h × MayFollow w h x
-legal_front w h x legal = (
-  λ k y is. subst (λ (p : List Entry). MayFollow w p y) (take-append-le k h (x ∷ []) (omega (arith, slice_get_within h k y is))) (legal k y (before_push h x y k is)),
-  subst (λ (p : List Entry). MayFollow w p x) (take_at h (x ∷ []) (length h) refl) (legal (length h) x (at_push h x)),
+pub legal_front : {ts : Tasks} (w : World) (h : List Entry) (x : Entry) → IsLegalBy ts w (h ++ x ∷ []) → IsLegalBy ts w h × MayFollowBy ts w h x
+legal_front {ts = ts} w h x legal = (
+  λ k y is. subst (λ (p : List Entry). MayFollowBy ts w p y) (take-append-le k h (x ∷ []) (omega (arith, slice_get_within h k y is))) (legal k y (before_push h x y k is)),
+  subst (λ (p : List Entry). MayFollowBy ts w p x) (take_at h (x ∷ []) (length h) refl) (legal (length h) x (at_push h x)),
 )
 
 -- The states of actors.
@@ -129,10 +130,10 @@ slice_get_take (suc k) (y ∷ h) zero x is = (omega arith, is)
 slice_get_take (suc k) (y ∷ h) (suc j) x is = let rest = slice_get_take k h j x is in (omega (arith, rest.0), rest.1)
 
 -- a beginning of a legal history is legal
-pub legal_take : (w : World) (h : List Entry) (k : ℕ) → IsLegal w h → IsLegal w (take k h)
-legal_take w h k legal j x is =
+pub legal_take : {ts : Tasks} (w : World) (h : List Entry) (k : ℕ) → IsLegalBy ts w h → IsLegalBy ts w (take k h)
+legal_take {ts = ts} w h k legal j x is =
     let here = slice_get_take k h j x is in
-    subst (λ (p : List Entry). MayFollow w p x) (sym (take-take j k h (omega (arith, here.0)))) (legal j x here.1)
+    subst (λ (p : List Entry). MayFollowBy ts w p x) (sym (take-take j k h (omega (arith, here.0)))) (legal j x here.1)
 
 pub one_more : (h : List Entry) (k : ℕ) → k < length h → (x : Entry) × (slice_get h k ≡ Some x) × (take (suc k) h ≡ take k h ++ x ∷ [])
 one_more [] k lt = absurd (omega arith)
@@ -140,7 +141,7 @@ one_more (y ∷ h) zero lt = (y, refl, refl)
 one_more (y ∷ h) (suc k) lt = let rest = one_more h k (omega arith) in (rest.0, rest.1, ap (λ (xs : List Entry). y ∷ xs) rest.2)
 
 -- what holds at the beginning, and is kept by each entry that may follow, holds of each legal history
-pub by_entries : (w : World) (P : List Entry → Type 0) → P [] → ((h : List Entry) (x : Entry) → IsLegal w h → MayFollow w h x → P h → P (h ++ x ∷ [])) → (h : List Entry) → IsLegal w h → P h
+pub by_entries : {ts : Tasks} (w : World) (P : List Entry → Type 0) → P [] → ((h : List Entry) (x : Entry) → IsLegalBy ts w h → MayFollowBy ts w h x → P h → P (h ++ x ∷ [])) → (h : List Entry) → IsLegalBy ts w h → P h
 by_entries w P none more h legal = subst P (take_all (length h) h (omega arith)) (up_to (length h) (omega arith))
   where
     up_to : (k : ℕ) → k ≤ length h → P (take k h)

@@ -9,3 +9,4 @@ pub mod StepEvents
 pub mod CallEvents
 pub mod Limits
 pub mod Callers
+pub mod Asked

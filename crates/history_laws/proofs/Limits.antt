@@ -12,12 +12,13 @@ use Rattle.net_base.specs.declared.world.World.{World}
 use Rattle.net_base.specs.ActorStep.{Step, when}
 use Rattle.net_base.specs.Actors.{Actor, has_actor}
 use Rattle.net_base.specs.Callers.{Caller, IsScript, IsCourier, IsClock, IsNobody, caller_of, caller_count, clock_number}
-use Rattle.net_base.specs.Calm.{owes, callers, most_entries, could_record, at_limit, limited}
+use Rattle.net_base.specs.Calm.{owes, callers, most_entries, could_record_by, at_limit_by, limited_by}
 use Rattle.net_base.specs.Duties.{Duty}
 use Rattle.net_base.specs.Legal.{IsLegal, MayFollow, IsAsked, Asked, Ready, Known, HasRoom, Keeps, IsFault}
 use Rattle.net_base.specs.Net.{Net, net_after, after, step_of}
 use Rattle.net_base.specs.Next.{by, next_of}
 use Rattle.net_base.specs.Stamped.{In}
+use Rattle.net_base.specs.Tasks.{Tasks}
 use Rattle.history_laws.proofs.Histories.{after_push, by_entries}
 use Rattle.history_laws.proofs.Ordered.{in_range}
 use Rattle.history_laws.proofs.Short.{few_legal}
@@ -126,28 +127,28 @@ any_found p (x ∷ xs) any = by (p x) refl any (any_found p xs)
     by true is some rest = (x, is)
     by false is some rest = rest some
 
-owing_could : (w : World) (net : Net) (k : Caller) (c : ℕ) → owes net c ≡ true → could_record w net k c ≡ true
-owing_could w net IsClock c owing = rw owing refl
-owing_could w net (IsScript s) c owing = rw owing refl
-owing_could w net (IsCourier m) c owing = rw owing refl
-owing_could w net IsNobody c owing = rw owing refl
+owing_could : (ts : Tasks) (w : World) (net : Net) (k : Caller) (c : ℕ) → owes net c ≡ true → could_record_by ts w net k c ≡ true
+owing_could ts w net IsClock c owing = rw owing refl
+owing_could ts w net (IsScript s) c owing = rw owing refl
+owing_could ts w net (IsCourier m) c owing = rw owing refl
+owing_could ts w net IsNobody c owing = rw owing refl
 
 -- a caller that has all its entries, and could record one more
-pub is_limited : (w : World) (net : Net) (c : ℕ) → c < caller_count w → length (by net.past c) ≡ most_entries → could_record w net (caller_of w c) c ≡ true → limited w net ≡ true
-is_limited w net c below all could =
-    any_in (at_limit w net) (callers w) c (in_range 0 (caller_count w) c (omega arith) (omega (arith, below)))
-    (and_from (length (by net.past c) == most_entries) (could_record w net (caller_of w c) c) (eq-eqb (length (by net.past c)) most_entries all) could)
+pub is_limited : (ts : Tasks) (w : World) (net : Net) (c : ℕ) → c < caller_count w → length (by net.past c) ≡ most_entries → could_record_by ts w net (caller_of w c) c ≡ true → limited_by ts w net ≡ true
+is_limited ts w net c below all could =
+    any_in (at_limit_by ts w net) (callers w) c (in_range 0 (caller_count w) c (omega arith) (omega (arith, below)))
+    (and_from (length (by net.past c) == most_entries) (could_record_by ts w net (caller_of w c) c) (eq-eqb (length (by net.past c)) most_entries all) could)
 
-pub owes_at_limit : (w : World) (net : Net) (c : ℕ) (d : Duty) → c < caller_count w → length (by net.past c) ≡ most_entries → In d (net.owed c) → limited w net ≡ true
-owes_at_limit w net c d below all there =
-    is_limited w net c below all (owing_could w net (caller_of w c) c (some (net.owed c) there))
+pub owes_at_limit : (ts : Tasks) (w : World) (net : Net) (c : ℕ) (d : Duty) → c < caller_count w → length (by net.past c) ≡ most_entries → In d (net.owed c) → limited_by ts w net ≡ true
+owes_at_limit ts w net c d below all there =
+    is_limited ts w net c below all (owing_could ts w net (caller_of w c) c (some (net.owed c) there))
   where
     some : (ds : List Duty) → In d ds → nat_lt 0 (length ds) ≡ true
     some [] there = absurd there
     some (e ∷ ds) there = grind (arith, nat_tests)
 
-pub limited_by : (w : World) (net : Net) → limited w net ≡ true → (c : ℕ) × (length (by net.past c) ≡ most_entries) × (could_record w net (caller_of w c) c ≡ true)
-limited_by w net is =
-    let found = any_found (at_limit w net) (callers w) is in
-    let parts = and_parts (length (by net.past found.0) == most_entries) (could_record w net (caller_of w found.0) found.0) found.1 in
+pub found_limited : (ts : Tasks) (w : World) (net : Net) → limited_by ts w net ≡ true → (c : ℕ) × (length (by net.past c) ≡ most_entries) × (could_record_by ts w net (caller_of w c) c ≡ true)
+found_limited ts w net is =
+    let found = any_found (at_limit_by ts w net) (callers w) is in
+    let parts = and_parts (length (by net.past found.0) == most_entries) (could_record_by ts w net (caller_of w found.0) found.0) found.1 in
     (found.0, eqb-true (length (by net.past found.0)) most_entries parts.0, parts.1)

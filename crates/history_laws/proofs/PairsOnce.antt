@@ -24,9 +24,10 @@ use Rattle.net_base.specs.declared.world.World.{World}
 use Rattle.net_base.specs.ActorStep.{Step, when}
 use Rattle.net_base.specs.Actors.{Actor, IsDesk, IsDir, IsConv, IsMedium, IsPlain, actor_step, step_as, has_actor}
 use Rattle.net_base.specs.Directory.{Dir, dir_step}
-use Rattle.net_base.specs.Legal.{IsLegal, MayFollow, Shows, Shown}
+use Rattle.net_base.specs.Legal.{IsLegalBy, MayFollowBy, Shows, Shown}
 use Rattle.net_base.specs.Net.{Net, after, next_net, net_of, net_after, step_of, work_of, opening_net}
 use Rattle.net_base.specs.Stamped.{In, same_actor}
+use Rattle.net_base.specs.Tasks.{Tasks}
 use Rattle.net_base.specs.Written.{Given, gives, given_in, given_from}
 use Rattle.history_laws.proofs.DirPairs.{Moves, MovesIf, dir_moves, same_number}
 use Rattle.history_laws.proofs.Histories.{after_push, by_entries, next_same, next_other, same_actor_is}
@@ -219,17 +220,17 @@ kept_step : (w : World) (net : Net) (x : Entry) (gs : List Given) (o : Option (S
 kept_step w net x gs None is shows ready kept = absurd (false≢true ready)
 kept_step w net x gs (Some s) is shows ready kept = with_gift w net x gs s (gives x.actor (work_of net x) x.reply) is (ap (λ (t : Shown). t.reply) shows) refl kept
 
-pub all_kept : (w : World) (h : List Entry) → IsLegal w h → Kept (after w h) (given_in w h)
+pub all_kept : {ts : Tasks} (w : World) (h : List Entry) → IsLegalBy ts w h → Kept (after w h) (given_in w h)
 all_kept w h legal = by_entries w (λ (p : List Entry). Kept (after w p) (given_in w p)) (record { known = λ f there. absurd there; distinct = tt }) push h legal
   where
-    push : (p : List Entry) (x : Entry) → IsLegal w p → MayFollow w p x → Kept (after w p) (given_in w p) → Kept (after w (p ++ x ∷ [])) (given_in w (p ++ x ∷ []))
+    push : {ts : Tasks} (p : List Entry) (x : Entry) → IsLegalBy ts w p → MayFollowBy ts w p x → Kept (after w p) (given_in w p) → Kept (after w (p ++ x ∷ [])) (given_in w (p ++ x ∷ []))
     push p x before may kept =
         subst (Kept (after w (p ++ x ∷ []))) (sym (given_push w (opening_net w) p x))
         (subst (λ (net : Net). Kept net (given_in w p ++ option_to_list (gives x.actor (work_of (after w p) x) x.reply))) (sym (after_push w p x))
         (kept_step w (after w p) x (given_in w p) (step_of w (after w p) x) refl may.answers may.is_ready kept))
 
 -- two gifts of one pair at one directory are one
-pub once : (w : World) (h : List Entry) → IsLegal w h → (i j : ℕ) (f g : Given) → slice_get (given_in w h) i ≡ Some f → slice_get (given_in w h) j ≡ Some g → f.to.host ≡ g.to.host → f.to.proto ≡ g.to.proto → f.pair ≡ g.pair → i ≡ j
+pub once : {ts : Tasks} (w : World) (h : List Entry) → IsLegalBy ts w h → (i j : ℕ) (f g : Given) → slice_get (given_in w h) i ≡ Some f → slice_get (given_in w h) j ≡ Some g → f.to.host ≡ g.to.host → f.to.proto ≡ g.to.proto → f.pair ≡ g.pair → i ≡ j
 once w h legal i j f g is_f is_g host proto pair =
     elim (cases_lt i j) [
       | inl before ↦ absurd (apart (given_in w h) (all_kept w h legal).distinct i j f g before is_f is_g (sym host) (sym proto) (sym pair))

@@ -5,8 +5,9 @@ use Rattle.std.proofs.lemmas.Bool.Decides.{nat_tests}
 use Rattle.net_base.specs.declared.history.Entry.{Entry}
 use Rattle.net_base.specs.declared.world.World.{World}
 use Rattle.net_base.specs.Callers.{caller_count}
-use Rattle.net_base.specs.Legal.{IsLegal, MayFollow}
+use Rattle.net_base.specs.Legal.{IsLegalBy, MayFollowBy}
 use Rattle.net_base.specs.Next.{by}
+use Rattle.net_base.specs.Tasks.{Tasks}
 use Rattle.net_base.specs.World.{IsWorld}
 use Rattle.history_laws.proofs.Histories.{by_entries}
 
@@ -76,7 +77,7 @@ pub record Few (w : World) (h : List Entry) : Type 0 where
   pub callers : Below (caller_count w) h
   pub each : (c : ℕ) → length (by h c) ≤ 131072
 
-few_more : (w : World) (h : List Entry) (x : Entry) → MayFollow w h x → Few w h → Few w (h ++ x ∷ [])
+few_more : {ts : Tasks} (w : World) (h : List Entry) (x : Entry) → MayFollowBy ts w h x → Few w h → Few w (h ++ x ∷ [])
 few_more w h x may f = record {
   callers = below-append (caller_count w) h (x ∷ []) f.callers (may.is_known.1, tt);
   each = λ c. rw (by-append c h (x ∷ [])) (next c (x.caller == c) refl);
@@ -96,10 +97,10 @@ few_callers w world =
     omega arith
 
 -- what holds of each legal history
-pub few_legal : (w : World) (h : List Entry) → IsLegal w h → Few w h
+pub few_legal : {ts : Tasks} (w : World) (h : List Entry) → IsLegalBy ts w h → Few w h
 few_legal w h legal = by_entries w (λ (k : List Entry). Few w k) (record { callers = tt; each = λ c. omega arith }) (λ k x before may f. few_more w k x may f) h legal
 
-pub legal_short : (w : World) → IsWorld w → (h : List Entry) → IsLegal w h → length h < 2 ^ 31
+pub legal_short : {ts : Tasks} (w : World) → IsWorld w → (h : List Entry) → IsLegalBy ts w h → length h < 2 ^ 31
 legal_short w world h legal =
     let few = few_legal w h legal in
     let counted = all_counted (caller_count w) h few.callers in

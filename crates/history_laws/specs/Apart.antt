@@ -7,13 +7,14 @@ use Rattle.net_base.specs.ActorStep.{Step}
 use Rattle.net_base.specs.Actors.{Actor}
 use Rattle.net_base.specs.Duties.{Duty, duties}
 use Rattle.net_base.specs.Net.{Net, opening_net, next_net, owed, step_of, with_of}
-use Rattle.net_base.specs.Next.{by, next}
+use Rattle.net_base.specs.Next.{by, next_by}
+use Rattle.net_base.specs.Tasks.{Tasks}
 
 -- after the later history the caller stands as it stood after the earlier one
 pub record StandsStill (w : World) (c : ℕ) (earlier later : List Entry) : Type 0 where
   pub recorded : by later c ≡ by earlier c
   pub owes : owed w later c ≡ owed w earlier c
-  pub comes_next : next w later c ≡ next w earlier c
+  pub comes_next : (ts : Tasks) → next_by ts w later c ≡ next_by ts w earlier c
 
 -- an entry with its stamp, its actor's step, and all actors as they stood before it
 pub record OwnStep : Type 0 where

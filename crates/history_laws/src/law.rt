@@ -4,17 +4,20 @@ ghost use mathlib.Core.List.{IsPrefix};
 ghost use Rattle.net_base.specs.declared.actor.ActorName.{ActorName};
 ghost use Rattle.net_base.specs.declared.event.Event.TheVariants as event;
 ghost use Rattle.net_base.specs.declared.history.Entry.{Entry};
+ghost use Rattle.net_base.specs.declared.world.Script.{Script};
 ghost use Rattle.net_base.specs.declared.world.World.{World};
 ghost use Rattle.net_base.specs.Actors.{opening_actor};
-ghost use Rattle.net_base.specs.Callers.{caller_count, caller_of};
-ghost use Rattle.net_base.specs.Calm.{could_record, limited, most_entries};
-ghost use Rattle.net_base.specs.Legal.{Asked, HasRoom, IsFault, IsInTime, IsLegal, IsTimed, Keeps, Known, MayFollow, Ready, Rule};
+ghost use Rattle.net_base.specs.Callers.{IsScript, caller_count, caller_of};
+ghost use Rattle.net_base.specs.Calm.{could_record_by, limited_by, most_entries};
+ghost use Rattle.net_base.specs.Legal.{Asked, HasRoom, IsFault, IsInTime, IsLegal, IsLegalBy, IsTimed, Keeps, Known, MayFollow, Ready, Rule};
 ghost use Rattle.net_base.specs.Net.{Net, after, next_net, owed, state, played, works};
 ghost use Rattle.net_base.specs.Next.{by};
 ghost use Rattle.net_base.specs.Duties.{Duty};
 ghost use Rattle.net_base.specs.Stamped.{In, of_caller, same_actor};
+ghost use Rattle.net_base.specs.Tasks.{Asking, Tasks};
 ghost use Rattle.net_base.specs.Written.{Given, given_in};
 ghost use Rattle.history_laws.specs.Apart.{StandsStill, own_steps, owed_by};
+ghost use Rattle.history_laws.specs.Asked.{AsksInOrder};
 
 /// A beginning of a legal history is legal, and of a timed one timed.
 pub fn prefix_is_legal()
@@ -71,9 +74,9 @@ pub fn callers_have_room()
 
 /// A run is limited exactly where a caller that has all its entries owes a duty or could record its next event.
 pub fn full_callers_limit()
-    ensures owes { (w : World) (net : Net) (c : ℕ) (d : Duty) → c < caller_count w → length (by net.past c) ≡ most_entries → In d (net.owed c) → limited w net ≡ true }
-    ensures could { (w : World) (net : Net) (c : ℕ) → c < caller_count w → length (by net.past c) ≡ most_entries → could_record w net (caller_of w c) c ≡ true → limited w net ≡ true }
-    ensures only { (w : World) (net : Net) → limited w net ≡ true → (c : ℕ) × (length (by net.past c) ≡ most_entries) × (could_record w net (caller_of w c) c ≡ true) }
+    ensures owes { (ts : Tasks) (w : World) (net : Net) (c : ℕ) (d : Duty) → c < caller_count w → length (by net.past c) ≡ most_entries → In d (net.owed c) → limited_by ts w net ≡ true }
+    ensures could { (ts : Tasks) (w : World) (net : Net) (c : ℕ) → c < caller_count w → length (by net.past c) ≡ most_entries → could_record_by ts w net (caller_of w c) c ≡ true → limited_by ts w net ≡ true }
+    ensures only { (ts : Tasks) (w : World) (net : Net) → limited_by ts w net ≡ true → (c : ℕ) × (length (by net.past c) ≡ most_entries) × (could_record_by ts w net (caller_of w c) c ≡ true) }
 {}
 
 /// A caller stands by itself: what it owes is the fold of its own steps, and entries of others leave it as it is.
@@ -82,4 +85,10 @@ pub fn callers_are_apart()
     ensures others { (w : World) (h more : List Entry) (c : ℕ) → by more c ≡ [] → StandsStill w c h (h ++ more) }
     ensures later { (w : World) (h l : List Entry) (c : ℕ) → IsPrefix h l → by l c ≡ by h c → StandsStill w c h l }
     ensures stamped { (h : List Entry) (c : ℕ) → by h c ≡ map (λ (y : ℕ × Entry). y.1) (of_caller c h) }
+{}
+
+/// In the place of a script a task records what it asks for, in order: each event that it owes to nobody is asked for once it was told
+/// the replies to those before it.
+pub fn tasks_ask_in_order()
+    ensures { (ts : Tasks) (w : World) (h : List Entry) (c : ℕ) (s : Script) (asks : Asking) → IsLegalBy ts w h → caller_of w c ≡ IsScript s → ts c ≡ Some asks → AsksInOrder w h c s asks }
 {}

@@ -1,6 +1,6 @@
 //! Events in words.
 ghost use Rattle.std.specs.Prelude.{◌≡◌, ◌∷◌, ◌++◌, [], OnOk};
-ghost use Rattle.net_base.specs.Transcript.{ip_or_star, number_or_star, spaced};
+ghost use Rattle.net_base.specs.Transcript.{spaced};
 ghost use Rattle.history_words.specs.HistoryWords.{announce_words, bind_words, event_words, generation, grant_words, mode_words, named, port_word};
 
 use crate::put::{
@@ -10,7 +10,7 @@ use crate::put::{
 use crate::who::put_station;
 use net_base::{Addr, Event, Mode, Octets, World};
 use std::alloc::AllocError;
-use words::{file_name, put_address};
+use words::{file_name, put_ip_or_star, put_port_or_star};
 
 /// What was asked for.
 pub fn put_event(out: &mut Octets, world: &World, event: &Event) -> Result<(), AllocError>
@@ -172,28 +172,5 @@ fn put_port(out: &mut Octets, port: Option<u16>) -> Result<(), AllocError>
     match port {
         Some(port) => put_number(out, port as u64),
         None => put_word(out, b"any"),
-    }
-}
-
-// A port, or a star for any.
-fn put_port_or_star(out: &mut Octets, port: Option<u16>) -> Result<(), AllocError>
-    ensures { OnOk result (out.new ≡ out.old ++ spaced (number_or_star port ∷ [])) }
-{
-    match port {
-        Some(port) => put_number(out, port as u64),
-        None => put_word(out, b"*"),
-    }
-}
-
-// An address, or a star for any.
-fn put_ip_or_star(out: &mut Octets, ip: Option<u32>) -> Result<(), AllocError>
-    ensures { OnOk result (out.new ≡ out.old ++ spaced (ip_or_star ip ∷ [])) }
-{
-    match ip {
-        Some(ip) => {
-            out.push(b' ')?;
-            put_address(out, ip)
-        }
-        None => put_word(out, b"*"),
     }
 }

@@ -1,30 +1,14 @@
 //! Words of a line, each with a blank before it.
 ghost use Rattle.std.specs.Prelude.{◌≡◌, ◌∷◌, ◌++◌, [], OnOk, codes};
 ghost use Rattle.net_base.specs.Numeral.{numeral};
-ghost use Rattle.net_base.specs.Transcript.{addr_word, spaced};
+ghost use Rattle.net_base.specs.Transcript.{spaced};
 ghost use Rattle.history_words.specs.HistoryWords.{beginning, generation, named, slot};
 ghost use Rattle.history_words.specs.Shown.{shown};
 
 use crate::shown::put_shown;
-use net_base::{Addr, Octets};
+use net_base::Octets;
 use std::alloc::AllocError;
-use words::{put_decimal, put_place};
-
-/// A word as it is.
-pub fn put_word(out: &mut Octets, word: &[u8]) -> Result<(), AllocError>
-    ensures { OnOk result (out.new ≡ out.old ++ spaced (word.now ∷ [])) }
-{
-    out.push(b' ')?;
-    out.append(word)
-}
-
-/// A number.
-pub fn put_number(out: &mut Octets, n: u64) -> Result<(), AllocError>
-    ensures { OnOk result (out.new ≡ out.old ++ spaced (numeral n ∷ [])) }
-{
-    out.push(b' ')?;
-    put_decimal(out, n)
-}
+pub use words::{put_addr, put_number, put_word};
 
 /// A number with its name before it.
 pub fn put_named(out: &mut Octets, label: &[u8], n: u64) -> Result<(), AllocError>
@@ -81,12 +65,4 @@ pub fn put_with_text(out: &mut Octets, word: &[u8], text: &[u8]) -> Result<(), A
     put_word(out, word)?;
     out.push(b' ')?;
     put_shown(out, text)
-}
-
-/// An address and its port.
-pub fn put_addr(out: &mut Octets, at: Addr) -> Result<(), AllocError>
-    ensures { OnOk result (out.new ≡ out.old ++ spaced (addr_word at ∷ [])) }
-{
-    out.push(b' ')?;
-    put_place(out, at)
 }

@@ -90,16 +90,20 @@ same_owes : (ds : List Duty) → nat_lt 0 (length ds) ≡ not (length ds == 0)
 same_owes [] = refl
 same_owes (d ∷ ds) = lt-ltb 0 (length (d ∷ ds)) (omega arith) ∙ sym (ap not (apart_test (length (d ∷ ds)) 0 (λ e. omega (arith, e))))
 
+-- the replies that it knows are those of the history
+pub replies_after : (w : World) (vs : List Visit) (h : List Entry) (v : Visit) → AreAfter w vs h → In v vs
+    → own_replies h v.caller ≡ own_replies (entries v.sight.seen) v.caller
+replies_after w vs h v are there =
+    ap (λ (es : List Entry). map (λ (x : Entry). x.reply) (filter (λ (x : Entry). is_none x.cites) es))
+    (same_by v.caller h (entries v.sight.seen) (are.lists v there ∙ sym (lists_are v.caller v.sight.seen)))
+
 -- as many steps of its script are answered in the history
 pub answered_in : (w : World) (vs : List Visit) (h : List Entry) (v : Visit) (n : ℕ) (s : Script) → AreAfter w vs h → In v vs → IsAnswered w v n
     → caller_of w v.caller ≡ IsScript s → n ≡ answered_by w h (v.caller, s)
 answered_in w vs h v n s are there is script =
-    let same : by h v.caller ≡ by (entries v.sight.seen) v.caller =
-    same_by v.caller h (entries v.sight.seen) (are.lists v there ∙ sym (lists_are v.caller v.sight.seen)) in
     let owing : owes (after w h) v.caller ≡ not (length v.owed == 0) =
     same_owes ((after w h).owed v.caller) ∙ ap (λ (ds : List Duty). not (length ds == 0)) (are.owes v there) in
-    let replies : own_replies h v.caller ≡ own_replies (entries v.sight.seen) v.caller =
-    ap (λ (es : List Entry). map (λ (x : Entry). x.reply) (filter (λ (x : Entry). is_none x.cites) es)) same in
+    let replies : own_replies h v.caller ≡ own_replies (entries v.sight.seen) v.caller = replies_after w vs h v are there in
     is s script ∙ (ap (λ (b : Bool). answered w (entries v.sight.seen) v.caller b s) (sym owing) ∙ by_owes replies (owes (after w h) v.caller))
   where
     by_owes : own_replies h v.caller ≡ own_replies (entries v.sight.seen) v.caller → (b : Bool) → answered w (entries v.sight.seen) v.caller b s

@@ -1,4 +1,4 @@
--- A script's own entries, and how a task goes on after a reply.
+-- A script's own entries, and what comes next in its place.
 use Rattle.std.proofs.Common.{◌≡◌, ℕ, ◌+◌, ◌==◌, Bool, true, false, List, [], ◌∷◌, ◌++◌, length, map, filter, Option, Some, None, is_none}
 use Rattle.std.proofs.Common.{is_some, nat_lt, if◌then◌else◌, refl, ap, sym, subst, ◌∙◌, arith}
 use Rattle.std.specs.Option.{option_map}
@@ -19,16 +19,11 @@ use Rattle.net_base.specs.Actors.{Actor, actor_step, opening_actor}
 use Rattle.net_base.specs.Callers.{Caller, IsScript, caller_of}
 use Rattle.net_base.specs.Net as nets
 use Rattle.net_base.specs.Net.{played, stepped_to}
-use Rattle.net_base.specs.Versions.{Tuples}
-use Rattle.net_base.specs.Next.{next, next_of, own_replies, zone_of}
+use Rattle.net_base.specs.Next.{next_by, next_of_by, own_replies, place_next, zone_of}
 use Rattle.net_base.specs.Stamped.{at, at_from, matches}
-use Rattle.net_base.specs.Scripts.{at_first, position}
-use Rattle.net_base.specs.Steps.{Ask, Play, Asks, Ends}
+use Rattle.net_base.specs.Tasks.{Tasks}
 use Rattle.locked.specs.Acts.{left_by, state, state_at}
 use Rattle.script_task.specs.Fitting.{fits}
-use Rattle.script_task.specs.Requests.{head}
-use Rattle.script_task.specs.Rest.{Continues, rest}
-use Rattle.script_task.specs.Task.{follow, fits_play}
 use Rattle.guest_laws.specs.Named.{Named, answer_in, named, named_step, opening}
 use Rattle.guest_laws.specs.Works.{entries, noted_net}
 
@@ -156,29 +151,7 @@ module _ (w : World) (a : ActorName) where
       ap (λ (n : Named). n.actor) (sym (keeps w log a) ∙ state_played (opening_actor w.timers a) (at (number.Actor a) log)) in
       fit w a ps now work t (ap (λ (s : Actor). actor_step w a s now work) (sym same) ∙ is)
 
--- A play goes on.
-
-append_one : (xs : List Reply) (r : Reply) (more : List Reply) → (xs ++ r ∷ []) ++ more ≡ xs ++ r ∷ more
-append_one [] r more = refl
-append_one (x ∷ xs) r more = ap (λ ys. x ∷ ys) (append_one xs r more)
-
-pub continues_on : (zone : Tuples) (s : Script) (rs : List Reply) (p : Play) (r : Reply) → Continues zone s rs p → Continues zone s (rs ++ r ∷ []) (follow p r)
-continues_on zone s rs p r goes =
-    record {
-      next_is = λ more. subst (λ (xs : List Reply). (position s.host s.steps (at_first zone) xs).next ≡ head (rest p (r ∷ more))) (sym (append_one rs r more))
-          (goes.next_is (r ∷ more));
-      left_is = λ more. subst (λ (xs : List Reply). nat_lt 0 (length (position s.host s.steps (at_first zone) xs).left) ≡ is_some (head (rest p (r ∷ more))))
-          (sym (append_one rs r more)) (goes.left_is (r ∷ more));
-    }
-
--- the script's next event is the play's
-pub next_head : (zone : Tuples) (s : Script) (rs : List Reply) (p : Play) → Continues zone s rs p → (position s.host s.steps (at_first zone) rs).next ≡ head p
-next_head zone s rs p goes = ap (λ (xs : List Reply). (position s.host s.steps (at_first zone) xs).next) (sym (append_nothing rs)) ∙ goes.next_is []
-
-pub script_next : (w : World) (c : ℕ) (log : List Noted) (s : Script) (p : Play) → caller_of w c ≡ IsScript s → Continues (zone_of w) s (own_replies (entries log) c) p
-    → next w (entries log) c ≡ head p
-script_next w c log s p is goes = ap (λ (k : Caller). next_of w k (entries log) c) is ∙ next_head (zone_of w) s (own_replies (entries log) c) p goes
-
-pub play_fits : (p : Play) (ask : Ask) (r : Reply) → head p ≡ Some ask → fits ask.event r ≡ true → fits_play p r ≡ true
-play_fits (Asks a e later) ask r is fit = subst (λ (x : Ask). fits x.event r ≡ true) (sym (same_Some (record { actor = a; event = e }) ask is)) fit
-play_fits (Ends names) ask r is fit = absurd (none-some ask is)
+-- what a script records next is what is recorded next in its place
+pub script_next : (ts : Tasks) (w : World) (c : ℕ) (log : List Noted) (s : Script) → caller_of w c ≡ IsScript s
+    → next_by ts w (entries log) c ≡ place_next (ts c) (zone_of w) s (own_replies (entries log) c)
+script_next ts w c log s is = ap (λ (k : Caller). next_of_by ts w k (entries log) c) is

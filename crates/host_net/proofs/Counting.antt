@@ -9,12 +9,13 @@ use Rattle.net_base.specs.declared.world.Script.{Script}
 use Rattle.net_base.specs.declared.world.World.{World}
 use Rattle.net_base.specs.Callers.{IsCourier, IsScript, caller_of}
 use Rattle.net_base.specs.Next.{finished_by, own_replies, zone_of}
+use Rattle.net_base.specs.Tasks.{Asking, Tasks}
 use Rattle.net_base.specs.Versions.{Tuples}
 use Rattle.net_base.specs.Steps.{Names, no_names}
 use Rattle.locked.specs.Acts.{made, without_copy}
-use Rattle.script_task.specs.declared.request.Request.{Request}
+use Rattle.net_base.specs.declared.request.Request.{Request}
 use Rattle.script_task.specs.Fitting.{fits}
-use Rattle.script_task.specs.Requests.{settled}
+use Rattle.net_base.specs.Requests.{settled}
 use Rattle.whole_script.specs.Wholes as whole
 use Rattle.guest_laws.specs.Works.{entries}
 use Rattle.host_net.specs.declared.player.Played.{Played}
@@ -23,7 +24,7 @@ use Rattle.host_net.specs.declared.player.Role.{Role}
 use Rattle.host_net.specs.declared.player.Role.TheVariants as role
 use Rattle.net_locks.specs.declared.turn.Turn.{Turn}
 use Rattle.net_locks.specs.declared.turn.Turn.TheVariants as turn
-use Rattle.host_net.specs.Playing.{Counts, HasRole, Heard, IsCounted, Told, before_last, replies_of}
+use Rattle.host_net.specs.Playing.{Counts, GoesOn, HasRole, Heard, IsCounted, Told, before_last, replies_of}
 use Rattle.net_guests.specs.Visits.{Asked, IsFresh, IsSame, Operated, Visit}
 use Rattle.net_locks.specs.Turns.{bare}
 use Rattle.host_net.proofs.Continuing.{FitWorks, KeepsActors, fits_there, own_reply, own_stays}
@@ -34,8 +35,8 @@ all_but_last rs r = take_at rs (r ∷ []) (length (rs ++ r ∷ []) - 1) (omega (
 
 -- One entry of a script that owed nothing.
 
-module _ (w : World) (old new : Visit) (same : IsSame old new) (h : ℕ) (q : Request) (stamp : ℕ) (r : Reply)
-    (is : Asked w h q old (turn.Recorded stamp r) new) where
+module _ (ts : Tasks) (w : World) (old new : Visit) (same : IsSame old new) (h : ℕ) (q : Request) (stamp : ℕ) (r : Reply)
+    (is : Asked ts w h q old (turn.Recorded stamp r) new) where
   -- its reply is one more
   pub one_reply_more : replies_of new ≡ replies_of old ++ r ∷ []
   one_reply_more =
@@ -99,13 +100,13 @@ module _ {T : Type 0} (Plays : Tuples → Script → List Reply → Names → T 
 
   -- The turn of a script.
 
-  module _ (asks : T → Names → Option Request) (after : T → Reply → T) (plays_on : whole.PlaysOn T asks after Plays) (old new : Visit)
+  module _ (ts : Tasks) (asks : T → Names → Option Request) (after : T → Reply → T) (plays_on : whole.PlaysOn T asks after Plays) (old new : Visit)
       (same : IsSame old new)
       (who : Role) (script : who ≡ role.Script) (has : HasRole w old.caller who) (t : T) (lost : Bool) (keeps_told : lost ≡ false) (before : ℕ)
       (is : IsCounted Plays w old t lost before) (free : old.owed ≡ []) (q : Request) (asks_it : Some q ≡ asks t old.names) (keeps : KeepsActors)
       (fit : FitWorks) where
     abbrev Operates : Turn → Type 0
-    Operates answer = (s : Script) → caller_of w old.caller ≡ IsScript s → Operated w s.host q old answer new
+    Operates answer = (s : Script) → caller_of w old.caller ≡ IsScript s → Operated ts w s.host q old answer new
 
     its_script : (s : Script) × (caller_of w old.caller ≡ IsScript s)
     its_script = subst (λ (r : Role). HasRole w old.caller r) script has
@@ -121,7 +122,7 @@ module _ {T : Type 0} (Plays : Tuples → Script → List Reply → Names → T 
           before_is = λ s now.
               counts (zone_of w) s (replies_of old) old.names (is.plays s (was s now) keeps_told)
               ∙ ap (λ (rs : List Reply). finished_by (zone_of w) rs s)
-              (sym (ap before_last (one_reply_more w old new same s.host q stamp r (does s (was s now))) ∙ all_but_last (replies_of old) r));
+              (sym (ap before_last (one_reply_more ts w old new same s.host q stamp r (does s (was s now))) ∙ all_but_last (replies_of old) r));
         }
       where
         plays_then : (p : Played) → Told after t lost r p t' lost' → (s : Script) → caller_of w new.caller ≡ IsScript s → lost' ≡ false
@@ -130,9 +131,9 @@ module _ {T : Type 0} (Plays : Tuples → Script → List Reply → Names → T 
             let asked = does s (was s now) in
             subst (λ (x : T). Plays (zone_of w) s (replies_of new) new.names x) (sym came.0)
             (subst (λ (l : Names). Plays (zone_of w) s (replies_of new) l (after t r)) (sym asked.names)
-            (subst (λ (rs : List Reply). Plays (zone_of w) s rs (settled old.names q r) (after t r)) (sym (one_reply_more w old new same s.host q stamp r asked))
+            (subst (λ (rs : List Reply). Plays (zone_of w) s rs (settled old.names q r) (after t r)) (sym (one_reply_more ts w old new same s.host q stamp r asked))
             (plays_on (zone_of w) s (replies_of old) old.names t q asked.ask r (is.plays s (was s now) keeps_told) (sym asks_it) asked.asks
-            (reply_fits w old new same s.host q stamp r asked keeps fit))))
+            (reply_fits ts w old new same s.host q stamp r asked keeps fit))))
         plays_then played.Waits came s now again = absurd came
         plays_then played.Memory came s now again = absurd (true≢false (sym came.1 ∙ again))
 
@@ -156,3 +157,12 @@ module _ {T : Type 0} (Plays : Tuples → Script → List Reply → Names → T 
         alike t' lost' before' heard.1 heard.2 counts (subst (λ (v : Visit). IsCounted Plays w v t lost before) (sym (does its_script.0 its_script.1).2) is)
     heard_counts turn.Memory does result t' lost' before' heard counts =
         alike t' lost' before' heard.1 heard.2 counts (subst (λ (v : Visit). IsCounted Plays w v t lost before) (sym (does its_script.0 its_script.1).2) is)
+
+-- A task that is played from its beginning.
+
+pub goes_fresh : {T : Type 0} (Goes : Option Asking → Tuples → Script → List Reply → Names → T → Type 0) (ts : Tasks) (w : World) (v : Visit) (t : T)
+    → IsFresh (zone_of w) v.caller v → ((s : Script) → caller_of w v.caller ≡ IsScript s → Goes (ts v.caller) (zone_of w) s [] (no_names (zone_of w)) t)
+    → (s : Script) → caller_of w v.caller ≡ IsScript s → GoesOn Goes (ts v.caller) (zone_of w) s v t
+goes_fresh Goes ts w v t fresh goes s script =
+    subst (λ (rs : List Reply). Goes (ts v.caller) (zone_of w) s rs v.names t) (sym (ap (λ (l : List Noted). own_replies (entries l) v.caller) fresh.seen))
+    (subst (λ (l : Names). Goes (ts v.caller) (zone_of w) s [] l t) (sym fresh.names) (goes s script))

@@ -1,39 +1,40 @@
--- What a script records next, by its task.
-use Rattle.std.proofs.Common.{◌≡◌, ℕ, List, [], Option, Some, None, ap, sym, subst, ◌∙◌}
-use Rattle.std.proofs.lemmas.List.{append-nil}
+-- What a script, or the task in its place, records next, by what is asked.
+use Rattle.std.proofs.Common.{◌≡◌, ℕ, List, Option, Some, None, ap, sym, subst, ◌∙◌}
 use Rattle.net_base.specs.declared.reply.Reply.{Reply}
+use Rattle.net_base.specs.declared.request.Request.{Request}
 use Rattle.net_base.specs.declared.world.Script.{Script}
 use Rattle.net_base.specs.declared.world.World.{World}
-use Rattle.net_base.specs.Callers.{Caller, IsScript, caller_of}
-use Rattle.net_base.specs.Next.{next, next_of, own_replies, zone_of}
-use Rattle.net_base.specs.Scripts.{at_first, position}
-use Rattle.net_base.specs.Steps.{Ask, Names, Play}
-use Rattle.script_task.specs.declared.request.Request.{Request}
-use Rattle.script_task.specs.Requests.{head, planned}
-use Rattle.script_task.specs.Rest.{Continues}
-use Rattle.script_task.specs.Task.{AsksSo, Heads}
+use Rattle.net_base.specs.Callers.{IsScript, caller_of}
+use Rattle.net_base.specs.Next.{next_by, own_replies, place_next, zone_of}
+use Rattle.net_base.specs.Requests.{planned}
+use Rattle.net_base.specs.Steps.{Ask, Names}
+use Rattle.net_base.specs.Tasks.{Asking, Tasks}
+use Rattle.net_base.specs.Versions.{Tuples}
+use Rattle.whole_script.specs.Wholes.{AsksThere, Comes}
 use Rattle.guest_laws.specs.Works.{entries}
 use Rattle.host_net.specs.Playing.{GoesOn}
 use Rattle.net_guests.specs.Visits.{Visit}
+use Rattle.host_net.proofs.Continuing.{script_next}
 
-next_is_head : (w : World) (v : Visit) (s : Script) (p : Play) → caller_of w v.caller ≡ IsScript s
-    → Continues (zone_of w) s (own_replies (entries v.sight.seen) v.caller) p → next w (entries v.sight.seen) v.caller ≡ head p
-next_is_head w v s p script goes =
-    ap (λ (k : Caller). next_of w k (entries v.sight.seen) v.caller) script
-    ∙ (ap (λ (rs : List Reply). (position s.host s.steps (at_first (zone_of w)) rs).next) (sym (append-nil (own_replies (entries v.sight.seen) v.caller)))
-    ∙ goes.next_is [])
+module _ {T : Type 0} (asks : T → Names → Option Request) (Goes : Option Asking → Tuples → Script → List Reply → Names → T → Type 0)
+    (asks_there : AsksThere T asks Goes) (ts : Tasks) (w : World) (v : Visit) (s : Script) (t : T) (script : caller_of w v.caller ≡ IsScript s)
+    (goes : GoesOn Goes (ts v.caller) (zone_of w) s v t) where
+  comes : Comes s.host v.names (asks t v.names) (place_next (ts v.caller) (zone_of w) s (own_replies (entries v.sight.seen) v.caller))
+  comes = asks_there (ts v.caller) (zone_of w) s (own_replies (entries v.sight.seen) v.caller) v.names t goes
 
-module _ {T : Type 0} (asks : T → Names → Option Request) (Stands : ℕ → Names → T → Play → Type 0) (so : AsksSo T asks Stands)
-    (w : World) (v : Visit) (s : Script) (t : T) (script : caller_of w v.caller ≡ IsScript s) (goes : GoesOn Stands (zone_of w) s v t) where
+  next_is : next_by ts w (entries v.sight.seen) v.caller ≡ place_next (ts v.caller) (zone_of w) s (own_replies (entries v.sight.seen) v.caller)
+  next_is = script_next ts w v.caller v.sight.seen s script
+
+  by_request : (o : Option Request) → asks t v.names ≡ o → Comes s.host v.names o (place_next (ts v.caller) (zone_of w) s (own_replies (entries v.sight.seen) v.caller))
+  by_request o is =
+      subst (λ (x : Option Request). Comes s.host v.names x (place_next (ts v.caller) (zone_of w) s (own_replies (entries v.sight.seen) v.caller))) is comes
+
   -- the task is through
-  pub nothing_next : asks t v.names ≡ None → None ≡ next w (entries v.sight.seen) v.caller
-  nothing_next none =
-      let ends : Heads s.host v.names None goes.0 = subst (λ (o : Option Request). Heads s.host v.names o goes.0) none (so s.host v.names t goes.0 goes.1) in
-      sym (next_is_head w v s goes.0 script goes.2 ∙ ap head ends)
+  pub nothing_next : asks t v.names ≡ None → None ≡ next_by ts w (entries v.sight.seen) v.caller
+  nothing_next none = sym (next_is ∙ by_request None none)
 
   -- its next request records this event
   pub something_next : (h : ℕ) (q : Request) (ask : Ask) → s.host ≡ h → asks t v.names ≡ Some q → planned h v.names q ≡ Some ask
-      → Some ask ≡ next w (entries v.sight.seen) v.caller
+      → Some ask ≡ next_by ts w (entries v.sight.seen) v.caller
   something_next h q ask home is plans =
-      let heads : Heads s.host v.names (Some q) goes.0 = subst (λ (o : Option Request). Heads s.host v.names o goes.0) is (so s.host v.names t goes.0 goes.1) in
-      sym (next_is_head w v s goes.0 script goes.2 ∙ (heads.1 ∙ (sym heads.2 ∙ (ap (λ (n : ℕ). planned n v.names q) home ∙ plans))))
+      sym (next_is ∙ (by_request (Some q) is ∙ (ap (λ (n : ℕ). planned n v.names q) home ∙ plans)))

@@ -16,13 +16,14 @@ use Rattle.net_base.specs.Actors.{actor_step}
 use Rattle.net_base.specs.Callers.{Caller, IsClock, IsCourier, IsScript, caller_of}
 use Rattle.net_base.specs.Duties.{Duty}
 use Rattle.net_base.specs.Legal.{IsAsked}
-use Rattle.net_base.specs.Next.{next, next_of, own_replies, zone_of}
+use Rattle.net_base.specs.Next.{next_by, next_of_by, own_replies, zone_of}
 use Rattle.net_base.specs.Stamped.{at}
-use Rattle.net_base.specs.Steps.{Ask, Names, Play}
+use Rattle.net_base.specs.Steps.{Ask, Names}
+use Rattle.net_base.specs.Tasks.{Asking, Tasks}
+use Rattle.net_base.specs.Versions.{Tuples}
 use Rattle.duties.specs.Queue.{work_of_duty}
 use Rattle.journal.specs.declared.tokens.Sight.{Sight}
 use Rattle.locked.specs.Acts.{made, without_copy}
-use Rattle.script_task.specs.Rest.{Continues}
 use Rattle.guest_laws.specs.Own.{AreNext, AreTimely, StandsStill}
 use Rattle.guest_laws.specs.Works.{entries, noted_net}
 use Rattle.host_net.specs.declared.player.Played.{Played}
@@ -40,37 +41,37 @@ playing v who t lost counts = record { visit = v; role = who; task = t; lost = l
 
 -- One turn, whatever is done.
 
-module _ (w : World) (a : ActorName) (work : Work) (cites : Option ℕ) (old new : Visit) (same : IsSame old new) where
+module _ (ts : Tasks) (w : World) (a : ActorName) (work : Work) (cites : Option ℕ) (old new : Visit) (same : IsSame old new) where
   abbrev AskedFor : Type 0
-  AskedFor = (o : Outcome) → IsAsked old.owed (caller_of w old.caller) (next w (entries old.sight.seen) old.caller)
+  AskedFor = (o : Outcome) → IsAsked old.owed (caller_of w old.caller) (next_by ts w (entries old.sight.seen) old.caller)
       (made a old.caller old.now work cites o).entry
 
   abbrev RecordsIt : ℕ → Reply → Type 0
-  RecordsIt stamp r = Recorded w old.caller old.now a work cites old.sight old.owed stamp r new.sight new.owed
+  RecordsIt stamp r = Recorded ts w old.caller old.now a work cites old.sight old.owed stamp r new.sight new.owed
 
-  by_stands : StandsStill w old.caller old.sight.seen new.sight.seen → IsPlayed w old → IsPlayed w new
+  by_stands : StandsStill w old.caller old.sight.seen new.sight.seen → IsPlayed ts w old → IsPlayed ts w new
   by_stands stands is =
       record {
-        nexts = subst (λ (c : ℕ). AreNext w c new.sight.seen) (sym same.caller) (stands.nexts is.nexts);
-        timely = subst (λ (c : ℕ). AreTimely w c new.sight.seen) (sym same.caller) (stands.timely is.timely);
+        nexts = subst (λ (c : ℕ). AreNext ts w c new.sight.seen) (sym same.caller) (stands.nexts ts is.nexts);
+        timely = subst (λ (c : ℕ). AreTimely ts w c new.sight.seen) (sym same.caller) (stands.timely ts is.timely);
       }
 
-  by_sight : new.sight ≡ old.sight → IsPlayed w old → IsPlayed w new
+  by_sight : new.sight ≡ old.sight → IsPlayed ts w old → IsPlayed ts w new
   by_sight sight is =
       record {
-        nexts = subst (λ (c : ℕ). AreNext w c new.sight.seen) (sym same.caller) (subst (λ (p : Sight). AreNext w old.caller p.seen) (sym sight) is.nexts);
-        timely = subst (λ (c : ℕ). AreTimely w c new.sight.seen) (sym same.caller) (subst (λ (p : Sight). AreTimely w old.caller p.seen) (sym sight) is.timely);
+        nexts = subst (λ (c : ℕ). AreNext ts w c new.sight.seen) (sym same.caller) (subst (λ (p : Sight). AreNext ts w old.caller p.seen) (sym sight) is.nexts);
+        timely = subst (λ (c : ℕ). AreTimely ts w c new.sight.seen) (sym same.caller) (subst (λ (p : Sight). AreTimely ts w old.caller p.seen) (sym sight) is.timely);
       }
 
-  pub by_record : (stamp : ℕ) (r : Reply) → RecordsIt stamp r → AskedFor → IsPlayed w old → IsPlayed w new
+  pub by_record : (stamp : ℕ) (r : Reply) → RecordsIt stamp r → AskedFor → IsPlayed ts w old → IsPlayed ts w new
   by_record stamp r rec asked is =
       record {
-        nexts = subst (λ (c : ℕ). AreNext w c new.sight.seen) (sym same.caller) (rec.nexts (asked (without_copy rec.step.outcome)) is.nexts);
-        timely = subst (λ (c : ℕ). AreTimely w c new.sight.seen) (sym same.caller) (rec.timely is.timely);
+        nexts = subst (λ (c : ℕ). AreNext ts w c new.sight.seen) (sym same.caller) (rec.nexts (asked (without_copy rec.step.outcome)) is.nexts);
+        timely = subst (λ (c : ℕ). AreTimely ts w c new.sight.seen) (sym same.caller) (rec.timely is.timely);
       }
 
   -- its own entries are still its turns
-  pub turn_played : (answer : Turn) → Takes w a work cites old answer new → AskedFor → IsPlayed w old → IsPlayed w new
+  pub turn_played : (answer : Turn) → Takes ts w a work cites old answer new → AskedFor → IsPlayed ts w old → IsPlayed ts w new
   turn_played (turn.Recorded stamp r) takes asked is = by_record stamp r takes asked is
   turn_played turn.NotReady takes asked is = by_stands takes.0.stays.stands is
   turn_played turn.Owes takes asked is = absurd takes
@@ -108,9 +109,9 @@ module _ (w : World) (a : ActorName) (work : Work) (cites : Option ℕ) (old new
     unmoved own_is owed = record { own_is = own_is; owed = owed; names = names; task = refl; lost = refl }
 
     -- what its turn came to
-    pub turn_plays : (answer : Turn) → Takes w a work cites old answer new
-        → (UnreadyNow → Stays w old.caller old.sight new.sight → new.owed ≡ old.owed → IsUnready w new new.owed)
-        → PlaysOn w (playing old who t lost counts) (played_by answer) (playing new who t lost counts)
+    pub turn_plays : (answer : Turn) → Takes ts w a work cites old answer new
+        → (UnreadyNow → Stays w old.caller old.sight new.sight → new.owed ≡ old.owed → IsUnready ts w new new.owed)
+        → PlaysOn ts w (playing old who t lost counts) (played_by answer) (playing new who t lost counts)
     turn_plays (turn.Recorded stamp r) takes unready = (more stamp r takes, refl)
     turn_plays turn.NotReady takes unready = (unmoved (own_stands takes.0) takes.1, inr (unready (unready_now takes.0) takes.0.stays takes.1))
     turn_plays turn.Owes takes unready = absurd takes
@@ -118,11 +119,11 @@ module _ (w : World) (a : ActorName) (work : Work) (cites : Option ℕ) (old new
     turn_plays turn.Memory takes unready = inl (unmoved (own_sight takes.1) takes.2)
 
 -- what comes next isn't ready
-pub unready_next : (w : World) (old new : Visit) → IsSame old new → (ask : Ask)
+pub unready_next : (ts : Tasks) (w : World) (old new : Visit) → IsSame old new → (ask : Ask)
     → actor_step w ask.actor ((noted_net w new.sight.seen).actors ask.actor) new.now (bare ask.event) ≡ None
-    → Stays w old.caller old.sight new.sight → next w (entries old.sight.seen) old.caller ≡ Some ask → IsUnready w new []
-unready_next w old new same ask unready stays is = λ other comes.
-    let found : ask ≡ other = same_Some ask other (sym is ∙ (sym stays.stands.comes_next ∙ (ap (next w (entries new.sight.seen)) (sym same.caller) ∙ comes))) in
+    → Stays w old.caller old.sight new.sight → next_by ts w (entries old.sight.seen) old.caller ≡ Some ask → IsUnready ts w new []
+unready_next ts w old new same ask unready stays is = λ other comes.
+    let found : ask ≡ other = same_Some ask other (sym is ∙ (sym (stays.stands.comes_next ts) ∙ (ap (next_by ts w (entries new.sight.seen)) (sym same.caller) ∙ comes))) in
     subst (λ (x : Ask). actor_step w x.actor ((noted_net w new.sight.seen).actors x.actor) new.now (bare x.event) ≡ None) found unready
 
 abbrev pub is_script : Caller → Bool
@@ -131,18 +132,18 @@ is_script _ = false
 
 -- A player after a turn.
 
-module _ {T : Type 0} (Stands : ℕ → Names → T → Play → Type 0) (w : World) (old new : Visit) (same : IsSame old new) where
+module _ {T : Type 0} (Goes : Option Asking → Tuples → Script → List Reply → Names → T → Type 0) (ts : Tasks) (w : World) (old new : Visit)
+    (same : IsSame old new) where
   pub goes_stay : (s : Script) (t : T) → new.names ≡ old.names → own_replies (entries new.sight.seen) old.caller
       ≡ own_replies (entries old.sight.seen) old.caller
-      → GoesOn Stands (zone_of w) s old t → GoesOn Stands (zone_of w) s new t
-  goes_stay s t names replies goes = (
-    goes.0,
-    subst (λ (l : Names). Stands s.host l t goes.0) (sym names) goes.1,
-    subst (λ (rs : List Reply). Continues (zone_of w) s rs goes.0) (sym (ap (own_replies (entries new.sight.seen)) same.caller ∙ replies)) goes.2,
-  )
+      → GoesOn Goes (ts old.caller) (zone_of w) s old t → GoesOn Goes (ts new.caller) (zone_of w) s new t
+  goes_stay s t names replies goes =
+      subst (λ (c : ℕ). Goes (ts c) (zone_of w) s (own_replies (entries new.sight.seen) c) new.names t) (sym same.caller)
+      (subst (λ (rs : List Reply). Goes (ts old.caller) (zone_of w) s rs new.names t) (sym replies)
+      (subst (λ (l : Names). Goes (ts old.caller) (zone_of w) s (own_replies (entries old.sight.seen) old.caller) l t) (sym names) goes))
 
-  pub still_player : (who : Role) (t : T) (lost : Bool) → IsPlayer Stands w old who t lost → IsPlayed w new
-      → ((s : Script) → GoesOn Stands (zone_of w) s old t → GoesOn Stands (zone_of w) s new t) → IsPlayer Stands w new who t lost
+  pub still_player : (who : Role) (t : T) (lost : Bool) → IsPlayer Goes ts w old who t lost → IsPlayed ts w new
+      → ((s : Script) → GoesOn Goes (ts old.caller) (zone_of w) s old t → GoesOn Goes (ts new.caller) (zone_of w) s new t) → IsPlayer Goes ts w new who t lost
   still_player who t lost is plays goes =
       record {
         role_is = subst (λ (c : ℕ). HasRole w c who) (sym same.caller) is.role_is;
@@ -152,8 +153,8 @@ module _ {T : Type 0} (Stands : ℕ → Names → T → Play → Type 0) (w : Wo
 
 -- The first duty.
 
-module _ (w : World) (d : Duty) (old new : Visit) (same : IsSame old new) (names : new.names ≡ old.names) where
-  pub duty_stays : (a : ActorName) (work : Work) (answer : Turn) → Takes w a work (Some d.cites) old answer new
+module _ (ts : Tasks) (w : World) (d : Duty) (old new : Visit) (same : IsSame old new) (names : new.names ≡ old.names) where
+  pub duty_stays : (a : ActorName) (work : Work) (answer : Turn) → Takes ts w a work (Some d.cites) old answer new
       → own_replies (entries new.sight.seen) old.caller ≡ own_replies (entries old.sight.seen) old.caller
   duty_stays a work (turn.Recorded stamp r) takes =
       let x = made a old.caller old.now work (Some d.cites) (without_copy takes.step.outcome) in
@@ -166,71 +167,71 @@ module _ (w : World) (d : Duty) (old new : Visit) (same : IsSame old new) (names
 
   -- what a first duty asks for
   duty_asked : (rest : List Duty) → old.owed ≡ d ∷ rest → (o : Outcome)
-      → IsAsked old.owed (caller_of w old.caller) (next w (entries old.sight.seen) old.caller)
+      → IsAsked old.owed (caller_of w old.caller) (next_by ts w (entries old.sight.seen) old.caller)
       (made d.actor old.caller old.now (work_of_duty d) (Some d.cites) o).entry
   duty_asked rest is o =
-      subst (λ (ds : List Duty). IsAsked ds (caller_of w old.caller) (next w (entries old.sight.seen) old.caller)
+      subst (λ (ds : List Duty). IsAsked ds (caller_of w old.caller) (next_by ts w (entries old.sight.seen) old.caller)
       (made d.actor old.caller old.now (work_of_duty d) (Some d.cites) o).entry)
       (sym is) refl
 
-  module _ (rest : List Duty) (is : old.owed ≡ d ∷ rest) (answer : Turn) (takes : Takes w d.actor (work_of_duty d) (Some d.cites) old answer new) where
-    pub duty_keeps : {T : Type 0} (Stands : ℕ → Names → T → Play → Type 0) (who : Role) (t : T) (lost : Bool)
-        → IsPlayer Stands w old who t lost → IsPlayer Stands w new who t lost
-    duty_keeps Stands who t lost player =
-        still_player Stands w old new same who t lost player
-        (turn_played w d.actor (work_of_duty d) (Some d.cites) old new same answer takes (duty_asked rest is) player.plays)
-        (λ (s : Script) goes. goes_stay Stands w old new same s t names (duty_stays d.actor (work_of_duty d) answer takes) goes)
+  module _ (rest : List Duty) (is : old.owed ≡ d ∷ rest) (answer : Turn) (takes : Takes ts w d.actor (work_of_duty d) (Some d.cites) old answer new) where
+    pub duty_keeps : {T : Type 0} (Goes : Option Asking → Tuples → Script → List Reply → Names → T → Type 0) (who : Role) (t : T) (lost : Bool)
+        → IsPlayer Goes ts w old who t lost → IsPlayer Goes ts w new who t lost
+    duty_keeps Goes who t lost player =
+        still_player Goes ts w old new same who t lost player
+        (turn_played ts w d.actor (work_of_duty d) (Some d.cites) old new same answer takes (duty_asked rest is) player.plays)
+        (λ (s : Script) goes. goes_stay Goes ts w old new same s t names (duty_stays d.actor (work_of_duty d) answer takes) goes)
 
     pub duty_plays : {T : Type 0} (who : Role) (t : T) (lost counts : Bool)
-        → PlaysOn w (playing old who t lost counts) (played_by answer) (playing new who t lost counts)
+        → PlaysOn ts w (playing old who t lost counts) (played_by answer) (playing new who t lost counts)
     duty_plays who t lost counts =
-        turn_plays w d.actor (work_of_duty d) (Some d.cites) old new same who t lost counts names answer takes
-        (λ unready stays owed. subst (λ (ds : List Duty). IsUnready w new ds) (sym (owed ∙ is)) unready)
+        turn_plays ts w d.actor (work_of_duty d) (Some d.cites) old new same who t lost counts names answer takes
+        (λ unready stays owed. subst (λ (ds : List Duty). IsUnready ts w new ds) (sym (owed ∙ is)) unready)
 
 -- The copy that a courier takes.
 
-module _ (w : World) (m : ℕ) (old new : Visit) (same : IsSame old new) (names : new.names ≡ old.names)
+module _ (ts : Tasks) (w : World) (m : ℕ) (old new : Visit) (same : IsSame old new) (names : new.names ≡ old.names)
     (courier : caller_of w old.caller ≡ IsCourier m) (free : old.owed ≡ [])
-    (answer : Turn) (takes : Takes w (name.Medium m) (bare event.Take) None old answer new) where
-  take_next : next w (entries old.sight.seen) old.caller ≡ Some (record { actor = name.Medium m; event = event.Take })
-  take_next = ap (λ (k : Caller). next_of w k (entries old.sight.seen) old.caller) courier
+    (answer : Turn) (takes : Takes ts w (name.Medium m) (bare event.Take) None old answer new) where
+  take_next : next_by ts w (entries old.sight.seen) old.caller ≡ Some (record { actor = name.Medium m; event = event.Take })
+  take_next = ap (λ (k : Caller). next_of_by ts w k (entries old.sight.seen) old.caller) courier
 
   take_asked : (o : Outcome)
-      → IsAsked old.owed (caller_of w old.caller) (next w (entries old.sight.seen) old.caller)
+      → IsAsked old.owed (caller_of w old.caller) (next_by ts w (entries old.sight.seen) old.caller)
       (made (name.Medium m) old.caller old.now (bare event.Take) None o).entry
   take_asked o =
-      subst (λ (ds : List Duty). IsAsked ds (caller_of w old.caller) (next w (entries old.sight.seen) old.caller)
+      subst (λ (ds : List Duty). IsAsked ds (caller_of w old.caller) (next_by ts w (entries old.sight.seen) old.caller)
       (made (name.Medium m) old.caller old.now (bare event.Take) None o).entry)
       (sym free)
-      (subst (λ (k : Caller). IsAsked [] k (next w (entries old.sight.seen) old.caller)
+      (subst (λ (k : Caller). IsAsked [] k (next_by ts w (entries old.sight.seen) old.caller)
       (made (name.Medium m) old.caller old.now (bare event.Take) None o).entry) (sym courier) take_next)
 
   no_script : (s : Script) → caller_of w old.caller ≡ IsScript s → ⊥
   no_script s is = true≢false (ap is_script (sym is ∙ courier))
 
-  pub take_keeps : {T : Type 0} (Stands : ℕ → Names → T → Play → Type 0) (who : Role) (t : T) (lost : Bool)
-      → IsPlayer Stands w old who t lost → IsPlayer Stands w new who t lost
-  take_keeps Stands who t lost player =
+  pub take_keeps : {T : Type 0} (Goes : Option Asking → Tuples → Script → List Reply → Names → T → Type 0) (who : Role) (t : T) (lost : Bool)
+      → IsPlayer Goes ts w old who t lost → IsPlayer Goes ts w new who t lost
+  take_keeps Goes who t lost player =
       record {
         role_is = subst (λ (c : ℕ). HasRole w c who) (sym same.caller) player.role_is;
-        plays = turn_played w (name.Medium m) (bare event.Take) None old new same answer takes take_asked player.plays;
+        plays = turn_played ts w (name.Medium m) (bare event.Take) None old new same answer takes take_asked player.plays;
         goes_on = λ s script told. absurd (no_script s (ap (caller_of w) (sym same.caller) ∙ script));
       }
 
   pub take_plays : {T : Type 0} (who : Role) (t : T) (lost counts : Bool)
-      → PlaysOn w (playing old who t lost counts) (played_by answer) (playing new who t lost counts)
+      → PlaysOn ts w (playing old who t lost counts) (played_by answer) (playing new who t lost counts)
   take_plays who t lost counts =
-      turn_plays w (name.Medium m) (bare event.Take) None old new same who t lost counts names answer takes
-      (λ unready stays owed. subst (λ (ds : List Duty). IsUnready w new ds) (sym (owed ∙ free))
-      (unready_next w old new same (record { actor = name.Medium m; event = event.Take }) unready stays take_next))
+      turn_plays ts w (name.Medium m) (bare event.Take) None old new same who t lost counts names answer takes
+      (λ unready stays owed. subst (λ (ds : List Duty). IsUnready ts w new ds) (sym (owed ∙ free))
+      (unready_next ts w old new same (record { actor = name.Medium m; event = event.Take }) unready stays take_next))
 
 -- The clock waits for the calm.
 
-pub clock_waits : (w : World) (v : Visit) → caller_of w v.caller ≡ IsClock → v.owed ≡ [] → IsWaiting w v
-clock_waits w v clock free =
-    let nothing : next w (entries v.sight.seen) v.caller ≡ None = ap (λ (k : Caller). next_of w k (entries v.sight.seen) v.caller) clock in
-    inr (subst (λ (ds : List Duty). IsUnready w v ds) (sym free) (λ ask comes. absurd (none-some ask (sym nothing ∙ comes))))
+pub clock_waits : (ts : Tasks) (w : World) (v : Visit) → caller_of w v.caller ≡ IsClock → v.owed ≡ [] → IsWaiting ts w v
+clock_waits ts w v clock free =
+    let nothing : next_by ts w (entries v.sight.seen) v.caller ≡ None = ap (λ (k : Caller). next_of_by ts w k (entries v.sight.seen) v.caller) clock in
+    inr (subst (λ (ds : List Duty). IsUnready ts w v ds) (sym free) (λ ask comes. absurd (none-some ask (sym nothing ∙ comes))))
 
 -- a turn that came to nothing
-pub waits_from : {T : Type 0} (w : World) (old new : Playing T) (result : Played) → PlaysOn w old result new → result ≡ played.Waits → IsWaiting w new.visit
-waits_from w old new result plays is = (subst (λ (r : Played). PlaysOn w old r new) is plays).1
+pub waits_from : {T : Type 0} (ts : Tasks) (w : World) (old new : Playing T) (result : Played) → PlaysOn ts w old result new → result ≡ played.Waits → IsWaiting ts w new.visit
+waits_from ts w old new result plays is = (subst (λ (r : Played). PlaysOn ts w old r new) is plays).1

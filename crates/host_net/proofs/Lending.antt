@@ -2,8 +2,9 @@
 use Rattle.std.proofs.Common.{◌≡◌, ℕ, suc, ◌+◌, ◌==◌, ◌⊎◌, inl, inr, List, [], ◌∷◌, length, refl, ap, sym, subst, ◌∙◌}
 use Rattle.net_base.specs.declared.noted.Noted.{Noted}
 use Rattle.net_base.specs.declared.world.World.{World}
-use Rattle.net_base.specs.Next.{next}
+use Rattle.net_base.specs.Next.{next_by}
 use Rattle.net_base.specs.Stamped.{In}
+use Rattle.net_base.specs.Tasks.{Tasks}
 use Rattle.journal.specs.declared.law.Roster.{Roster}
 use Rattle.journal.specs.declared.tokens.Sight.{Sight}
 use Rattle.due_moments.specs.Marks.{Covers}
@@ -19,9 +20,9 @@ use Rattle.host_net.specs.Groups.{Grouped}
 use Rattle.net_guests.specs.Visits.{IsWith, Visit}
 use Rattle.net_locks.specs.Turns.{own}
 
-module _ (w : World) (r : Roster) where
+module _ (ts : Tasks) (w : World) (r : Roster) where
   -- a standing holds after all that the pass has seen with which its caller is
-  pub stands_at : (v : Visit) (p : Sight) (s : Standing) → IsStanding w v s → IsWith w r v p → StandsAt w r p s
+  pub stands_at : (v : Visit) (p : Sight) (s : Standing) → IsStanding ts w v s → IsWith w r v p → StandsAt ts w r p s
   stands_at v p s stands is =
       record {
         owed = v.owed;
@@ -29,15 +30,15 @@ module _ (w : World) (r : Roster) where
         owes_is = stands.owes_is;
         full_is = stands.full_is ∙ (ap (λ (l : List (ℕ × Noted)). length l == 131072) (sym is.stays.alone)
             ∙ ap (λ (c : ℕ). length (own c p) == 131072) (sym stands.caller_is));
-        next_is = stands.next_is ∙ (sym is.stays.stands.comes_next ∙ ap (λ (c : ℕ). next w (entries p.seen) c) (sym stands.caller_is));
+        next_is = stands.next_is ∙ (sym (is.stays.stands.comes_next ts) ∙ ap (λ (c : ℕ). next_by ts w (entries p.seen) c) (sym stands.caller_is));
         given = stands.given;
-        timely = subst (λ (c : ℕ). AreTimely w c p.seen) (sym stands.caller_is) (is.stays.stands.timely stands.timely);
+        timely = subst (λ (c : ℕ). AreTimely ts w c p.seen) (sym stands.caller_is) (is.stays.stands.timely ts stands.timely);
         covers = subst (λ (c : ℕ). Covers (own c p) s.touched) (sym stands.caller_is)
             (subst (λ (l : List (ℕ × Noted)). Covers l s.touched) (sym is.stays.alone) stands.covers);
       }
 
   -- nobody is left
-  pub all_stand : (p : Sight) (ss : List Standing) → AreLent w r [] p ss → AllStand w r p ss
+  pub all_stand : (p : Sight) (ss : List Standing) → AreLent ts w r [] p ss → AllStand ts w r p ss
   all_stand p ss lent =
       record { each = λ s i. let found = lent.each s i in stands_at found.0 p s found.1 (here found.0 found.2); all = lent.all }
     where
@@ -46,8 +47,8 @@ module _ (w : World) (r : Roster) where
       here v (inr none) = absurd none
 
   -- one caller fewer is left
-  pub lent_on : (v : Visit) (vs : List Visit) (p q : Sight) (ss : List Standing) → AreLent w r (v ∷ vs) p ss
-      → ((u : Visit) → IsWith w r u p → IsWith w r u q) → IsWith w r v q → AreLent w r vs q ss
+  pub lent_on : (v : Visit) (vs : List Visit) (p q : Sight) (ss : List Standing) → AreLent ts w r (v ∷ vs) p ss
+      → ((u : Visit) → IsWith w r u p → IsWith w r u q) → IsWith w r v q → AreLent ts w r vs q ss
   lent_on v vs p q ss lent keeps mine =
       record { each = λ s i. let found = lent.each s i in (found.0, found.1, place found.0 found.2); all = lent.all }
     where
@@ -57,9 +58,9 @@ module _ (w : World) (r : Roster) where
       place u (inr (inr there)) = inr there
 
   -- at the bottom
-  pub advances_at : (old : Visit) (answer : Advance) (new : Visit) → IsOfGuests w r old.sight.seen → Decided w old answer new
-      → new.caller ≡ old.caller → new.names ≡ old.names → (AreNext w old.caller old.sight.seen → AreNext w old.caller new.sight.seen)
-      → (AreTimely w old.caller old.sight.seen → AreTimely w old.caller new.sight.seen) → Advances w r [] old answer new
+  pub advances_at : (old : Visit) (answer : Advance) (new : Visit) → IsOfGuests w r old.sight.seen → Decided ts w old answer new
+      → new.caller ≡ old.caller → new.names ≡ old.names → (AreNext ts w old.caller old.sight.seen → AreNext ts w old.caller new.sight.seen)
+      → (AreTimely ts w old.caller old.sight.seen → AreTimely ts w old.caller new.sight.seen) → Advances ts w r [] old answer new
   advances_at old answer new guests decided caller names nexts timely =
       record {
         at = old;
@@ -84,7 +85,7 @@ module _ (w : World) (r : Roster) where
       → ((u : Visit) → IsWith w r u old.sight → IsWith w r u with.sight) → IsWith w r v with.sight
       → with.caller ≡ old.caller → with.now ≡ old.now → with.owed ≡ old.owed → with.names ≡ old.names
       → new.caller ≡ had.caller → new.now ≡ had.now → new.owed ≡ had.owed → new.names ≡ had.names → new.sight.seen ≡ had.sight.seen
-      → Advances w r vs with answer had → Advances w r (v ∷ vs) old answer new
+      → Advances ts w r vs with answer had → Advances ts w r (v ∷ vs) old answer new
   advances_on v vs old with answer had new keeps mine caller now owed names caller' now' owed' names' seen a =
       record {
         at = a.at;
@@ -95,12 +96,12 @@ module _ (w : World) (r : Roster) where
         now_at = a.now_at ∙ now;
         owed_at = a.owed_at ∙ owed;
         decided = a.decided;
-        nexts = λ each. subst (λ (l : List Noted). AreNext w old.caller l) (sym seen)
-            (subst (λ (c : ℕ). AreNext w c had.sight.seen) caller
-            (a.nexts (subst (λ (c : ℕ). AreNext w c a.at.sight.seen) (sym caller) each)));
-        timely = λ each. subst (λ (l : List Noted). AreTimely w old.caller l) (sym seen)
-            (subst (λ (c : ℕ). AreTimely w c had.sight.seen) caller
-            (a.timely (subst (λ (c : ℕ). AreTimely w c a.at.sight.seen) (sym caller) each)));
+        nexts = λ each. subst (λ (l : List Noted). AreNext ts w old.caller l) (sym seen)
+            (subst (λ (c : ℕ). AreNext ts w c had.sight.seen) caller
+            (a.nexts (subst (λ (c : ℕ). AreNext ts w c a.at.sight.seen) (sym caller) each)));
+        timely = λ each. subst (λ (l : List Noted). AreTimely ts w old.caller l) (sym seen)
+            (subst (λ (c : ℕ). AreTimely ts w c had.sight.seen) caller
+            (a.timely (subst (λ (c : ℕ). AreTimely ts w c a.at.sight.seen) (sym caller) each)));
         caller_is = caller' ∙ (a.caller_is ∙ caller);
         names_are = names' ∙ (a.names_are ∙ names);
         now_is = now' ∙ a.now_is;

@@ -15,3 +15,4 @@ pub mod Seating
 pub mod Naming
 pub mod Joining
 pub mod Answered
+pub mod Parting

@@ -1,5 +1,5 @@
 -- What became of the clock, said of the histories of all callers.
-use Rattle.std.proofs.Common.{◌≡◌, ℕ, ◌+◌, ◌<◌, ◌==◌, ◌⊎◌, inl, inr, Bool, true, false, List, [], ◌∷◌, ◌++◌, drop, length, Some, None, map}
+use Rattle.std.proofs.Common.{◌≡◌, ℕ, ◌+◌, ◌<◌, ◌==◌, ◌⊎◌, inl, inr, Bool, true, false, List, [], ◌∷◌, ◌++◌, drop, length, Option, Some, None, map}
 use Rattle.std.proofs.Common.{filter, is_none, if◌then◌else◌, refl, ap, sym, subst, ◌∙◌, arith}
 use Rattle.std.proofs.lemmas.List.{append-nil, length-map}
 use Rattle.net_base.specs.declared.actor.ActorName.{ActorName}
@@ -14,14 +14,15 @@ use Rattle.net_base.specs.declared.world.World.{World}
 use Rattle.net_base.specs.Callers.{IsClock, caller_of}
 use Rattle.net_base.specs.ActorStep.{Step}
 use Rattle.net_base.specs.Actors.{Actor, actor_step}
-use Rattle.net_base.specs.Calm.{done, limited, movable, stopped, target}
+use Rattle.net_base.specs.Calm.{done_by, limited_by, movable_by, stopped_by, target_by}
 use Rattle.net_base.specs.Duties.{Duty, duties, ticks}
 use Rattle.net_base.specs.Net.{Net, after}
 use Rattle.net_base.specs.Next.{by, own_replies, zone_of}
 use Rattle.net_base.specs.Stamped.{In, at, at_from}
-use Rattle.net_base.specs.Steps.{Names, Play}
+use Rattle.net_base.specs.Steps.{Names}
+use Rattle.net_base.specs.Tasks.{Asking, Tasks}
+use Rattle.net_base.specs.Versions.{Tuples}
 use Rattle.journal.specs.declared.law.Roster.{Roster}
-use Rattle.script_task.specs.Rest.{Continues}
 use Rattle.guest_laws.specs.Own.{AreNext, AreTimely, IsLegalButScripts}
 use Rattle.guest_laws.specs.Works.{entries, noted_net}
 use Rattle.net_locks.specs.declared.clock.Advance.{Advance}
@@ -58,30 +59,29 @@ same_replies c l m same =
     ap (λ (es : List Entry). map (λ (x : Entry). x.reply) (filter (λ (x : Entry). is_none x.cites) es))
     (by_from c 0 m ∙ (ap (map (λ (y : ℕ × Noted). y.1.entry)) same ∙ sym (by_from c 0 l)))
 
-module _ {T : Type 0} (Stands : ℕ → Names → T → Play → Type 0) (w : World) where
-  pub player_stays : (old new : Visit) (who : Role) (t : T) (lost : Bool) → IsPlayer Stands w old who t lost → new.caller ≡ old.caller
-      → new.names ≡ old.names → Stays w old.caller old.sight new.sight → IsPlayer Stands w new who t lost
+module _ {T : Type 0} (Goes : Option Asking → Tuples → Script → List Reply → Names → T → Type 0) (ts : Tasks) (w : World) where
+  pub player_stays : (old new : Visit) (who : Role) (t : T) (lost : Bool) → IsPlayer Goes ts w old who t lost → new.caller ≡ old.caller
+      → new.names ≡ old.names → Stays w old.caller old.sight new.sight → IsPlayer Goes ts w new who t lost
   player_stays old new who t lost is caller names stays =
       record {
         role_is = subst (λ (c : ℕ). HasRole w c who) (sym caller) is.role_is;
         plays = record {
-          nexts = subst (λ (c : ℕ). AreNext w c new.sight.seen) (sym caller) (stays.stands.nexts is.plays.nexts);
-          timely = subst (λ (c : ℕ). AreTimely w c new.sight.seen) (sym caller) (stays.stands.timely is.plays.timely);
+          nexts = subst (λ (c : ℕ). AreNext ts w c new.sight.seen) (sym caller) (stays.stands.nexts ts is.plays.nexts);
+          timely = subst (λ (c : ℕ). AreTimely ts w c new.sight.seen) (sym caller) (stays.stands.timely ts is.plays.timely);
         };
         goes_on = λ s script told. goes_on s (is.goes_on s (ap (caller_of w) (sym caller) ∙ script) told);
       }
     where
-      goes_on : (s : Script) → GoesOn Stands (zone_of w) s old t → GoesOn Stands (zone_of w) s new t
-      goes_on s on = (
-        on.0,
-        subst (λ (l : Names). Stands s.host l t on.0) (sym names) on.1,
-        subst (λ (rs : List Reply). Continues (zone_of w) s rs on.0)
-            (sym (ap (own_replies (entries new.sight.seen)) caller ∙ same_replies old.caller old.sight.seen new.sight.seen stays.alone)) on.2,
-      )
+      goes_on : (s : Script) → GoesOn Goes (ts old.caller) (zone_of w) s old t → GoesOn Goes (ts new.caller) (zone_of w) s new t
+      goes_on s on =
+          subst (λ (c : ℕ). Goes (ts c) (zone_of w) s (own_replies (entries new.sight.seen) c) new.names t) (sym caller)
+          (subst (λ (rs : List Reply). Goes (ts old.caller) (zone_of w) s rs new.names t)
+          (sym (same_replies old.caller old.sight.seen new.sight.seen stays.alone))
+          (subst (λ (l : Names). Goes (ts old.caller) (zone_of w) s (own_replies (entries old.sight.seen) old.caller) l t) (sym names) on))
 
   -- the clock's player has no task
-  pub clock_player : (old new : Visit) (who : Role) (t : T) (lost : Bool) → IsPlayer Stands w old who t lost → new.caller ≡ old.caller
-      → caller_of w old.caller ≡ IsClock → IsPlayed w new → IsPlayer Stands w new who t lost
+  pub clock_player : (old new : Visit) (who : Role) (t : T) (lost : Bool) → IsPlayer Goes ts w old who t lost → new.caller ≡ old.caller
+      → caller_of w old.caller ≡ IsClock → IsPlayed ts w new → IsPlayer Goes ts w new who t lost
   clock_player old new who t lost is caller clock plays =
       record {
         role_is = subst (λ (c : ℕ). HasRole w c who) (sym caller) is.role_is;
@@ -90,13 +90,13 @@ module _ {T : Type 0} (Stands : ℕ → Names → T → Play → Type 0) (w : Wo
       }
 
 -- what the clock recorded came next, and in time
-pub clock_played : (w : World) (r : Roster) (vs : List Visit) (old : Visit) (answer : Advance) (new : Visit) → Advances w r vs old answer new
-    → IsWith w r old old.sight → IsPlayed w old → IsPlayed w new
-clock_played w r vs old answer new a mine is =
+pub clock_played : (ts : Tasks) (w : World) (r : Roster) (vs : List Visit) (old : Visit) (answer : Advance) (new : Visit) → Advances ts w r vs old answer new
+    → IsWith w r old old.sight → IsPlayed ts w old → IsPlayed ts w new
+clock_played ts w r vs old answer new a mine is =
     let stands = (a.gathers.kept old mine).stays.stands in
     record {
-      nexts = subst (λ (c : ℕ). AreNext w c new.sight.seen) (sym a.caller_is) (a.nexts (stands.nexts is.nexts));
-      timely = subst (λ (c : ℕ). AreTimely w c new.sight.seen) (sym a.caller_is) (a.timely (stands.timely is.timely));
+      nexts = subst (λ (c : ℕ). AreNext ts w c new.sight.seen) (sym a.caller_is) (a.nexts (stands.nexts ts is.nexts));
+      timely = subst (λ (c : ℕ). AreTimely ts w c new.sight.seen) (sym a.caller_is) (a.timely (stands.timely ts is.timely));
     }
 
 -- What the clock recorded.
@@ -140,8 +140,8 @@ same_move u v m step caller now =
     ap (λ (c : ℕ). made name.Clock c u.now (bare (event.Move m)) None (without_copy step.outcome)) caller
     ∙ ap (λ (n : ℕ). made name.Clock v.caller n (bare (event.Move m)) None (without_copy step.outcome)) now
 
-module _ {T : Type 0} (w : World) (r : Roster) (gs lent : List (Grouped T)) (p q : Playing T) (answer : Advance)
-    (a : Advances w r (visits (other_players lent)) p.visit answer q.visit)
+module _ {T : Type 0} (ts : Tasks) (w : World) (r : Roster) (gs lent : List (Grouped T)) (p q : Playing T) (answer : Advance)
+    (a : Advances ts w r (visits (other_players lent)) p.visit answer q.visit)
     (placed : (x : Playing T) → In x (all_members gs) → In x (other_players lent) ⊎ (x ≡ p)) (mine : IsWith w r p.visit p.visit.sight)
     (all : (c : ℕ) → c < r.callers → HasGuest c (visits (all_members gs)))
     (one : AreOne) (but : IsLegalButScripts w (entries a.at.sight.seen)) (net : noted_net w a.at.sight.seen ≡ after w (entries a.at.sight.seen)) where
@@ -155,12 +155,12 @@ module _ {T : Type 0} (w : World) (r : Roster) (gs lent : List (Grouped T)) (p q
       at_place x (inr e) =
           subst (λ (y : Playing T). own y.visit.caller a.at.sight ≡ own y.visit.caller y.visit.sight) (sym e) (a.gathers.kept p.visit mine).stays.alone
 
-  pub clock_told : (K : Net → Type 0) → K (noted_net w a.at.sight.seen) → AfterAll w (visits (all_members gs)) K
-  clock_told K holds = after_all w r a.at.sight a.guests one but net (visits (all_members gs)) all alone K holds
+  pub clock_told : (K : Net → Type 0) → K (noted_net w a.at.sight.seen) → AfterAll ts w (visits (all_members gs)) K
+  clock_told K holds = after_all ts w r a.at.sight a.guests one but net (visits (all_members gs)) all alone K holds
 
   -- the one history is that which the clock's guest has seen
-  history_is : (h : List Entry) → IsHistoryOf w (visits (all_members gs)) h → h ≡ entries a.at.sight.seen
-  history_is h is = one_history w r a.at.sight a.guests one but net (visits (all_members gs)) all alone h is
+  history_is : (h : List Entry) → IsHistoryOf ts w (visits (all_members gs)) h → h ≡ entries a.at.sight.seen
+  history_is h is = one_history ts w r a.at.sight a.guests one but net (visits (all_members gs)) all alone h is
 
   same_entries : own q.visit.caller q.visit.sight ≡ own p.visit.caller a.to.sight
   same_entries =
@@ -177,7 +177,7 @@ module _ {T : Type 0} (w : World) (r : Roster) (gs lent : List (Grouped T)) (p q
         now_is = a.now_is ∙ (ap (λ (v : Visit). v.now) same ∙ a.now_at);
       }
 
-  module _ (m : ℕ) (d : Moves w a.at m a.to) where
+  module _ (m : ℕ) (d : Moves ts w a.at m a.to) where
     past_is : d.entry.turn.past ≡ a.at.sight.seen
     past_is = d.entry.whole
 
@@ -193,13 +193,13 @@ module _ {T : Type 0} (w : World) (r : Roster) (gs lent : List (Grouped T)) (p q
         (ap (at (number.Caller c)) past_is ∙ stays)
         ∙ ap (λ (y : Noted). own c p.visit.sight ++ (d.entry.stamp, y) ∷ []) (same_move a.at p.visit m t.step a.caller_at a.now_at))))
 
-    stamp_is : (h : List Entry) → IsHistoryOf w (visits (all_members gs)) h → d.entry.stamp ≡ length h
+    stamp_is : (h : List Entry) → IsHistoryOf ts w (visits (all_members gs)) h → d.entry.stamp ≡ length h
     stamp_is h is =
         sym d.entry.turn.stamp_is
         ∙ (ap length past_is
         ∙ (sym (length-map a.at.sight.seen (λ (x : Noted). x.entry)) ∙ ap length (sym (history_is h is))))
 
-    stepped : AfterAll w (visits (all_members gs)) (λ (net_ : Net).
+    stepped : AfterAll ts w (visits (all_members gs)) (λ (net_ : Net).
         actor_step w name.Clock (net_.actors name.Clock) p.visit.now (bare (event.Move m)) ≡ Some d.entry.turn.step)
     stepped =
         let t = d.entry.turn in
@@ -222,13 +222,13 @@ module _ {T : Type 0} (w : World) (r : Roster) (gs lent : List (Grouped T)) (p q
         ∙ (move_owes w (noted_net w l).actors s m t.step
         ∙ ap (λ (k : List Noted). ticks w (noted_net w k).actors name.Clock s (event.Move m)) is)
 
-    owes : AfterAll w (visits (all_members gs)) (λ (net_ : Net).
+    owes : AfterAll ts w (visits (all_members gs)) (λ (net_ : Net).
         q.visit.owed ≡ ticks w net_.actors name.Clock d.entry.stamp (event.Move m))
     owes =
         clock_told (λ (net_ : Net). q.visit.owed ≡ ticks w net_.actors name.Clock d.entry.stamp (event.Move m))
         (a.owed_is ∙ (d.entry.turn.owed ∙ owed_after d.entry.turn.past past_is))
 
-    has_moved : HasMoved w (visits (all_members gs)) m p.visit q.visit
+    has_moved : HasMoved ts w (visits (all_members gs)) m p.visit q.visit
     has_moved =
         record {
           stamp = d.entry.stamp;
@@ -240,7 +240,7 @@ module _ {T : Type 0} (w : World) (r : Roster) (gs lent : List (Grouped T)) (p q
           owes = owes;
         }
 
-  records_by : (x : Advance) → Decided w a.at x a.to → ClockRecords w (visits (all_members gs)) p.visit x q.visit
+  records_by : (x : Advance) → Decided ts w a.at x a.to → ClockRecords ts w (visits (all_members gs)) p.visit x q.visit
   records_by (advance.Moved m) d = has_moved m d
   records_by advance.Done d = rested d.1
   records_by advance.Stopped d = rested d.1
@@ -249,24 +249,24 @@ module _ {T : Type 0} (w : World) (r : Roster) (gs lent : List (Grouped T)) (p q
   records_by advance.Memory d = rested d
 
   -- by the answer
-  pub clock_records : ClockRecords w (visits (all_members gs)) p.visit answer q.visit
+  pub clock_records : ClockRecords ts w (visits (all_members gs)) p.visit answer q.visit
   clock_records = records_by answer a.decided
 
 -- Its moment, where it recorded nothing.
 
-stay_by : (w : World) (all : List Visit) (old new : Visit) (answer : Advance) → ClockRecords w all old answer new → (vs us : List Visit) → In old vs
+stay_by : (ts : Tasks) (w : World) (all : List Visit) (old new : Visit) (answer : Advance) → ClockRecords ts w all old answer new → (vs us : List Visit) → In old vs
     → ((v : Visit) → In v us → v.now ≡ new.now) → StayAtOnce answer vs us
-stay_by w all old new (advance.Moved m) does vs us there now = tt
-stay_by w all old new advance.Done does vs us there now = λ m are v i. now v i ∙ (does.now_is ∙ are old there)
-stay_by w all old new advance.Stopped does vs us there now = λ m are v i. now v i ∙ (does.now_is ∙ are old there)
-stay_by w all old new (advance.NotCalm c) does vs us there now = λ m are v i. now v i ∙ (does.now_is ∙ are old there)
-stay_by w all old new advance.Limit does vs us there now = λ m are v i. now v i ∙ (does.now_is ∙ are old there)
-stay_by w all old new advance.Memory does vs us there now = λ m are v i. now v i ∙ (does.now_is ∙ are old there)
+stay_by ts w all old new (advance.Moved m) does vs us there now = tt
+stay_by ts w all old new advance.Done does vs us there now = λ m are v i. now v i ∙ (does.now_is ∙ are old there)
+stay_by ts w all old new advance.Stopped does vs us there now = λ m are v i. now v i ∙ (does.now_is ∙ are old there)
+stay_by ts w all old new (advance.NotCalm c) does vs us there now = λ m are v i. now v i ∙ (does.now_is ∙ are old there)
+stay_by ts w all old new advance.Limit does vs us there now = λ m are v i. now v i ∙ (does.now_is ∙ are old there)
+stay_by ts w all old new advance.Memory does vs us there now = λ m are v i. now v i ∙ (does.now_is ∙ are old there)
 
 -- The answer.
 
-module _ {T : Type 0} (w : World) (r : Roster) (gs lent ks new : List (Grouped T)) (p q : Playing T) (answer : Advance)
-    (a : Advances w r (visits (other_players lent)) p.visit answer q.visit) (back : GroupsAreBack w q.visit.now lent ks)
+module _ {T : Type 0} (ts : Tasks) (w : World) (r : Roster) (gs lent ks new : List (Grouped T)) (p q : Playing T) (answer : Advance)
+    (a : Advances ts w r (visits (other_players lent)) p.visit answer q.visit) (back : GroupsAreBack w q.visit.now lent ks)
     (placed : (x : Playing T) → In x (all_members gs) → In x (other_players lent) ⊎ (x ≡ p))
     (replaced : (x : Playing T) → In x (all_members new) → In x (other_players ks) ⊎ (x ≡ q)) (mine : IsWith w r p.visit p.visit.sight)
     (all : (c : ℕ) → c < r.callers → HasGuest c (visits (all_members gs))) (all_new : (c : ℕ) → c < r.callers → HasGuest c (visits (all_members new)))
@@ -286,11 +286,11 @@ module _ {T : Type 0} (w : World) (r : Roster) (gs lent ks new : List (Grouped T
           subst (λ (y : Playing T). own y.visit.caller a.at.sight ≡ own y.visit.caller y.visit.sight) (sym e)
           (ap (at (number.Caller q.visit.caller)) (sym (a.seen_is ∙ ap (λ (v : Visit). v.sight.seen) rests)))
 
-  told : (K : Net → Type 0) → K (noted_net w a.at.sight.seen) → AfterAll w (visits (all_members gs)) K
-  told K holds = clock_told w r gs lent p q answer a placed mine all one but net K holds
+  told : (K : Net → Type 0) → K (noted_net w a.at.sight.seen) → AfterAll ts w (visits (all_members gs)) K
+  told K holds = clock_told ts w r gs lent p q answer a placed mine all one but net K holds
 
-  told_new : a.to ≡ a.at → (K : Net → Type 0) → K (noted_net w a.at.sight.seen) → AfterAll w (visits (all_members new)) K
-  told_new rests K holds = after_all w r a.at.sight a.guests one but net (visits (all_members new)) all_new (alone_new rests) K holds
+  told_new : a.to ≡ a.at → (K : Net → Type 0) → K (noted_net w a.at.sight.seen) → AfterAll ts w (visits (all_members new)) K
+  told_new rests K holds = after_all ts w r a.at.sight a.guests one but net (visits (all_members new)) all_new (alone_new rests) K holds
 
   all_now : (v : Visit) → In v (visits (all_members new)) → v.now ≡ q.visit.now
   all_now v there =
@@ -301,25 +301,25 @@ module _ {T : Type 0} (w : World) (r : Roster) (gs lent ks new : List (Grouped T
       at_place x (inl i) = (all_lent w q.visit.now lent ks back x i).3
       at_place x (inr e) = ap (λ (y : Playing T). y.visit.now) e
 
-  advanced_by : (x : Advance) → Decided w a.at x a.to → Advanced w (visits (all_members gs)) x (visits (all_members new))
+  advanced_by : (x : Advance) → Decided ts w a.at x a.to → Advanced ts w (visits (all_members gs)) x (visits (all_members new))
   advanced_by (advance.Moved m) d =
       record {
-        may = told (λ (net_ : Net). movable w net_ ≡ true) d.may;
-        has_room = told (λ (net_ : Net). limited w net_ ≡ false) d.has_room;
-        target_is = told (λ (net_ : Net). m ≡ target w net_) d.target_is;
+        may = told (λ (net_ : Net). movable_by ts w net_ ≡ true) d.may;
+        has_room = told (λ (net_ : Net). limited_by ts w net_ ≡ false) d.has_room;
+        target_is = told (λ (net_ : Net). m ≡ target_by ts w net_) d.target_is;
         now_is = λ v there. all_now v there ∙ (a.now_is ∙ d.now_is);
       }
-  advanced_by advance.Done d = told_new d.1 (λ (net_ : Net). done w net_ ≡ true) d.0
-  advanced_by advance.Stopped d = told_new d.1 (λ (net_ : Net). stopped w net_ ≡ true) d.0
-  advanced_by (advance.NotCalm c) d = told_new d.1 (λ (net_ : Net). IsLeast w net_ c × (limited w net_ ≡ false)) d.0
-  advanced_by advance.Limit d = told_new d.1 (λ (net_ : Net). limited w net_ ≡ true) d.0
+  advanced_by advance.Done d = told_new d.1 (λ (net_ : Net). done_by ts w net_ ≡ true) d.0
+  advanced_by advance.Stopped d = told_new d.1 (λ (net_ : Net). stopped_by ts w net_ ≡ true) d.0
+  advanced_by (advance.NotCalm c) d = told_new d.1 (λ (net_ : Net). IsLeast ts w net_ c × (limited_by ts w net_ ≡ false)) d.0
+  advanced_by advance.Limit d = told_new d.1 (λ (net_ : Net). limited_by ts w net_ ≡ true) d.0
   advanced_by advance.Memory d = tt
 
-  pub advanced : Advanced w (visits (all_members gs)) answer (visits (all_members new))
+  pub advanced : Advanced ts w (visits (all_members gs)) answer (visits (all_members new))
   advanced = advanced_by answer a.decided
 
   -- the moment
   pub stay_at_once : In p (all_members gs) → StayAtOnce answer (visits (all_members gs)) (visits (all_members new))
   stay_at_once there =
-      stay_by w (visits (all_members gs)) p.visit q.visit answer (clock_records w r gs lent p q answer a placed mine all one but net)
+      stay_by ts w (visits (all_members gs)) p.visit q.visit answer (clock_records ts w r gs lent p q answer a placed mine all one but net)
       (visits (all_members gs)) (visits (all_members new)) (visit_in p (all_members gs) there) all_now

@@ -2,6 +2,7 @@
 use Rattle.std.proofs.Common.{◌≡◌, ℕ, ◌==◌, Bool, false, List, [], ◌∷◌, ◌++◌, refl, ap, sym, subst, ◌∙◌, arith}
 use Rattle.std.proofs.lemmas.Bool.Decides.{nat_tests}
 use Rattle.net_base.specs.declared.world.World.{World}
+use Rattle.net_base.specs.Tasks.{Tasks}
 use Rattle.journal.specs.declared.law.Roster.{Roster}
 use Rattle.journal.specs.declared.tokens.Sight.{Sight}
 use Rattle.net_locks.specs.declared.clock.Advance.{Advance}
@@ -26,11 +27,11 @@ OthersStay w r cs p p' = (v : Visit) → NotIn v.caller cs → IsWith w r v p �
 
 -- One level of the recursion: `me` and `clock` are the guests of the first player and of the clock as they are seen inside,
 -- and `with` is the clock's with one number more.
-module _ {T : Type 0} (w : World) (r : Roster) (who : Role) (task : T) (lost counts : Bool) (me clock now_clock : Visit)
+module _ {T : Type 0} (ts : Tasks) (w : World) (r : Roster) (who : Role) (task : T) (lost counts : Bool) (me clock now_clock : Visit)
     (one : Playing T) (others ps : List (Playing T)) (gs : List (Grouped T))
     (is_one : player me who task lost counts ≡ one) (parts : ps ≡ one ∷ others) (is_clock : clock ≡ now_clock) (ss : List Standing)
     (apart : Apart (now_clock.caller ∷ callers_of (ps ++ other_players gs)))
-    (lent : AreLent w r (visits (ps ++ other_players gs)) now_clock.sight ss)
+    (lent : AreLent ts w r (visits (ps ++ other_players gs)) now_clock.sight ss)
     (with : Visit) (with_is : with ≡ with_sight clock with.sight) (lent_one : IsWith w r me with.sight)
     (had_still : (v : Visit) → IsWith w r v clock.sight → IsWith w r v with.sight) where
   abbrev left : List (Playing T)
@@ -44,10 +45,10 @@ module _ {T : Type 0} (w : World) (r : Roster) (who : Role) (task : T) (lost cou
       subst (λ (v : Visit). Apart (v.caller ∷ me.caller ∷ callers_of left)) (sym is_clock)
       (subst (λ (l : List (Playing T)). Apart (now_clock.caller ∷ callers_of l)) lists apart)
 
-  lent_here : AreLent w r (me ∷ visits left) clock.sight ss
+  lent_here : AreLent ts w r (me ∷ visits left) clock.sight ss
   lent_here =
-      subst (λ (v : Visit). AreLent w r (me ∷ visits left) v.sight ss) (sym is_clock)
-      (subst (λ (l : List (Playing T)). AreLent w r (visits l) now_clock.sight ss) lists lent)
+      subst (λ (v : Visit). AreLent ts w r (me ∷ visits left) v.sight ss) (sym is_clock)
+      (subst (λ (l : List (Playing T)). AreLent ts w r (visits l) now_clock.sight ss) lists lent)
 
   with_caller : with.caller ≡ clock.caller
   with_caller = ap (λ (v : Visit). v.caller) with_is
@@ -56,12 +57,12 @@ module _ {T : Type 0} (w : World) (r : Roster) (who : Role) (task : T) (lost cou
   next_apart =
       subst (λ (c : ℕ). Apart (c ∷ callers_of left)) (sym with_caller) (apart_here.0.1, apart_here.1.1)
 
-  pub next_lent : AreLent w r (visits left) with.sight ss
-  next_lent = lent_on w r me (visits left) clock.sight with.sight ss lent_here had_still lent_one
+  pub next_lent : AreLent ts w r (visits left) with.sight ss
+  next_lent = lent_on ts w r me (visits left) clock.sight with.sight ss lent_here had_still lent_one
 
   -- `had` is the clock's guest after the others, and `had_now` as it was left
   module _ (had had_now : Visit) (is_had : had ≡ had_now) (answer : Advance)
-      (stay : OthersStay w r (with.caller ∷ callers_of left) with.sight had_now.sight) (advances : Advances w r (visits left) with answer had_now)
+      (stay : OthersStay w r (with.caller ∷ callers_of left) with.sight had_now.sight) (advances : Advances ts w r (visits left) with answer had_now)
     where
       stay_here : OthersStay w r (clock.caller ∷ callers_of left) with.sight had.sight
       stay_here =
@@ -92,15 +93,15 @@ module _ {T : Type 0} (w : World) (r : Roster) (who : Role) (task : T) (lost cou
             subst (λ (l : List (Playing T)). OthersStay w r (now_clock.caller ∷ callers_of l) now_clock.sight last.sight) (sym lists)
             (subst (λ (v : Visit). OthersStay w r (v.caller ∷ me.caller ∷ callers_of left) v.sight last.sight) is_clock all_stay)
 
-        pub advances_here : Advances w r (visits (ps ++ other_players gs)) now_clock answer last
+        pub advances_here : Advances ts w r (visits (ps ++ other_players gs)) now_clock answer last
         advances_here =
-            subst (λ (l : List (Playing T)). Advances w r (visits l) now_clock answer last) (sym lists)
-            (subst (λ (v : Visit). Advances w r (me ∷ visits left) v answer last) is_clock
-            (advances_on w r me (visits left) clock with answer had last had_still lent_one
+            subst (λ (l : List (Playing T)). Advances ts w r (visits l) now_clock answer last) (sym lists)
+            (subst (λ (v : Visit). Advances ts w r (me ∷ visits left) v answer last) is_clock
+            (advances_on ts w r me (visits left) clock with answer had last had_still lent_one
             with_caller (ap (λ (v : Visit). v.now) with_is) (ap (λ (v : Visit). v.owed) with_is) (ap (λ (v : Visit). v.names) with_is)
             (ap (λ (v : Visit). v.caller) last_is) (ap (λ (v : Visit). v.now) last_is) (ap (λ (v : Visit). v.owed) last_is)
             (ap (λ (v : Visit). v.names) last_is) seen
-            (subst (λ (v : Visit). Advances w r (visits left) with answer v) (sym is_had) advances)))
+            (subst (λ (v : Visit). Advances ts w r (visits left) with answer v) (sym is_had) advances)))
 
         pub mine_caller : mine.caller ≡ me.caller
         mine_caller = back.caller ∙ ap (λ (v : Visit). v.caller) away_is

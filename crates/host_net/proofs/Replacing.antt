@@ -12,6 +12,7 @@ use Rattle.guest_laws.specs.Works.{entries, noted_net}
 use Rattle.net_locks.specs.declared.clock.Advance.{Advance}
 use Rattle.net_locks.specs.declared.clock.Standing.{Standing}
 use Rattle.net_base.specs.declared.noted.Noted.{Noted}
+use Rattle.net_base.specs.Tasks.{Tasks}
 use Rattle.host_net.proofs.Histories.{AreOne}
 use Rattle.host_net.proofs.Outcomes.{advanced, clock_records, stay_at_once}
 use Rattle.host_net.proofs.Standings.{all_clocks, clock_apart, clock_seated, has_guest, lent_first}
@@ -34,7 +35,7 @@ ButScripts w r = (log : List Noted) → IsOfGuests w r log → IsLegalButScripts
 abbrev pub SameNets : World → Roster → Type 0
 SameNets w r = (log : List Noted) → IsOfGuests w r log → noted_net w log ≡ after w (entries log)
 
-module _ {T : Type 0} (w : World) (r : Roster) (gs lent : List (Grouped T)) (place : ℕ) (p : Playing T) (taken : IsTaken gs p place lent)
+module _ {T : Type 0} (ts : Tasks) (w : World) (r : Roster) (gs lent : List (Grouped T)) (place : ℕ) (p : Playing T) (taken : IsTaken gs p place lent)
     (dealt : IsDealt w r.callers (all_seats gs)) where
   pub is_clock : caller_of w (caller p) ≡ IsClock
   is_clock = clock_seated w gs place taken.group p dealt.seated taken.there taken.clock_is
@@ -58,9 +59,9 @@ module _ {T : Type 0} (w : World) (r : Roster) (gs lent : List (Grouped T)) (pla
   placed x i =
       subst (λ (l : List (Playing T)). In x l ⊎ (x ≡ p)) (sym same_others) (all_placed gs place taken.group p x taken.there taken.clock_is none_set i)
 
-  pub all_lent_first : (ss : List Standing) → AreStandings w (visits (all_members gs)) ss → IsWith w r p.visit p.visit.sight
-      → AreLent w r (visits (other_players lent)) p.visit.sight ss
-  all_lent_first ss are mine = lent_first w r gs (other_players lent) p ss are placed mine (has_guest r.callers gs dealt.callers)
+  pub all_lent_first : (ss : List Standing) → AreStandings ts w (visits (all_members gs)) ss → IsWith w r p.visit p.visit.sight
+      → AreLent ts w r (visits (other_players lent)) p.visit.sight ss
+  all_lent_first ss are mine = lent_first ts w r gs (other_players lent) p ss are placed mine (has_guest r.callers gs dealt.callers)
 
   -- the clock's player is `q` then, and stands in its group again
   module _ (q : Playing T) (ks : List (Grouped T)) (back : GroupsAreBack w q.visit.now lent ks) where
@@ -72,11 +73,11 @@ module _ {T : Type 0} (w : World) (r : Roster) (gs lent : List (Grouped T)) (pla
     pub place_within : place < length ks
     place_within = slice_get_within ks place there_back.0 there_back.1
 
-    module _ (answer : Advance) (advances : Advances w r (visits (other_players lent)) p.visit answer q.visit) (mine : IsWith w r p.visit p.visit.sight)
+    module _ (answer : Advance) (advances : Advances ts w r (visits (other_players lent)) p.visit answer q.visit) (mine : IsWith w r p.visit p.visit.sight)
         (one : AreOne) (but : ButScripts w r) (net : SameNets w r) (role : q.role ≡ p.role) (task : q.task ≡ p.task) (lost : q.lost ≡ p.lost)
         (counts : q.counts ≡ p.counts)
         (new : List (Grouped T)) (is : (k : Grouped T) → slice_get ks place ≡ Some k → new ≡ slice_set ks place (filled k q)) where
-      clock : IsClockKept w (visits (all_members gs)) answer p q
+      clock : IsClockKept ts w (visits (all_members gs)) answer p q
       clock =
           record {
             caller_is = advances.caller_is;
@@ -85,21 +86,21 @@ module _ {T : Type 0} (w : World) (r : Roster) (gs lent : List (Grouped T)) (pla
             task_is = task;
             lost_is = lost;
             counts_is = counts;
-            records = clock_records w r gs lent p q answer advances placed mine (has_guest r.callers gs dealt.callers) one
+            records = clock_records ts w r gs lent p q answer advances placed mine (has_guest r.callers gs dealt.callers) one
                 (but advances.at.sight.seen advances.guests) (net advances.at.sight.seen advances.guests);
           }
 
       put_is : new ≡ slice_set ks place (filled there_back.0 q)
       put_is = is there_back.0 there_back.1
 
-      pub all_kept : GroupsAreKept w gs answer new
+      pub all_kept : GroupsAreKept ts w gs answer new
       all_kept =
-          subst (λ (l : List (Grouped T)). GroupsAreKept w gs answer l) (sym put_is)
-          (filled_kept w (visits (all_members gs)) answer q.visit.now gs ks place taken.group there_back.0 p q taken.there taken.clock_is there_back.1 clock
+          subst (λ (l : List (Grouped T)). GroupsAreKept ts w gs answer l) (sym put_is)
+          (filled_kept ts w (visits (all_members gs)) answer q.visit.now gs ks place taken.group there_back.0 p q taken.there taken.clock_is there_back.1 clock
           (subst (λ (l : List (Grouped T)). GroupsAreBack w q.visit.now l ks) taken.new_is back) none_set)
 
       pub all_seated : all_seats new ≡ all_seats gs
-      all_seated = seats_kept w (visits (all_members gs)) answer gs new all_kept
+      all_seated = seats_kept ts w (visits (all_members gs)) answer gs new all_kept
 
       replaced : (x : Playing T) → In x (all_members new) → In x (other_players ks) ⊎ (x ≡ q)
       replaced x i =
@@ -113,14 +114,14 @@ module _ {T : Type 0} (w : World) (r : Roster) (gs lent : List (Grouped T)) (pla
           has_guest r.callers new
           (subst (λ (l : List _). AreUpTo r.callers (all_callers l)) (sym all_seated) dealt.callers)
 
-      pub all_advanced : Advanced w (visits (all_members gs)) answer (visits (all_members new))
+      pub all_advanced : Advanced ts w (visits (all_members gs)) answer (visits (all_members new))
       all_advanced =
-          advanced w r gs lent ks new p q answer advances back placed replaced mine (has_guest r.callers gs dealt.callers) all_again one
+          advanced ts w r gs lent ks new p q answer advances back placed replaced mine (has_guest r.callers gs dealt.callers) all_again one
           (but advances.at.sight.seen advances.guests) (net advances.at.sight.seen advances.guests)
 
       -- the moment
       pub all_at_once : StayAtOnce answer (visits (all_members gs)) (visits (all_members new))
       all_at_once =
-          stay_at_once w r gs lent ks new p q answer advances back placed replaced mine (has_guest r.callers gs dealt.callers) all_again one
+          stay_at_once ts w r gs lent ks new p q answer advances back placed replaced mine (has_guest r.callers gs dealt.callers) all_again one
           (but advances.at.sight.seen advances.guests) (net advances.at.sight.seen advances.guests)
           (clock_among gs place taken.group p taken.there taken.clock_is)

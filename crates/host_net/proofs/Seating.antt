@@ -12,6 +12,7 @@ use Rattle.std.proofs.lemmas.Option.{none-some, same_Some}
 use Rattle.net_base.specs.declared.world.World.{World}
 use Rattle.net_base.specs.Callers.{Caller, IsClock, caller_of}
 use Rattle.net_base.specs.Stamped.{In}
+use Rattle.net_base.specs.Tasks.{Tasks}
 use Rattle.host_net.specs.declared.player.Role.{Role}
 use Rattle.host_net.specs.declared.player.Role.TheVariants as role
 use Rattle.host_net.specs.Groups.{Apart, AreUpTo, AreWaiting, Follows, Grouped, Inserts, IsDealt, IsSeated, NotIn, Seats, all_callers, all_members}
@@ -428,21 +429,21 @@ not_either : (a b : Bool) → (a || b) ≡ false → (a ≡ false) × (b ≡ fal
 not_either true b is = absurd (true≢false is)
 not_either false b is = (refl, is)
 
-module _ {T : Type 0} (w : World) where
-  pub waiting_parts : (xs ys : List (Playing T)) → AreWaiting w xs → AreWaiting w ys → AreWaiting w (xs ++ ys)
+module _ {T : Type 0} (ts : Tasks) (w : World) where
+  pub waiting_parts : (xs ys : List (Playing T)) → AreWaiting ts w xs → AreWaiting ts w ys → AreWaiting ts w (xs ++ ys)
   waiting_parts xs ys first second p there = which (in_parts p xs ys there)
     where
-      which : In p xs ⊎ In p ys → IsWaiting w p.visit
+      which : In p xs ⊎ In p ys → IsWaiting ts w p.visit
       which (inl one) = first p one
       which (inr other) = second p other
 
-  pub waiting_members : (ps : List (Playing T)) (o : Option (Playing T)) → AreWaiting w ps → IfSome o (λ (p : Playing T). IsWaiting w p.visit)
-      → AreWaiting w (with_last ps o)
+  pub waiting_members : (ps : List (Playing T)) (o : Option (Playing T)) → AreWaiting ts w ps → IfSome o (λ (p : Playing T). IsWaiting ts w p.visit)
+      → AreWaiting ts w (with_last ps o)
   waiting_members ps None others clock = others
   waiting_members ps (Some q) others clock = waiting_parts ps (q ∷ []) others one
     where
-      one : AreWaiting w (q ∷ [])
-      one p (inl same) = subst (λ (x : Playing T). IsWaiting w x.visit) (sym same) clock
+      one : AreWaiting ts w (q ∷ [])
+      one p (inl same) = subst (λ (x : Playing T). IsWaiting ts w x.visit) (sym same) clock
       one p (inr none) = absurd none
 
   take_set : (ps : List (Playing T)) (i : ℕ) (q : Playing T) → i < length ps → take (suc i) (slice_set ps i q) ≡ take i ps ++ q ∷ []
@@ -451,11 +452,11 @@ module _ {T : Type 0} (w : World) where
   take_set (p ∷ ps) (suc i) q lt = ap (λ (l : List (Playing T)). p ∷ l) (take_set ps i q (omega (arith, lt)))
 
   -- one more of them waits
-  pub waiting_more : (ps : List (Playing T)) (i : ℕ) (q : Playing T) → i < length ps → AreWaiting w (take i ps) → IsWaiting w q.visit
-      → AreWaiting w (take (i + 1) (slice_set ps i q))
+  pub waiting_more : (ps : List (Playing T)) (i : ℕ) (q : Playing T) → i < length ps → AreWaiting ts w (take i ps) → IsWaiting ts w q.visit
+      → AreWaiting ts w (take (i + 1) (slice_set ps i q))
   waiting_more ps i q lt are is =
-      subst (λ (k : ℕ). AreWaiting w (take k (slice_set ps i q))) {x = suc i} (omega arith)
-      (subst (λ (l : List (Playing T)). AreWaiting w l) (sym (take_set ps i q lt)) (waiting_members (take i ps) (Some q) are is))
+      subst (λ (k : ℕ). AreWaiting ts w (take k (slice_set ps i q))) {x = suc i} (omega arith)
+      (subst (λ (l : List (Playing T)). AreWaiting ts w l) (sym (take_set ps i q lt)) (waiting_members (take i ps) (Some q) are is))
 
   take_whole : (ps : List (Playing T)) (n : ℕ) → length ps ≤ n → take n ps ≡ ps
   take_whole [] zero le = refl
@@ -463,8 +464,8 @@ module _ {T : Type 0} (w : World) where
   take_whole (p ∷ ps) zero le = absurd (omega (arith, le))
   take_whole (p ∷ ps) (suc n) le = ap (λ (l : List (Playing T)). p ∷ l) (take_whole ps n (omega (arith, le)))
 
-  pub all_waiting : (ps : List (Playing T)) (n : ℕ) → length ps ≤ n → AreWaiting w (take n ps) → AreWaiting w ps
-  all_waiting ps n le are = subst (λ (l : List (Playing T)). AreWaiting w l) (take_whole ps n le) are
+  pub all_waiting : (ps : List (Playing T)) (n : ℕ) → length ps ≤ n → AreWaiting ts w (take n ps) → AreWaiting ts w ps
+  all_waiting ps n le are = subst (λ (l : List (Playing T)). AreWaiting ts w l) (take_whole ps n le) are
 
 -- Guests of all callers.
 
@@ -522,10 +523,10 @@ module _ {T : Type 0} where
       ∙ so_far))
 
 -- each of these guests was played, and one more
-pub plays_more : (w : World) (vs : List Visit) (v : Visit) → ArePlayed w vs → IsPlayed w v → ArePlayed w (vs ++ v ∷ [])
-plays_more w vs v are is u there = which (in_parts u vs (v ∷ []) there)
+pub plays_more : (ts : Tasks) (w : World) (vs : List Visit) (v : Visit) → ArePlayed ts w vs → IsPlayed ts w v → ArePlayed ts w (vs ++ v ∷ [])
+plays_more ts w vs v are is u there = which (in_parts u vs (v ∷ []) there)
   where
-    which : In u vs ⊎ In u (v ∷ []) → IsPlayed w u
+    which : In u vs ⊎ In u (v ∷ []) → IsPlayed ts w u
     which (inl first) = are u first
-    which (inr (inl same)) = subst (λ (x : Visit). IsPlayed w x) (sym same) is
+    which (inr (inl same)) = subst (λ (x : Visit). IsPlayed ts w x) (sym same) is
     which (inr (inr none)) = absurd none

@@ -11,6 +11,7 @@ use Rattle.net_base.specs.declared.world.Script.{Script}
 use Rattle.net_base.specs.declared.world.World.{World}
 use Rattle.net_base.specs.Callers.{Caller, IsScript, IsCourier, IsClock, IsNobody, caller_of, clock_number, first_courier, other_caller}
 use Rattle.net_base.specs.Stamped.{In}
+use Rattle.net_base.specs.Tasks.{Tasks}
 use Rattle.journal.specs.declared.law.Roster.{Roster}
 use Rattle.net_locks.specs.declared.clock.Standing.{Standing}
 use Rattle.net_guests.proofs.Handing.{apart_test}
@@ -46,62 +47,62 @@ no_script w c s clock script = subst ClockOnly (sym clock ∙ script) tt
 
 -- Standings in the order of their callers.
 
-pub standings_more : (w : World) (us vs : List Visit) (ss ts : List Standing) → AreStandings w us ss → AreStandings w vs ts
-    → AreStandings w (us ++ vs) (ss ++ ts)
-standings_more w [] vs [] ts one two = two
-standings_more w [] vs (s ∷ ss) ts one two = absurd one
-standings_more w (u ∷ us) vs [] ts one two = absurd one
-standings_more w (u ∷ us) vs (s ∷ ss) ts one two = (one.0, standings_more w us vs ss ts one.1 two)
+pub standings_more : (ts : Tasks) (w : World) (us vs : List Visit) (ss rest : List Standing) → AreStandings ts w us ss → AreStandings ts w vs rest
+    → AreStandings ts w (us ++ vs) (ss ++ rest)
+standings_more ts w [] vs [] rest one two = two
+standings_more ts w [] vs (s ∷ ss) rest one two = absurd one
+standings_more ts w (u ∷ us) vs [] rest one two = absurd one
+standings_more ts w (u ∷ us) vs (s ∷ ss) rest one two = (one.0, standings_more ts w us vs ss rest one.1 two)
 
-pub adds_none : (w : World) (ss : List Standing) → Adds w [] ss ss
-adds_none w ss = record { added = []; behind = sym (append-nil ss); standings = tt }
+pub adds_none : (ts : Tasks) (w : World) (ss : List Standing) → Adds ts w [] ss ss
+adds_none ts w ss = record { added = []; behind = sym (append-nil ss); standings = tt }
 
-pub adds_on : (w : World) (us vs : List Visit) (old mid new : List Standing) → Adds w us old mid → Adds w vs mid new → Adds w (us ++ vs) old new
-adds_on w us vs old mid new one two =
+pub adds_on : (ts : Tasks) (w : World) (us vs : List Visit) (old mid new : List Standing) → Adds ts w us old mid → Adds ts w vs mid new → Adds ts w (us ++ vs) old new
+adds_on ts w us vs old mid new one two =
     record {
       added = one.added ++ two.added;
       behind = two.behind ∙ (ap (λ (l : List Standing). l ++ two.added) one.behind ∙ append_assoc old one.added two.added);
-      standings = standings_more w us vs one.added two.added one.standings two.standings;
+      standings = standings_more ts w us vs one.added two.added one.standings two.standings;
     }
 
-pub adds_one : (w : World) (v : Visit) (s : Standing) (old new : List Standing) → IsStanding w v s → new ≡ old ++ s ∷ [] → Adds w (v ∷ []) old new
-adds_one w v s old new is behind = record { added = s ∷ []; behind = behind; standings = (is, tt) }
+pub adds_one : (ts : Tasks) (w : World) (v : Visit) (s : Standing) (old new : List Standing) → IsStanding ts w v s → new ≡ old ++ s ∷ [] → Adds ts w (v ∷ []) old new
+adds_one ts w v s old new is behind = record { added = s ∷ []; behind = behind; standings = (is, tt) }
 
-standing_in : (w : World) (vs : List Visit) (ss : List Standing) → AreStandings w vs ss → (s : Standing) → In s ss
-    → (v : Visit) × In v vs × IsStanding w v s
-standing_in w [] [] are s there = absurd there
-standing_in w [] (t ∷ ss) are s there = absurd are
-standing_in w (v ∷ vs) [] are s there = absurd are
-standing_in w (v ∷ vs) (t ∷ ss) are s (inl is) = (v, inl refl, subst (λ (x : Standing). IsStanding w v x) (sym is) are.0)
-standing_in w (v ∷ vs) (t ∷ ss) are s (inr there) = let found = standing_in w vs ss are.1 s there in (found.0, inr found.1, found.2)
+standing_in : (ts : Tasks) (w : World) (vs : List Visit) (ss : List Standing) → AreStandings ts w vs ss → (s : Standing) → In s ss
+    → (v : Visit) × In v vs × IsStanding ts w v s
+standing_in ts w [] [] are s there = absurd there
+standing_in ts w [] (t ∷ ss) are s there = absurd are
+standing_in ts w (v ∷ vs) [] are s there = absurd are
+standing_in ts w (v ∷ vs) (t ∷ ss) are s (inl is) = (v, inl refl, subst (λ (x : Standing). IsStanding ts w v x) (sym is) are.0)
+standing_in ts w (v ∷ vs) (t ∷ ss) are s (inr there) = let found = standing_in ts w vs ss are.1 s there in (found.0, inr found.1, found.2)
 
-standing_for : (w : World) (vs : List Visit) (ss : List Standing) → AreStandings w vs ss → (v : Visit) → In v vs
-    → (s : Standing) × In s ss × IsStanding w v s
-standing_for w [] [] are v there = absurd there
-standing_for w [] (t ∷ ss) are v there = absurd are
-standing_for w (x ∷ vs) [] are v there = absurd are
-standing_for w (x ∷ vs) (t ∷ ss) are v (inl is) = (t, inl refl, subst (λ (y : Visit). IsStanding w y t) (sym is) are.0)
-standing_for w (x ∷ vs) (t ∷ ss) are v (inr there) = let found = standing_for w vs ss are.1 v there in (found.0, inr found.1, found.2)
+standing_for : (ts : Tasks) (w : World) (vs : List Visit) (ss : List Standing) → AreStandings ts w vs ss → (v : Visit) → In v vs
+    → (s : Standing) × In s ss × IsStanding ts w v s
+standing_for ts w [] [] are v there = absurd there
+standing_for ts w [] (t ∷ ss) are v there = absurd are
+standing_for ts w (x ∷ vs) [] are v there = absurd are
+standing_for ts w (x ∷ vs) (t ∷ ss) are v (inl is) = (t, inl refl, subst (λ (y : Visit). IsStanding ts w y t) (sym is) are.0)
+standing_for ts w (x ∷ vs) (t ∷ ss) are v (inr there) = let found = standing_for ts w vs ss are.1 v there in (found.0, inr found.1, found.2)
 
 -- The standings of players, one more at a time.
-module _ {T : Type 0} (w : World) where
+module _ {T : Type 0} (ts : Tasks) (w : World) where
   pub adds_player : (ps : List (Playing T)) (i : ℕ) (p : Playing T) (old mid new : List Standing) (s : Standing) → i < length ps → p ≡ get_or ps i p
-      → Adds w (visits (take i ps)) old mid → IsStanding w p.visit s → new ≡ mid ++ s ∷ [] → Adds w (visits (take (i + 1) ps)) old new
+      → Adds ts w (visits (take i ps)) old mid → IsStanding ts w p.visit s → new ≡ mid ++ s ∷ [] → Adds ts w (visits (take (i + 1) ps)) old new
   adds_player ps i p old mid new s lt is adds stands push =
-      subst (λ (l : List (Playing T)). Adds w (visits l) old new)
+      subst (λ (l : List (Playing T)). Adds ts w (visits l) old new)
       (sym (take_more ps i p lt ∙ ap (λ (x : Playing T). take i ps ++ x ∷ []) (sym is)))
-      (subst (λ (l : List Visit). Adds w l old new) (sym (map-append (λ (x : Playing T). x.visit) (take i ps) (p ∷ [])))
-      (adds_on w (visits (take i ps)) (p.visit ∷ []) old mid new adds (adds_one w p.visit s mid new stands push)))
+      (subst (λ (l : List Visit). Adds ts w l old new) (sym (map-append (λ (x : Playing T). x.visit) (take i ps) (p ∷ [])))
+      (adds_on ts w (visits (take i ps)) (p.visit ∷ []) old mid new adds (adds_one ts w p.visit s mid new stands push)))
 
   -- and the clock's behind them
   pub adds_clock : (g : Grouped T) (ps : List (Playing T)) (i : ℕ) (p : Playing T) (old mid new : List Standing) (s : Standing) → length ps ≤ i
-      → ps ≡ g.players → g.clock ≡ Some p → Adds w (visits (take i ps)) old mid → IsStanding w p.visit s → new ≡ mid ++ s ∷ []
-      → Adds w (visits (members g)) old new
+      → ps ≡ g.players → g.clock ≡ Some p → Adds ts w (visits (take i ps)) old mid → IsStanding ts w p.visit s → new ≡ mid ++ s ∷ []
+      → Adds ts w (visits (members g)) old new
   adds_clock g ps i p old mid new s le players clock adds stands push =
-      subst (λ (c : Option (Playing T)). Adds w (visits (with_last g.players c)) old new) (sym clock)
-      (subst (λ (l : List Visit). Adds w l old new) (sym (map-append (λ (x : Playing T). x.visit) g.players (p ∷ [])))
-      (adds_on w (visits g.players) (p.visit ∷ []) old mid new
-      (subst (λ (l : List (Playing T)). Adds w (visits l) old mid) (take_all i ps le ∙ players) adds) (adds_one w p.visit s mid new stands push)))
+      subst (λ (c : Option (Playing T)). Adds ts w (visits (with_last g.players c)) old new) (sym clock)
+      (subst (λ (l : List Visit). Adds ts w l old new) (sym (map-append (λ (x : Playing T). x.visit) g.players (p ∷ [])))
+      (adds_on ts w (visits g.players) (p.visit ∷ []) old mid new
+      (subst (λ (l : List (Playing T)). Adds ts w (visits l) old mid) (take_all i ps le ∙ players) adds) (adds_one ts w p.visit s mid new stands push)))
 
   one_more : (gs : List (Grouped T)) (g : Grouped T) → all_members (gs ++ g ∷ []) ≡ all_members gs ++ members g
   one_more [] g = append-nil (members g)
@@ -110,19 +111,19 @@ module _ {T : Type 0} (w : World) where
 
   -- a group more
   pub standings_group : (gs : List (Grouped T)) (i : ℕ) (g : Grouped T) (ss new : List Standing) → i < length gs → g ≡ get_or gs i g
-      → AreStandings w (visits (all_members (take i gs))) ss → Adds w (visits (members g)) ss new
-      → AreStandings w (visits (all_members (take (i + 1) gs))) new
+      → AreStandings ts w (visits (all_members (take i gs))) ss → Adds ts w (visits (members g)) ss new
+      → AreStandings ts w (visits (all_members (take (i + 1) gs))) new
   standings_group gs i g ss new lt is are adds =
-      subst (λ (l : List (Grouped T)). AreStandings w (visits (all_members l)) new)
+      subst (λ (l : List (Grouped T)). AreStandings ts w (visits (all_members l)) new)
       (sym (take_more gs i g lt ∙ ap (λ (x : Grouped T). take i gs ++ x ∷ []) (sym is)))
-      (subst (λ (l : List (Playing T)). AreStandings w (visits l) new) (sym (one_more (take i gs) g))
-      (subst (λ (l : List Visit). AreStandings w l new) (sym (map-append (λ (x : Playing T). x.visit) (all_members (take i gs)) (members g)))
-      (subst (λ (l : List Standing). AreStandings w (visits (all_members (take i gs)) ++ visits (members g)) l) (sym adds.behind)
-      (standings_more w (visits (all_members (take i gs))) (visits (members g)) ss adds.added are adds.standings))))
+      (subst (λ (l : List (Playing T)). AreStandings ts w (visits l) new) (sym (one_more (take i gs) g))
+      (subst (λ (l : List Visit). AreStandings ts w l new) (sym (map-append (λ (x : Playing T). x.visit) (all_members (take i gs)) (members g)))
+      (subst (λ (l : List Standing). AreStandings ts w (visits (all_members (take i gs)) ++ visits (members g)) l) (sym adds.behind)
+      (standings_more ts w (visits (all_members (take i gs))) (visits (members g)) ss adds.added are adds.standings))))
 
   pub all_standings : (gs : List (Grouped T)) (i : ℕ) (hs : List (Grouped T)) (ss : List Standing) → length gs ≤ i → gs ≡ hs
-      → AreStandings w (visits (all_members (take i gs))) ss → AreStandings w (visits (all_members hs)) ss
-  all_standings gs i hs ss le is are = subst (λ (l : List (Grouped T)). AreStandings w (visits (all_members l)) ss) (take_all i gs le ∙ is) are
+      → AreStandings ts w (visits (all_members (take i gs))) ss → AreStandings ts w (visits (all_members hs)) ss
+  all_standings gs i hs ss le is are = subst (λ (l : List (Grouped T)). AreStandings ts w (visits (all_members l)) ss) (take_all i gs le ∙ is) are
 
 -- The players of groups.
 
@@ -176,24 +177,24 @@ module _ {T : Type 0} where
   )
 
   -- at first each is with its own guest, and the clock's with the clock's pass
-  pub lent_first : (w : World) (r : Roster) (gs : List (Grouped T)) (left : List (Playing T)) (p : Playing T) (ss : List Standing)
-      → AreStandings w (visits (all_members gs)) ss → ((q : Playing T) → In q (all_members gs) → In q left ⊎ (q ≡ p))
+  pub lent_first : (ts : Tasks) (w : World) (r : Roster) (gs : List (Grouped T)) (left : List (Playing T)) (p : Playing T) (ss : List Standing)
+      → AreStandings ts w (visits (all_members gs)) ss → ((q : Playing T) → In q (all_members gs) → In q left ⊎ (q ≡ p))
       → IsWith w r p.visit p.visit.sight → ((c : ℕ) → c < r.callers → HasGuest c (visits (all_members gs)))
-      → AreLent w r (visits left) p.visit.sight ss
-  lent_first w r gs left p ss are placed mine all = record { each = each; all = each_caller }
+      → AreLent ts w r (visits left) p.visit.sight ss
+  lent_first ts w r gs left p ss are placed mine all = record { each = each; all = each_caller }
     where
       at_place : (q : Playing T) → In q left ⊎ (q ≡ p) → IsWith w r q.visit p.visit.sight ⊎ In q.visit (visits left)
       at_place q (inl there) = inr (visit_in q left there)
       at_place q (inr e) = inl (subst (λ (x : Playing T). IsWith w r x.visit p.visit.sight) (sym e) mine)
 
-      each : (s : Standing) → In s ss → (v : Visit) × IsStanding w v s × (IsWith w r v p.visit.sight ⊎ In v (visits left))
+      each : (s : Standing) → In s ss → (v : Visit) × IsStanding ts w v s × (IsWith w r v p.visit.sight ⊎ In v (visits left))
       each s i =
-          let found = standing_in w (visits (all_members gs)) ss are s i in
+          let found = standing_in ts w (visits (all_members gs)) ss are s i in
           let q = in_visits found.0 (all_members gs) found.1 in
           (found.0, found.2, subst (λ (v : Visit). IsWith w r v p.visit.sight ⊎ In v (visits left)) (sym q.2) (at_place q.0 (placed q.0 q.1)))
 
       each_caller : (c : ℕ) → c < r.callers → (s : Standing) × In s ss × (s.caller ≡ c)
       each_caller c lt =
           let v = all c lt in
-          let found = standing_for w (visits (all_members gs)) ss are v.0 v.1 in
+          let found = standing_for ts w (visits (all_members gs)) ss are v.0 v.1 in
           (found.0, found.1, found.2.caller_is ∙ v.2)

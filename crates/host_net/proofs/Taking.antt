@@ -7,6 +7,7 @@ use Rattle.std.proofs.lemmas.List.{map-append}
 use Rattle.std.proofs.lemmas.Option.{none-some, same_Some}
 use Rattle.net_base.specs.declared.world.World.{World}
 use Rattle.net_base.specs.Stamped.{In}
+use Rattle.net_base.specs.Tasks.{Tasks}
 use Rattle.net_guests.proofs.Handing.{in_back, in_front, none_more, same_number_is}
 use Rattle.net_guests.proofs.Passes.{last_or}
 use Rattle.net_locks.specs.declared.clock.Advance.{Advance}
@@ -69,7 +70,7 @@ stays_itself w v =
     record {
       before = none_more v.sight.seen;
       alone = refl;
-      stands = record { owes = refl; comes_next = refl; turns = λ t. t; nexts = λ t. t; timely = λ t. t };
+      stands = record { owes = refl; comes_next = λ ts. refl; turns = λ t. t; nexts = λ ts t. t; timely = λ ts t. t };
     }
 
 -- Players.
@@ -306,26 +307,26 @@ module _ {T : Type 0} where
   kept_of w now (p ∷ ps) (q ∷ qs) back = (back.0.0, kept_of w now ps qs back.1)
 
   -- the clock stands in another group
-  no_clock : (w : World) (all : List Visit) (answer : Advance) (c d : Option (Playing T)) → d ≡ c → c ≡ None → ClockStays w all answer c d
-  no_clock w all answer c d same none =
-      subst (λ (x : Option (Playing T)). ClockStays w all answer x d) (sym none)
-      (subst (λ (x : Option (Playing T)). ClockStays w all answer None x) (sym (same ∙ none)) tt)
+  no_clock : (ts : Tasks) (w : World) (all : List Visit) (answer : Advance) (c d : Option (Playing T)) → d ≡ c → c ≡ None → ClockStays ts w all answer c d
+  no_clock ts w all answer c d same none =
+      subst (λ (x : Option (Playing T)). ClockStays ts w all answer x d) (sym none)
+      (subst (λ (x : Option (Playing T)). ClockStays ts w all answer None x) (sym (same ∙ none)) tt)
 
-  group_kept : (w : World) (all : List Visit) (answer : Advance) (now : ℕ) (g k : Grouped T) → IsBack w now g k → g.clock ≡ None → IsGroupKept w all answer g k
-  group_kept w all answer now g k back none =
+  group_kept : (ts : Tasks) (w : World) (all : List Visit) (answer : Advance) (now : ℕ) (g k : Grouped T) → IsBack w now g k → g.clock ≡ None → IsGroupKept ts w all answer g k
+  group_kept ts w all answer now g k back none =
       record {
         players = kept_of w now g.players k.players back.players;
-        clock_stays = no_clock w all answer g.clock k.clock back.clock_is none;
+        clock_stays = no_clock ts w all answer g.clock k.clock back.clock_is none;
         memory_is = back.memory_is;
       }
 
-  groups_kept : (w : World) (all : List Visit) (answer : Advance) (now : ℕ) (gs ks : List (Grouped T)) → GroupsAreBack w now gs ks → NoClocks gs
-      → EachIsKept w all answer gs ks
-  groups_kept w all answer now [] [] back none = tt
-  groups_kept w all answer now [] (k ∷ ks) back none = absurd back
-  groups_kept w all answer now (g ∷ gs) [] back none = absurd back
-  groups_kept w all answer now (g ∷ gs) (k ∷ ks) back none =
-      (group_kept w all answer now g k back.0 none.0, groups_kept w all answer now gs ks back.1 none.1)
+  groups_kept : (ts : Tasks) (w : World) (all : List Visit) (answer : Advance) (now : ℕ) (gs ks : List (Grouped T)) → GroupsAreBack w now gs ks → NoClocks gs
+      → EachIsKept ts w all answer gs ks
+  groups_kept ts w all answer now [] [] back none = tt
+  groups_kept ts w all answer now [] (k ∷ ks) back none = absurd back
+  groups_kept ts w all answer now (g ∷ gs) [] back none = absurd back
+  groups_kept ts w all answer now (g ∷ gs) (k ∷ ks) back none =
+      (group_kept ts w all answer now g k back.0 none.0, groups_kept ts w all answer now gs ks back.1 none.1)
 
   -- the group of the same place
   pub place_back : (w : World) (now : ℕ) (gs ks : List (Grouped T)) → GroupsAreBack w now gs ks → (n : ℕ) (g : Grouped T)
@@ -336,24 +337,24 @@ module _ {T : Type 0} where
   place_back w now (x ∷ gs) (y ∷ ks) back zero g there = (y, refl)
   place_back w now (x ∷ gs) (y ∷ ks) back (suc n) g there = place_back w now gs ks back.1 n g there
 
-  pub filled_kept : (w : World) (all : List Visit) (answer : Advance) (now : ℕ) (gs ks : List (Grouped T)) (n : ℕ) (g k : Grouped T) (p q : Playing T)
-      → slice_get gs n ≡ Some g → g.clock ≡ Some p → slice_get ks n ≡ Some k → IsClockKept w all answer p q
+  pub filled_kept : (ts : Tasks) (w : World) (all : List Visit) (answer : Advance) (now : ℕ) (gs ks : List (Grouped T)) (n : ℕ) (g k : Grouped T) (p q : Playing T)
+      → slice_get gs n ≡ Some g → g.clock ≡ Some p → slice_get ks n ≡ Some k → IsClockKept ts w all answer p q
       → GroupsAreBack w now (slice_set gs n (emptied g)) ks → NoClocks (slice_set gs n (emptied g))
-      → EachIsKept w all answer gs (slice_set ks n (filled k q))
-  filled_kept w all answer now [] ks n g k p q there is at clock back none = absurd (none-some g there)
-  filled_kept w all answer now (x ∷ gs) [] n g k p q there is at clock back none = absurd (none-some k at)
-  filled_kept w all answer now (x ∷ gs) (y ∷ ks) zero g k p q there is at clock back none = (
+      → EachIsKept ts w all answer gs (slice_set ks n (filled k q))
+  filled_kept ts w all answer now [] ks n g k p q there is at clock back none = absurd (none-some g there)
+  filled_kept ts w all answer now (x ∷ gs) [] n g k p q there is at clock back none = absurd (none-some k at)
+  filled_kept ts w all answer now (x ∷ gs) (y ∷ ks) zero g k p q there is at clock back none = (
     record {
       players = subst (λ (z : Grouped T). AreKept w z.players k.players) (sym (same_Some x g there))
           (subst (λ (z : Grouped T). AreKept w g.players z.players) (same_Some y k at) (kept_of w now g.players y.players back.0.players));
-      clock_stays = subst (λ (c : Option (Playing T)). ClockStays w all answer c (Some q))
+      clock_stays = subst (λ (c : Option (Playing T)). ClockStays ts w all answer c (Some q))
           (sym (ap (λ (z : Grouped T). z.clock) (same_Some x g there) ∙ is)) clock;
       memory_is = ap (λ (z : Grouped T). z.memory) (sym (same_Some y k at)) ∙ (back.0.memory_is ∙ ap (λ (z : Grouped T). z.memory) (sym (same_Some x g there)));
     },
-    groups_kept w all answer now gs ks back.1 none.1,
+    groups_kept ts w all answer now gs ks back.1 none.1,
   )
-  filled_kept w all answer now (x ∷ gs) (y ∷ ks) (suc n) g k p q there is at clock back none =
-      (group_kept w all answer now x y back.0 none.0, filled_kept w all answer now gs ks n g k p q there is at clock back.1 none.1)
+  filled_kept ts w all answer now (x ∷ gs) (y ∷ ks) (suc n) g k p q there is at clock back none =
+      (group_kept ts w all answer now x y back.0 none.0, filled_kept ts w all answer now gs ks n g k p q there is at clock back.1 none.1)
 
   players_itself : (w : World) (ps : List (Playing T)) → AreKept w ps ps
   players_itself w [] = tt
@@ -372,9 +373,9 @@ module _ {T : Type 0} where
     players_itself w ps,
   )
 
-  clock_itself : (w : World) (all : List Visit) (c : Option (Playing T)) → ClockStays w all advance.Memory c c
-  clock_itself w all None = tt
-  clock_itself w all (Some q) =
+  clock_itself : (ts : Tasks) (w : World) (all : List Visit) (c : Option (Playing T)) → ClockStays ts w all advance.Memory c c
+  clock_itself ts w all None = tt
+  clock_itself ts w all (Some q) =
       record {
         caller_is = refl;
         names_are = refl;
@@ -386,14 +387,14 @@ module _ {T : Type 0} where
             record { own_is = refl; owed_is = refl; now_is = refl };
       }
 
-  each_itself : (w : World) (all : List Visit) (gs : List (Grouped T)) → EachIsKept w all advance.Memory gs gs
-  each_itself w all [] = tt
-  each_itself w all (g ∷ gs) =
-      (record { players = players_itself w g.players; clock_stays = clock_itself w all g.clock; memory_is = refl }, each_itself w all gs)
+  each_itself : (ts : Tasks) (w : World) (all : List Visit) (gs : List (Grouped T)) → EachIsKept ts w all advance.Memory gs gs
+  each_itself ts w all [] = tt
+  each_itself ts w all (g ∷ gs) =
+      (record { players = players_itself w g.players; clock_stays = clock_itself ts w all g.clock; memory_is = refl }, each_itself ts w all gs)
 
   -- nothing was done, for want of memory
-  pub kept_itself : (w : World) (gs : List (Grouped T)) → GroupsAreKept w gs advance.Memory gs
-  kept_itself w gs = each_itself w (visits (all_members gs)) gs
+  pub kept_itself : (ts : Tasks) (w : World) (gs : List (Grouped T)) → GroupsAreKept ts w gs advance.Memory gs
+  kept_itself ts w gs = each_itself ts w (visits (all_members gs)) gs
 
   callers_kept : (w : World) (ps qs : List (Playing T)) → AreKept w ps qs → callers_of qs ≡ callers_of ps
   callers_kept w [] [] kept = refl
@@ -402,21 +403,21 @@ module _ {T : Type 0} where
   callers_kept w (p ∷ ps) (q ∷ qs) kept =
       ap (λ (c : ℕ). c ∷ callers_of qs) kept.0.caller_is ∙ ap (λ (l : List ℕ). caller p ∷ l) (callers_kept w ps qs kept.1)
 
-  clock_kept : (w : World) (all : List Visit) (answer : Advance) (c d : Option (Playing T)) → ClockStays w all answer c d
+  clock_kept : (ts : Tasks) (w : World) (all : List Visit) (answer : Advance) (c d : Option (Playing T)) → ClockStays ts w all answer c d
       → option_map caller d ≡ option_map caller c
-  clock_kept w all answer None None stays = refl
-  clock_kept w all answer None (Some q) stays = absurd stays
-  clock_kept w all answer (Some p) None stays = absurd stays
-  clock_kept w all answer (Some p) (Some q) stays = ap (λ (c : ℕ). Some c) stays.caller_is
+  clock_kept ts w all answer None None stays = refl
+  clock_kept ts w all answer None (Some q) stays = absurd stays
+  clock_kept ts w all answer (Some p) None stays = absurd stays
+  clock_kept ts w all answer (Some p) (Some q) stays = ap (λ (c : ℕ). Some c) stays.caller_is
 
-  pub seats_kept : (w : World) (all : List Visit) (answer : Advance) (gs ks : List (Grouped T)) → EachIsKept w all answer gs ks → all_seats ks ≡ all_seats gs
-  seats_kept w all answer [] [] kept = refl
-  seats_kept w all answer [] (k ∷ ks) kept = absurd kept
-  seats_kept w all answer (g ∷ gs) [] kept = absurd kept
-  seats_kept w all answer (g ∷ gs) (k ∷ ks) kept =
+  pub seats_kept : (ts : Tasks) (w : World) (all : List Visit) (answer : Advance) (gs ks : List (Grouped T)) → EachIsKept ts w all answer gs ks → all_seats ks ≡ all_seats gs
+  seats_kept ts w all answer [] [] kept = refl
+  seats_kept ts w all answer [] (k ∷ ks) kept = absurd kept
+  seats_kept ts w all answer (g ∷ gs) [] kept = absurd kept
+  seats_kept ts w all answer (g ∷ gs) (k ∷ ks) kept =
       ap (λ (l : List ℕ). record { others = l; clock = option_map caller k.clock } ∷ all_seats ks) (callers_kept w g.players k.players kept.0.players)
-      ∙ (ap (λ (c : Option ℕ). record { others = callers_of g.players; clock = c } ∷ all_seats ks) (clock_kept w all answer g.clock k.clock kept.0.clock_stays)
-      ∙ ap (λ (l : List _). seats g ∷ l) (seats_kept w all answer gs ks kept.1))
+      ∙ (ap (λ (c : Option ℕ). record { others = callers_of g.players; clock = c } ∷ all_seats ks) (clock_kept ts w all answer g.clock k.clock kept.0.clock_stays)
+      ∙ ap (λ (l : List _). seats g ∷ l) (seats_kept ts w all answer gs ks kept.1))
 
   -- each of those that were given back is one of those that were lent
   abbrev pub Lent : World → ℕ → List (Playing T) → Playing T → Type 0

@@ -12,12 +12,13 @@ use Rattle.net_base.specs.declared.noted.Noted.{Noted}
 use Rattle.net_base.specs.declared.world.World.{World}
 use Rattle.net_base.specs.ActorStep.{Step}
 use Rattle.net_base.specs.Actors.{Actor, actor_step}
-use Rattle.net_base.specs.Calm.{done, limited, movable, stopped, target}
+use Rattle.net_base.specs.Calm.{done_by, limited_by, movable_by, stopped_by, target_by}
 use Rattle.net_base.specs.Duties.{ticks}
-use Rattle.net_base.specs.Legal.{IsLegal, IsTimed}
+use Rattle.net_base.specs.Legal.{IsLegalBy, IsTimedBy}
 use Rattle.net_base.specs.Net.{Net, after}
-use Rattle.net_base.specs.Next.{next}
+use Rattle.net_base.specs.Next.{next_by}
 use Rattle.net_base.specs.Stamped.{In, of_caller}
+use Rattle.net_base.specs.Tasks.{Tasks}
 use Rattle.journal.specs.declared.law.Roster.{Roster}
 use Rattle.journal.specs.declared.tokens.Sight.{Sight}
 use Rattle.journal.specs.Closing.{plain}
@@ -41,59 +42,59 @@ use Rattle.net_locks.specs.Turns.{Stays, bare, own}
 
 -- what is known of a caller: whether it owes a duty, whether it has room, what it records next where it owes none, that
 -- each of its moves came in time, and at which conversations it recorded something
-pub record IsStanding (w : World) (v : Visit) (s : Standing) : Type 0 where
+pub record IsStanding (ts : Tasks) (w : World) (v : Visit) (s : Standing) : Type 0 where
   pub caller_is : s.caller ≡ v.caller
   pub owes_is : s.owes ≡ not (length v.owed == 0)
   pub full_is : s.full ≡ (length (own v.caller v.sight) == 131072)
-  pub next_is : option_map ask_of s.next ≡ next w (entries v.sight.seen) v.caller
+  pub next_is : option_map ask_of s.next ≡ next_by ts w (entries v.sight.seen) v.caller
   pub given : IsBare s.next
-  pub timely : AreTimely w v.caller v.sight.seen
+  pub timely : AreTimely ts w v.caller v.sight.seen
   pub covers : Covers (own v.caller v.sight) s.touched
 
 -- of each of these callers, in their order
-abbrev pub AreStandings : World → List Visit → List Standing → Type 0
-AreStandings w [] [] = Unit {0}
-AreStandings w (v ∷ vs) (s ∷ ss) = IsStanding w v s × AreStandings w vs ss
-AreStandings w _ _ = ⊥
+abbrev pub AreStandings : Tasks → World → List Visit → List Standing → Type 0
+AreStandings ts w [] [] = Unit {0}
+AreStandings ts w (v ∷ vs) (s ∷ ss) = IsStanding ts w v s × AreStandings ts w vs ss
+AreStandings ts w _ _ = ⊥
 
 -- to the standings so far come those of these callers
-pub record Adds (w : World) (vs : List Visit) (old new : List Standing) : Type 0 where
+pub record Adds (ts : Tasks) (w : World) (vs : List Visit) (old new : List Standing) : Type 0 where
   pub added : List Standing
   pub behind : new ≡ old ++ added
-  pub standings : AreStandings w vs added
+  pub standings : AreStandings ts w vs added
 
 -- each of these standings is one of a caller who is with the pass already, or of one of those that are left
-pub record AreLent (w : World) (r : Roster) (left : List Visit) (p : Sight) (ss : List Standing) : Type 0 where
-  pub each : (s : Standing) → In s ss → (v : Visit) × IsStanding w v s × (IsWith w r v p ⊎ In v left)
+pub record AreLent (ts : Tasks) (w : World) (r : Roster) (left : List Visit) (p : Sight) (ss : List Standing) : Type 0 where
+  pub each : (s : Standing) → In s ss → (v : Visit) × IsStanding ts w v s × (IsWith w r v p ⊎ In v left)
   pub all : (c : ℕ) → c < r.callers → HasStanding c ss
 
 -- What became of the clock.
 
 -- a history in which each of these callers has the entries that it knows
-pub record IsHistoryOf (w : World) (vs : List Visit) (h : List Entry) : Type 0 where
-  pub legal : IsLegal w h
-  pub timed : IsTimed w h
+pub record IsHistoryOf (ts : Tasks) (w : World) (vs : List Visit) (h : List Entry) : Type 0 where
+  pub legal : IsLegalBy ts w h
+  pub timed : IsTimedBy ts w h
   pub lists : (v : Visit) → In v vs → of_caller v.caller h ≡ map plain (own v.caller v.sight)
 
 -- so stands the net after it
-abbrev pub AfterAll : World → List Visit → (Net → Type 0) → Type 0
-AfterAll w vs K = (h : List Entry) → IsHistoryOf w vs h → K (after w h)
+abbrev pub AfterAll : Tasks → World → List Visit → (Net → Type 0) → Type 0
+AfterAll ts w vs K = (h : List Entry) → IsHistoryOf ts w vs h → K (after w h)
 
 -- the clock might move, had room, and moved to this moment, which is now that of each of these callers
-pub record MovesAll (w : World) (old new : List Visit) (m : ℕ) : Type 0 where
-  pub may : AfterAll w old (λ (net : Net). movable w net ≡ true)
-  pub has_room : AfterAll w old (λ (net : Net). limited w net ≡ false)
-  pub target_is : AfterAll w old (λ (net : Net). m ≡ target w net)
+pub record MovesAll (ts : Tasks) (w : World) (old new : List Visit) (m : ℕ) : Type 0 where
+  pub may : AfterAll ts w old (λ (net : Net). movable_by ts w net ≡ true)
+  pub has_room : AfterAll ts w old (λ (net : Net). limited_by ts w net ≡ false)
+  pub target_is : AfterAll ts w old (λ (net : Net). m ≡ target_by ts w net)
   pub now_is : (v : Visit) → In v new → v.now ≡ m
 
 -- by the answer
-abbrev pub Advanced : World → List Visit → Advance → List Visit → Type 0
-Advanced w old (advance.Moved m) new = MovesAll w old new m
-Advanced w old advance.Done new = AfterAll w new (λ (net : Net). done w net ≡ true)
-Advanced w old advance.Stopped new = AfterAll w new (λ (net : Net). stopped w net ≡ true)
-Advanced w old (advance.NotCalm c) new = AfterAll w new (λ (net : Net). IsLeast w net c × (limited w net ≡ false))
-Advanced w old advance.Limit new = AfterAll w new (λ (net : Net). limited w net ≡ true)
-Advanced w old advance.Memory new = Unit {0}
+abbrev pub Advanced : Tasks → World → List Visit → Advance → List Visit → Type 0
+Advanced ts w old (advance.Moved m) new = MovesAll ts w old new m
+Advanced ts w old advance.Done new = AfterAll ts w new (λ (net : Net). done_by ts w net ≡ true)
+Advanced ts w old advance.Stopped new = AfterAll ts w new (λ (net : Net). stopped_by ts w net ≡ true)
+Advanced ts w old (advance.NotCalm c) new = AfterAll ts w new (λ (net : Net). IsLeast ts w net c × (limited_by ts w net ≡ false))
+Advanced ts w old advance.Limit new = AfterAll ts w new (λ (net : Net). limited_by ts w net ≡ true)
+Advanced ts w old advance.Memory new = Unit {0}
 
 -- these callers have this moment
 abbrev pub AreAt : ℕ → List Visit → Type 0
@@ -113,15 +114,15 @@ moved v m step = made name.Clock v.caller v.now (bare (event.Move m)) None (with
 -- Its list gained one entry, its move to this moment, after all that the callers had recorded and where it owed nothing.
 -- Now it owes the ticks of that entry: one for each conversation whose due moment has come, in the order of host, protocol
 -- and slot.
-pub record HasMoved (w : World) (all : List Visit) (m : ℕ) (old new : Visit) : Type 0 where
+pub record HasMoved (ts : Tasks) (w : World) (all : List Visit) (m : ℕ) (old new : Visit) : Type 0 where
   pub stamp : ℕ
   pub step : Step Actor
   pub gains : own new.caller new.sight ≡ own old.caller old.sight ++ (stamp, moved old m step) ∷ []
   pub free : old.owed ≡ []
-  pub stamp_is : (h : List Entry) → IsHistoryOf w all h → stamp ≡ length h
-  pub stepped : AfterAll w all (λ (net : Net).
+  pub stamp_is : (h : List Entry) → IsHistoryOf ts w all h → stamp ≡ length h
+  pub stepped : AfterAll ts w all (λ (net : Net).
       actor_step w name.Clock (net.actors name.Clock) old.now (bare (event.Move m)) ≡ Some step)
-  pub owes : AfterAll w all (λ (net : Net). new.owed ≡ ticks w net.actors name.Clock stamp (event.Move m))
+  pub owes : AfterAll ts w all (λ (net : Net). new.owed ≡ ticks w net.actors name.Clock stamp (event.Move m))
 
 -- it recorded nothing, and has the moment that it had
 pub record HasRested (old new : Visit) : Type 0 where
@@ -130,15 +131,15 @@ pub record HasRested (old new : Visit) : Type 0 where
   pub now_is : new.now ≡ old.now
 
 -- by the answer
-abbrev pub ClockRecords : World → List Visit → Visit → Advance → Visit → Type 0
-ClockRecords w all old (advance.Moved m) new = HasMoved w all m old new
-ClockRecords w all old answer new = HasRested old new
+abbrev pub ClockRecords : Tasks → World → List Visit → Visit → Advance → Visit → Type 0
+ClockRecords ts w all old (advance.Moved m) new = HasMoved ts w all m old new
+ClockRecords ts w all old answer new = HasRested old new
 
 -- The players.
 
 -- The numbers of all callers were with the pass of the clock's guest, which decided.
 --     at, to      the guest as it was then, and as it was when it had decided
-pub record Advances (w : World) (r : Roster) (left : List Visit) (old : Visit) (answer : Advance) (new : Visit)
+pub record Advances (ts : Tasks) (w : World) (r : Roster) (left : List Visit) (old : Visit) (answer : Advance) (new : Visit)
     : Type 0 where
   pub at : Visit
   pub to : Visit
@@ -147,9 +148,9 @@ pub record Advances (w : World) (r : Roster) (left : List Visit) (old : Visit) (
   pub caller_at : at.caller ≡ old.caller
   pub now_at : at.now ≡ old.now
   pub owed_at : at.owed ≡ old.owed
-  pub decided : Decided w at answer to
-  pub nexts : AreNext w old.caller at.sight.seen → AreNext w old.caller new.sight.seen
-  pub timely : AreTimely w old.caller at.sight.seen → AreTimely w old.caller new.sight.seen
+  pub decided : Decided ts w at answer to
+  pub nexts : AreNext ts w old.caller at.sight.seen → AreNext ts w old.caller new.sight.seen
+  pub timely : AreTimely ts w old.caller at.sight.seen → AreTimely ts w old.caller new.sight.seen
   pub caller_is : new.caller ≡ old.caller
   pub names_are : new.names ≡ old.names
   pub now_is : new.now ≡ to.now
@@ -204,31 +205,31 @@ module _ {T : Type 0} where
     pub new_is : new ≡ slice_set old place (record group { clock = None })
 
   -- the clock's player is as before, but for what it recorded by the answer
-  pub record IsClockKept (w : World) (all : List Visit) (answer : Advance) (old new : Playing T) : Type 0 where
+  pub record IsClockKept (ts : Tasks) (w : World) (all : List Visit) (answer : Advance) (old new : Playing T) : Type 0 where
     pub caller_is : new.visit.caller ≡ old.visit.caller
     pub names_are : new.visit.names ≡ old.visit.names
     pub role_is : new.role ≡ old.role
     pub task_is : new.task ≡ old.task
     pub lost_is : new.lost ≡ old.lost
     pub counts_is : new.counts ≡ old.counts
-    pub records : ClockRecords w all old.visit answer new.visit
+    pub records : ClockRecords ts w all old.visit answer new.visit
 
-  abbrev pub ClockStays : World → List Visit → Advance → Option (Playing T) → Option (Playing T) → Type 0
-  ClockStays w all answer None None = Unit {0}
-  ClockStays w all answer (Some p) (Some q) = IsClockKept w all answer p q
-  ClockStays w all answer _ _ = ⊥
+  abbrev pub ClockStays : Tasks → World → List Visit → Advance → Option (Playing T) → Option (Playing T) → Type 0
+  ClockStays ts w all answer None None = Unit {0}
+  ClockStays ts w all answer (Some p) (Some q) = IsClockKept ts w all answer p q
+  ClockStays ts w all answer _ _ = ⊥
 
   -- each group has its players, each in its place
-  pub record IsGroupKept (w : World) (all : List Visit) (answer : Advance) (old new : Grouped T) : Type 0 where
+  pub record IsGroupKept (ts : Tasks) (w : World) (all : List Visit) (answer : Advance) (old new : Grouped T) : Type 0 where
     pub players : AreKept w old.players new.players
-    pub clock_stays : ClockStays w all answer old.clock new.clock
+    pub clock_stays : ClockStays ts w all answer old.clock new.clock
     pub memory_is : new.memory ≡ old.memory
 
   -- where these are the callers of all groups
-  abbrev pub EachIsKept : World → List Visit → Advance → List (Grouped T) → List (Grouped T) → Type 0
-  EachIsKept w all answer [] [] = Unit {0}
-  EachIsKept w all answer (g ∷ gs) (k ∷ ks) = IsGroupKept w all answer g k × EachIsKept w all answer gs ks
-  EachIsKept w all answer _ _ = ⊥
+  abbrev pub EachIsKept : Tasks → World → List Visit → Advance → List (Grouped T) → List (Grouped T) → Type 0
+  EachIsKept ts w all answer [] [] = Unit {0}
+  EachIsKept ts w all answer (g ∷ gs) (k ∷ ks) = IsGroupKept ts w all answer g k × EachIsKept ts w all answer gs ks
+  EachIsKept ts w all answer _ _ = ⊥
 
-  abbrev pub GroupsAreKept : World → List (Grouped T) → Advance → List (Grouped T) → Type 0
-  GroupsAreKept w old answer new = EachIsKept w (visits (all_members old)) answer old new
+  abbrev pub GroupsAreKept : Tasks → World → List (Grouped T) → Advance → List (Grouped T) → Type 0
+  GroupsAreKept ts w old answer new = EachIsKept ts w (visits (all_members old)) answer old new

@@ -8,6 +8,7 @@ use Rattle.std.specs.Option.{option_map_or}
 use Rattle.net_base.specs.declared.world.World.{World}
 use Rattle.net_base.specs.Callers.{IsClock, caller_of}
 use Rattle.net_base.specs.Stamped.{In}
+use Rattle.net_base.specs.Tasks.{Tasks}
 use Rattle.host_net.specs.Playing.{IsWaiting, Playing}
 use Rattle.net_guests.specs.Visits.{Visit}
 use Rattle.host_net.specs.declared.player.Role.{Role}
@@ -52,8 +53,8 @@ module _ {T : Type 0} where
   callers_of ps = map caller ps
 
   -- each of them waits
-  abbrev pub AreWaiting : World → List (Playing T) → Type 0
-  AreWaiting w ps = (p : Playing T) → In p ps → IsWaiting w p.visit
+  abbrev pub AreWaiting : Tasks → World → List (Playing T) → Type 0
+  AreWaiting ts w ps = (p : Playing T) → In p ps → IsWaiting ts w p.visit
 
   -- nobody yet
   abbrev pub no_players : Grouped T

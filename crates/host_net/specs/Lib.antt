@@ -5,4 +5,5 @@ pub mod Answering
 pub use Rattle.guest_laws.specs.Guests
 pub use Rattle.net_guests.specs.Visits
 pub use Rattle.net_guests.specs.Deciding
-pub use Rattle.script_task.specs.Requests
+pub use Rattle.net_base.specs.Requests
+pub use Rattle.script_task.specs.Requests as Rooms

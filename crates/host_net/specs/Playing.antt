@@ -2,7 +2,7 @@
 --     IsPlayer      what a player keeps
 --     IsCounted     how many steps of its script are finished
 --     PlaysOn       what its turn did
-use Rattle.std.specs.Prelude.{◌≡◌, ℕ, ◌-◌, ◌⊎◌, Bool, true, false, List, [], ◌∷◌, ◌++◌, length, take, Some, None}
+use Rattle.std.specs.Prelude.{◌≡◌, ℕ, ◌-◌, ◌⊎◌, Bool, true, false, List, [], ◌∷◌, ◌++◌, length, map, take, Option, Some, None}
 use Rattle.net_base.specs.declared.noted.Noted.{Noted}
 use Rattle.net_base.specs.declared.reply.Reply.{Reply}
 use Rattle.net_base.specs.declared.world.Script.{Script}
@@ -10,12 +10,12 @@ use Rattle.net_base.specs.declared.world.World.{World}
 use Rattle.net_base.specs.Actors.{actor_step}
 use Rattle.net_base.specs.Callers.{IsScript, IsCourier, IsClock, caller_of}
 use Rattle.net_base.specs.Duties.{Duty}
-use Rattle.net_base.specs.Next.{finished_by, next, own_replies, zone_of}
-use Rattle.net_base.specs.Steps.{Ask, Names, Play}
+use Rattle.net_base.specs.Next.{finished_by, next_by, own_replies, zone_of}
+use Rattle.net_base.specs.Steps.{Ask, Names}
 use Rattle.net_base.specs.Stamped.{In}
+use Rattle.net_base.specs.Tasks.{Asking, Tasks}
 use Rattle.net_base.specs.Versions.{Tuples}
 use Rattle.duties.specs.Queue.{work_of_duty}
-use Rattle.script_task.specs.Rest.{Continues}
 use Rattle.guest_laws.specs.Own.{AreNext, AreTimely}
 use Rattle.guest_laws.specs.Works.{entries, noted_net}
 use Rattle.host_net.specs.declared.player.Played.{Played}
@@ -34,13 +34,17 @@ HasRole w c (role.Courier m) = caller_of w c ≡ IsCourier m
 HasRole w c role.Clock = caller_of w c ≡ IsClock
 
 -- each entry of the guest's caller was its first duty or what came next, and each of its moves came in time
-pub record IsPlayed (w : World) (v : Visit) : Type 0 where
-  pub nexts : AreNext w v.caller v.sight.seen
-  pub timely : AreTimely w v.caller v.sight.seen
+pub record IsPlayed (ts : Tasks) (w : World) (v : Visit) : Type 0 where
+  pub nexts : AreNext ts w v.caller v.sight.seen
+  pub timely : AreTimely ts w v.caller v.sight.seen
 
 -- and so for each of these guests
-abbrev pub ArePlayed : World → List Visit → Type 0
-ArePlayed w vs = (v : Visit) → In v vs → IsPlayed w v
+abbrev pub ArePlayed : Tasks → World → List Visit → Type 0
+ArePlayed ts w vs = (v : Visit) → In v vs → IsPlayed ts w v
+
+-- of guests with what they played, the guests
+abbrev pub guests_of : {T : Type 0} → List (Visit × T) → List Visit
+guests_of xs = map (λ x. x.0) xs
 
 -- what contracts see of a player
 pub record Playing (T : Type 0) : Type 0 where
@@ -52,17 +56,24 @@ pub record Playing (T : Type 0) : Type 0 where
   -- the task plays the whole script, and so tells how many of its steps are finished
   pub counts : Bool
 
-module _ {T : Type 0} (Stands : ℕ → Names → T → Play → Type 0) where
-  -- the task stands for a play that goes on where the own entries of the script leave it
-  abbrev pub GoesOn : Tuples → Script → Visit → T → Type 0
-  GoesOn zone s v t = (p : Play) × Stands s.host v.names t p × Continues zone s (own_replies (entries v.sight.seen) v.caller) p
+module _ {T : Type 0} (Goes : Option Asking → Tuples → Script → List Reply → Names → T → Type 0) where
+  -- the task goes on where the own entries leave what is played in the place of the script
+  abbrev pub GoesOn : Option Asking → Tuples → Script → Visit → T → Type 0
+  GoesOn own zone s v t = Goes own zone s (own_replies (entries v.sight.seen) v.caller) v.names t
 
   -- what a player keeps: its role is who its caller is, what its caller recorded was its duties and what came next, and
-  -- unless a reply was lost for want of memory, the task of a script goes on where its script stands
-  pub record IsPlayer (w : World) (v : Visit) (who : Role) (t : T) (lost : Bool) : Type 0 where
+  -- unless a reply was lost for want of memory, the task in the place of a script goes on there
+  pub record IsPlayer (ts : Tasks) (w : World) (v : Visit) (who : Role) (t : T) (lost : Bool) : Type 0 where
     pub role_is : HasRole w v.caller who
-    pub plays : IsPlayed w v
-    pub goes_on : (s : Script) → caller_of w v.caller ≡ IsScript s → lost ≡ false → GoesOn (zone_of w) s v t
+    pub plays : IsPlayed ts w v
+    pub goes_on : (s : Script) → caller_of w v.caller ≡ IsScript s → lost ≡ false → GoesOn (ts v.caller) (zone_of w) s v t
+
+  -- what was played in the place of a script goes on there
+  abbrev pub IsGoing : Tasks → World → Visit × T → Type 0
+  IsGoing ts w x = (s : Script) → caller_of w x.0.caller ≡ IsScript s → GoesOn (ts x.0.caller) (zone_of w) s x.0 x.1
+
+  abbrev pub AreGoing : Tasks → World → List (Visit × T) → Type 0
+  AreGoing ts w xs = (x : Visit × T) → In x xs → IsGoing ts w x
 
 -- Steps.
 
@@ -116,16 +127,16 @@ pub record IsSamePlayer {T : Type 0} (old new : Playing T) : Type 0 where
   pub counts : new.counts ≡ old.counts
 
 -- the first duty, or what comes next where nothing is owed, isn't ready after all that was seen
-abbrev pub IsUnready : World → Visit → List Duty → Type 0
-IsUnready w v [] =
-    (ask : Ask) → next w (entries v.sight.seen) v.caller ≡ Some ask
+abbrev pub IsUnready : Tasks → World → Visit → List Duty → Type 0
+IsUnready ts w v [] =
+    (ask : Ask) → next_by ts w (entries v.sight.seen) v.caller ≡ Some ask
     → actor_step w ask.actor ((noted_net w v.sight.seen).actors ask.actor) v.now (bare ask.event) ≡ None
-IsUnready w v (d ∷ ds) =
+IsUnready ts w v (d ∷ ds) =
     actor_step w d.actor ((noted_net w v.sight.seen).actors d.actor) v.now (work_of_duty d) ≡ None
 
 -- it has no room, or nothing of it is ready
-abbrev pub IsWaiting : World → Visit → Type 0
-IsWaiting w v = IsFull v.caller v.sight ⊎ IsUnready w v v.owed
+abbrev pub IsWaiting : Tasks → World → Visit → Type 0
+IsWaiting ts w v = IsFull v.caller v.sight ⊎ IsUnready ts w v v.owed
 
 -- one entry of its own more
 abbrev pub HasMore : Visit → Visit → Type 0
@@ -142,8 +153,8 @@ module _ {T : Type 0} where
 
   -- what a player's turn did: it recorded an entry; or it waits; or it found no memory, and then it recorded nothing, or
   -- its task wasn't told the reply
-  abbrev pub PlaysOn : World → Playing T → Played → Playing T → Type 0
-  PlaysOn w old played.Recorded new = HasMore old.visit new.visit × (new.lost ≡ old.lost)
-  PlaysOn w old played.Waits new = IsUnmoved old new × IsWaiting w new.visit
-  PlaysOn w old played.Memory new =
+  abbrev pub PlaysOn : Tasks → World → Playing T → Played → Playing T → Type 0
+  PlaysOn ts w old played.Recorded new = HasMore old.visit new.visit × (new.lost ≡ old.lost)
+  PlaysOn ts w old played.Waits new = IsUnmoved old new × IsWaiting ts w new.visit
+  PlaysOn ts w old played.Memory new =
       IsUnmoved old new ⊎ (HasMore old.visit new.visit × (new.task ≡ old.task) × (new.lost ≡ true))

@@ -2,7 +2,7 @@
 ghost use Rattle.std.specs.Prelude.{◌≡◌, ◌<◌, ◌++◌, ◌∷◌, ℕ, List, Some, None, length, option_map, slice_get, slice_set, IfOk, IfSome, IsNone, OnOk};
 ghost use Rattle.net_base.specs.declared.world.Script.{Script as AnyScript};
 ghost use Rattle.net_base.specs.Callers.{IsClock, IsScript, caller_of};
-ghost use Rattle.net_base.specs.Next.{next};
+ghost use Rattle.net_base.specs.Next.{next_by};
 ghost use Rattle.net_base.specs.World.{IsWorld};
 ghost use Rattle.guest_laws.specs.Guests.{IsGuest};
 ghost use Rattle.guest_laws.specs.Works.{entries};
@@ -42,7 +42,7 @@ fn standing_of<J: Naming + Placing, T: WholeTask>(
     alloc: Global,
     player: &Player<J, T>,
 ) -> Result<Standing, AllocError>
-    ensures { IfOk result (IsStanding J.world player.now.visit) }
+    ensures { IfOk result (IsStanding J.tasks J.world player.now.visit) }
 {
     let guest = &player.guest;
     Ok(Standing {
@@ -60,7 +60,7 @@ fn next_of<J: Naming + Placing, T: WholeTask>(
     player: &Player<J, T>,
 ) -> Result<Option<(ActorName, Work)>, AllocError>
     ensures next { IfOk result (λ n. option_map ask_of n
-        ≡ next J.world (entries player.now.visit.sight.seen) player.now.visit.caller) }
+        ≡ next_by J.tasks J.world (entries player.now.visit.sight.seen) player.now.visit.caller) }
     ensures bare { IfOk result (λ n. IsBare n) }
 {
     match player.role {
@@ -77,7 +77,7 @@ fn script_next<J: Naming + Placing, T: WholeTask>(
 ) -> Result<Option<(ActorName, Work)>, AllocError>
     requires script { (s : AnyScript) × (caller_of J.world player.now.visit.caller ≡ IsScript s) }
     ensures next { IfOk result (λ n. option_map ask_of n
-        ≡ next J.world (entries player.now.visit.sight.seen) player.now.visit.caller) }
+        ≡ next_by J.tasks J.world (entries player.now.visit.sight.seen) player.now.visit.caller) }
     ensures bare { IfOk result (λ n. IsBare n) }
 {
     if player.lost {
@@ -100,7 +100,7 @@ fn standings_of<J: Naming + Placing, T: WholeTask + Drop>(
     alloc: Global,
     players: &Players<J, T>,
 ) -> Result<Vec<Standing>, AllocError>
-    ensures { IfOk result (λ ss. AreStandings J.world (visits (all_members players.now.groups)) ss.items) }
+    ensures { IfOk result (λ ss. AreStandings J.tasks J.world (visits (all_members players.now.groups)) ss.items) }
 {
     let mut standings = Vec::with_capacity(alloc, players.callers as usize)?;
     for group in &players.groups {
@@ -115,7 +115,7 @@ fn add_standings<J: Naming + Placing, T: WholeTask + Drop>(
     group: &Group<J, T>,
     standings: &mut Vec<Standing>,
 ) -> Result<(), AllocError>
-    ensures { OnOk result (Adds J.world (visits (members group.now)) standings.old.items standings.new.items) }
+    ensures { OnOk result (Adds J.tasks J.world (visits (members group.now)) standings.old.items standings.new.items) }
 {
     for player in &group.players {
         standings.push(standing_of(alloc, player)?)?;
@@ -151,10 +151,10 @@ impl<J: Naming + Placing> Net<J, WorldActor<J>> {
         ensures callers { players.new.callers ≡ players.old.callers }
         ensures deal { players.new.deal ≡ players.old.deal }
         ensures seats { all_seats players.new.groups ≡ all_seats players.old.groups }
-        ensures kept { GroupsAreKept J.world players.old.groups result players.new.groups }
+        ensures kept { GroupsAreKept J.tasks J.world players.old.groups result players.new.groups }
         ensures moment { StayAtOnce result (visits (all_members players.old.groups))
             (visits (all_members players.new.groups)) }
-        ensures answer { Advanced J.world (visits (all_members players.old.groups)) result
+        ensures answer { Advanced J.tasks J.world (visits (all_members players.old.groups)) result
             (visits (all_members players.new.groups)) }
     {
         let Ok(standings) = standings_of(alloc, players) else {
@@ -176,11 +176,11 @@ impl<J: Naming + Placing> Net<J, WorldActor<J>> {
         requires world { J.world ≡ world.now }
         requires is { IsWorld world.now }
         requires dealt { IsDealt J.world J.run.roster.callers (all_seats groups.old) }
-        requires standings { AreStandings J.world (visits (all_members groups.old)) standings.now }
+        requires standings { AreStandings J.tasks J.world (visits (all_members groups.old)) standings.now }
         ensures seats { all_seats groups.new ≡ all_seats groups.old }
-        ensures kept { GroupsAreKept J.world groups.old result groups.new }
+        ensures kept { GroupsAreKept J.tasks J.world groups.old result groups.new }
         ensures moment { StayAtOnce result (visits (all_members groups.old)) (visits (all_members groups.new)) }
-        ensures answer { Advanced J.world (visits (all_members groups.old)) result (visits (all_members groups.new)) }
+        ensures answer { Advanced J.tasks J.world (visits (all_members groups.old)) result (visits (all_members groups.new)) }
     {
         histories_are_their_callers();
         histories_of_guests_are_legal();
@@ -218,12 +218,12 @@ impl<J: Naming + Placing> Net<J, WorldActor<J>> {
         requires is { IsWorld world.now }
         requires clock { caller_of J.world clock.old.caller ≡ IsClock }
         requires apart { Apart (clock.old.caller ∷ callers_of (players.old ++ other_players groups.old)) }
-        requires lent { AreLent J.world J.run.roster (visits (players.old ++ other_players groups.old))
+        requires lent { AreLent J.tasks J.world J.run.roster (visits (players.old ++ other_players groups.old))
             clock.old.sight standings.now }
         ensures others { (v : Visit)
             → NotIn v.caller (clock.old.caller ∷ callers_of (players.old ++ other_players groups.old))
             → IsWith J.world J.run.roster v clock.old.sight → IsWith J.world J.run.roster v clock.new.sight }
-        ensures clock { Advances J.world J.run.roster (visits (players.old ++ other_players groups.old))
+        ensures clock { Advances J.tasks J.world J.run.roster (visits (players.old ++ other_players groups.old))
             clock.old result clock.new }
         ensures players { AreBack J.world clock.new.now players.old players.new }
         ensures groups { GroupsAreBack J.world clock.new.now groups.old groups.new }

@@ -70,7 +70,7 @@ impl<J: Naming + Placing> Net<J, WorldActor<J>> {
         ensures same { IsSame guest.old guest.new }
         ensures names { guest.new.names ≡ guest.old.names }
         ensures turn { (d : AnyDuty) → slice_get guest.old.owed 0 ≡ Some d
-            → Takes J.world d.actor (work_of_duty d) (Some d.cites) guest.old result guest.new }
+            → Takes J.tasks J.world d.actor (work_of_duty d) (Some d.cites) guest.old result guest.new }
     {
         guest.bundle.serve(rt, gate, &self.locks)
     }
@@ -87,9 +87,9 @@ impl<J: Naming + Placing> Net<J, WorldActor<J>> {
         ensures same { IsSame guest.old guest.new }
         ensures names { guest.new.names ≡ guest.old.names }
         ensures duty { (d : AnyDuty) → slice_get guest.old.owed 0 ≡ Some d
-            → Takes J.world d.actor (work_of_duty d) (Some d.cites) guest.old result guest.new }
+            → Takes J.tasks J.world d.actor (work_of_duty d) (Some d.cites) guest.old result guest.new }
         ensures free { guest.old.owed ≡ []
-            → Takes J.world (name.Medium medium) (bare event.Take) None guest.old result guest.new }
+            → Takes J.tasks J.world (name.Medium medium) (bare event.Take) None guest.old result guest.new }
     {
         guest.bundle.courier_turn(rt, gate, &self.locks, medium)
     }
@@ -105,7 +105,7 @@ impl<J: Naming + Placing> Net<J, WorldActor<J>> {
         requires script { (s : AnyScript) × (caller_of J.world guest.old.caller ≡ IsScript s) }
         ensures same { IsSame guest.old guest.new }
         ensures turn { (s : AnyScript) → caller_of J.world guest.old.caller ≡ IsScript s
-            → Operated J.world s.host request.now guest.old result guest.new }
+            → Operated J.tasks J.world s.host request.now guest.old result guest.new }
     {
         guest
             .bundle
@@ -124,7 +124,7 @@ impl<J: Naming + Placing> Net<J, WorldActor<J>> {
         requires script { (s : AnyScript) × (caller_of J.world guest.old.caller ≡ IsScript s) }
         ensures same { IsSame guest.old guest.new }
         ensures turn { (s : AnyScript) → caller_of J.world guest.old.caller ≡ IsScript s
-            → Operated J.world s.host request guest.old result guest.new }
+            → Operated J.tasks J.world s.host request guest.old result guest.new }
     {
         guest
             .bundle
@@ -143,9 +143,9 @@ impl<J: Naming + Placing> Net<J, WorldActor<J>> {
         requires world { J.world ≡ world.now }
         requires is { IsWorld world.now }
         requires clock { caller_of J.world clock.old.caller ≡ IsClock }
-        requires all { AllStand J.world J.run.roster clock.old.sight standings.now }
+        requires all { AllStand J.tasks J.world J.run.roster clock.old.sight standings.now }
         ensures guests { IsOfGuests J.world J.run.roster clock.old.sight.seen }
-        ensures leaves { Leaves J.world J.run.roster clock.old result clock.new }
+        ensures leaves { Leaves J.tasks J.world J.run.roster clock.old result clock.new }
     {
         clock.bundle.decide(rt, gate, &self.locks, world, standings)
     }
@@ -153,7 +153,7 @@ impl<J: Naming + Placing> Net<J, WorldActor<J>> {
     /// The history, by the guests of all callers.
     pub fn finish(self, alloc: Global, guests: Vec<Guest<J>>) -> Result<History, AllocError>
         requires all { (c : ℕ) → c < J.run.roster.callers → HasGuest c guests.items }
-        ensures { IfOk result (Finished J.world guests.items) }
+        ensures { IfOk result (Finished J.tasks J.world guests.items) }
     {
         let books = self.finish_in_books(alloc, guests)?;
         books.into_history(alloc)
@@ -166,7 +166,7 @@ impl<J: Naming + Placing> Net<J, WorldActor<J>> {
         mut guests: Vec<Guest<J>>,
     ) -> Result<ClosedBooks, AllocError>
         requires all { (c : ℕ) → c < J.run.roster.callers → HasGuest c guests.items }
-        ensures { IfOk result (Finished J.world guests.items) }
+        ensures { IfOk result (Finished J.tasks J.world guests.items) }
     {
         histories_of_guests_are_legal();
         let Net { locks } = self;

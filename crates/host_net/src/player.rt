@@ -1,13 +1,12 @@
 //! Callers that are played.
-ghost use Rattle.std.specs.Prelude.{◌≡◌, ◌≢◌, ◌<◌, [], true, false, IfNone, IfSome, OnSome};
+ghost use Rattle.std.specs.Prelude.{◌≡◌, ◌≢◌, ◌<◌, [], None, true, false, IfNone, IfOk, IfSome, OnSome};
 ghost use Rattle.net_base.specs.declared.world.Script.{Script as AnyScript};
 ghost use Rattle.net_base.specs.Callers.{IsScript, caller_count, caller_of};
-ghost use Rattle.net_base.specs.Steps.{Play, no_names};
+ghost use Rattle.net_base.specs.Steps.{no_names};
 ghost use Rattle.net_base.specs.World.{IsWorld};
 ghost use Rattle.net_base.specs.Next.{zone_of};
-ghost use Rattle.script_task.specs.Rest.{Continues};
 ghost use Rattle.host_net.specs.Answering.{CannotTell, CanTell, IsAnswered};
-ghost use Rattle.host_net.specs.Playing.{Counts, HasRole, IsPlayed, IsSamePlayer, PlaysOn, Heard, Told, played_by};
+ghost use Rattle.host_net.specs.Playing.{Counts, HasRole, IsGoing, IsPlayed, IsSamePlayer, PlaysOn, Heard, Told, played_by};
 ghost use Rattle.net_locks.specs.Rosters.{IsRosterOf};
 ghost use Rattle.net_guests.specs.Visits.{IsFresh};
 ghost use Rattle.host_net.specs.declared.player.Role.TheVariants as role;
@@ -16,11 +15,11 @@ use crate::guest::Guest;
 use crate::net::Net;
 use guest_laws::{guests_begin, locks_keep_actors};
 use journal::Naming;
-use net_base::{ActorName, Reply, World};
+use net_base::{ActorName, Event, Reply, World};
 use net_locks::{Placing, Spot, Turn, WorldActor};
 use outside::Gate;
 use script_task::replies_fit;
-use std::alloc::Global;
+use std::alloc::{AllocError, Global};
 use std::marker::Model;
 use std::sync::Wait;
 use whole_script::WholeTask;
@@ -34,7 +33,7 @@ pub enum Role {
     Clock,
 }
 
-/// A caller that is played: its guest, and the task that a script is at. The task of another caller is never asked.
+/// A caller that is played: its guest, and the task that is played in the place of a script. The task of another caller is never asked.
 #[derive(Drop)]
 pub struct Player<J: Naming + Placing, T: WholeTask> {
     pub(crate) guest: Guest<J>,
@@ -58,21 +57,21 @@ impl<J: Naming + Placing, T: WholeTask> Model for Player<J, T> {
 
     ghost view = { λ p. record { visit = p.guest; role = p.role; task = p.task; lost = p.lost; counts = p.counts } };
 
-    ghost invariant = { λ p. IsPlayer T.Stands J.world p.guest p.role p.task p.lost
+    ghost invariant = { λ p. IsPlayer T.Goes J.tasks J.world p.guest p.role p.task p.lost
         × (p.counts ≡ true → IsCounted T.Plays J.world p.guest p.task p.lost p.before) };
 }
 
 impl<J: Naming + Placing, T: WholeTask> Player<J, T> {
-    /// The player of a caller to whom nothing has happened, with the task of its whole script. It doesn't tell how many steps
-    /// are answered.
-    #[tactic(auto, using(crate::proofs::Counting::counts_nothing))]
+    /// The player of a caller to whom nothing has happened, with what is played in the place of its script. It doesn't tell how many
+    /// steps are answered.
+    #[tactic(auto, using(crate::proofs::Counting::counts_nothing, crate::proofs::Counting::goes_fresh))]
     pub fn new(world: &World, guest: Guest<J>, task: T) -> Player<J, T>
         requires world { J.world ≡ world.now }
         requires is { IsWorld world.now }
         requires roster { IsRosterOf J.world J.run.roster }
         requires fresh { IsFresh (zone_of J.world) guest.caller guest }
         requires task { (s : AnyScript) → caller_of J.world guest.caller ≡ IsScript s
-            → (p : Play) × T.Stands s.host (no_names (zone_of J.world)) task p × Continues (zone_of J.world) s [] p }
+            → T.Goes (J.tasks guest.caller) (zone_of J.world) s [] (no_names (zone_of J.world)) task }
         ensures visit { result.visit ≡ guest }
         ensures role { HasRole J.world guest.caller result.role }
         ensures task { result.task ≡ task }
@@ -91,12 +90,14 @@ impl<J: Naming + Placing, T: WholeTask> Player<J, T> {
         }
     }
 
-    /// The same of a task that plays the script from its beginning, which tells that.
+    /// The same of a task that plays the script from its beginning, where no task is played in its place. It tells how many steps are
+    /// answered.
     pub fn counting(world: &World, guest: Guest<J>, task: T) -> Player<J, T>
         requires world { J.world ≡ world.now }
         requires is { IsWorld world.now }
         requires roster { IsRosterOf J.world J.run.roster }
         requires fresh { IsFresh (zone_of J.world) guest.caller guest }
+        requires script { J.tasks guest.caller ≡ None }
         requires plays { (s : AnyScript) → caller_of J.world guest.caller ≡ IsScript s
             → T.Plays (zone_of J.world) s [] (no_names (zone_of J.world)) task }
         ensures visit { result.visit ≡ guest }
@@ -159,7 +160,7 @@ impl<J: Naming + Placing, T: WholeTask + Drop> Player<J, T> {
     // The guest alone.
     pub(crate) fn into_guest(self) -> Guest<J>
         ensures same { result ≡ self.visit }
-        ensures plays { IsPlayed J.world result }
+        ensures plays { IsPlayed J.tasks J.world result }
     {
         let Player {
             guest,
@@ -171,6 +172,29 @@ impl<J: Naming + Placing, T: WholeTask + Drop> Player<J, T> {
             spot: _,
         } = self;
         guest
+    }
+}
+
+impl<J: Naming + Placing, T: WholeTask + Drop> Player<J, T> {
+    // The guest, and what was played, unless its last reply was lost for want of memory.
+    pub(crate) fn into_part(self) -> Result<(Guest<J>, T), AllocError>
+        ensures same { IfOk result (λ part. part ≡ (self.visit, self.task)) }
+        ensures plays { IfOk result (λ part. IsPlayed J.tasks J.world part.0) }
+        ensures goes { IfOk result (λ part. IsGoing T.Goes J.tasks J.world part) }
+    {
+        let Player {
+            guest,
+            role: _,
+            task,
+            lost,
+            before: _,
+            counts: _,
+            spot: _,
+        } = self;
+        if lost {
+            return Err(AllocError);
+        }
+        Ok((guest, task))
     }
 }
 
@@ -258,7 +282,7 @@ impl<J: Naming + Placing> Net<J, WorldActor<J>> {
         player: &mut Player<J, T>,
     ) -> Played
         ensures same { IsSamePlayer player.old player.new }
-        ensures turn { PlaysOn J.world player.old result player.new }
+        ensures turn { PlaysOn J.tasks J.world player.old result player.new }
     {
         if player.guest.owes() {
             return self.play_duty(rt, gate, player);
@@ -287,7 +311,7 @@ impl<J: Naming + Placing> Net<J, WorldActor<J>> {
     ) -> Played
         requires owes { player.old.visit.owed ≢ [] }
         ensures same { IsSamePlayer player.old player.new }
-        ensures turn { PlaysOn J.world player.old result player.new }
+        ensures turn { PlaysOn J.tasks J.world player.old result player.new }
     {
         player.spot = self.first_spot(&player.guest);
         played_of(&self.serve(rt, gate, &mut player.guest))
@@ -304,9 +328,9 @@ impl<J: Naming + Placing> Net<J, WorldActor<J>> {
         requires courier { player.old.role ≡ role.Courier medium }
         requires free { player.old.visit.owed ≡ [] }
         ensures same { IsSamePlayer player.old player.new }
-        ensures turn { PlaysOn J.world player.old result player.new }
+        ensures turn { PlaysOn J.tasks J.world player.old result player.new }
     {
-        player.spot = self.locks.spot_of(ActorName::Medium(medium));
+        player.spot = self.locks.spot_of(ActorName::Medium(medium), &Event::Take);
         played_of(&self.courier_turn(rt, gate, &mut player.guest, medium))
     }
 
@@ -321,7 +345,7 @@ impl<J: Naming + Placing> Net<J, WorldActor<J>> {
         requires script { player.old.role ≡ role.Script }
         requires free { player.old.visit.owed ≡ [] }
         ensures same { IsSamePlayer player.old player.new }
-        ensures turn { PlaysOn J.world player.old result player.new }
+        ensures turn { PlaysOn J.tasks J.world player.old result player.new }
     {
         let mut spot = Spot::nowhere();
         let played = self.play_task(rt, alloc, gate, player, &mut spot);
@@ -341,7 +365,7 @@ impl<J: Naming + Placing> Net<J, WorldActor<J>> {
         requires script { player.old.role ≡ role.Script }
         requires free { player.old.visit.owed ≡ [] }
         ensures same { IsSamePlayer player.old player.new }
-        ensures turn { PlaysOn J.world player.old result player.new }
+        ensures turn { PlaysOn J.tasks J.world player.old result player.new }
     {
         locks_keep_actors();
         replies_fit();

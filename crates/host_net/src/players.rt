@@ -9,7 +9,7 @@ ghost use Rattle.net_base.specs.Stamped.{In};
 ghost use Rattle.net_base.specs.Summary.{answered_steps};
 ghost use Rattle.host_net.specs.Answering.{AreAfter, CannotTellOf, IsAnsweredOf, SomeCannotTell};
 ghost use Rattle.host_net.specs.Groups.{AreWaiting, all_members, all_seats, caller, callers_of, dealt, joined, members, no_players, seat_of, seats, visits, with_last};
-ghost use Rattle.host_net.specs.Playing.{ArePlayed, IsSamePlayer, IsWaiting};
+ghost use Rattle.host_net.specs.Playing.{AreGoing, ArePlayed, IsSamePlayer, IsWaiting, guests_of};
 ghost use Rattle.net_guests.specs.Visits.{HasGuest};
 ghost use Rattle.host_net.specs.declared.player.Played.TheVariants as played;
 ghost use Rattle.host_net.specs.declared.player.Role.TheVariants as role;
@@ -201,7 +201,7 @@ impl<J: Naming + Placing, T: Task + Drop> Players<J, T> {
     /// The guests of all callers. What each of these recorded was its duties and what came next, and in time.
     pub fn into_guests(self, alloc: Global) -> Result<Vec<Guest<J>>, AllocError>
         ensures all { IfOk result (λ guests. (c : ℕ) → c < self.callers → HasGuest c guests.items) }
-        ensures plays { IfOk result (λ guests. ArePlayed J.world guests.items) }
+        ensures plays { IfOk result (λ guests. ArePlayed J.tasks J.world guests.items) }
         ensures same { IfOk result (λ guests. guests.items ≡ visits (all_members self.groups)) }
     {
         let Players {
@@ -217,6 +217,81 @@ impl<J: Naming + Placing, T: Task + Drop> Players<J, T> {
         }
         Ok(guests)
     }
+
+    /// The guests of all callers, each with what its player played. Where the last reply of one was lost for want of memory, this
+    /// finds none either.
+    pub fn into_parts(self, alloc: Global) -> Result<Vec<(Guest<J>, T)>, AllocError>
+        ensures all { IfOk result (λ parts. (c : ℕ) → c < self.callers → HasGuest c (guests_of parts.items)) }
+        ensures plays { IfOk result (λ parts. ArePlayed J.tasks J.world (guests_of parts.items)) }
+        ensures same { IfOk result (λ parts. guests_of parts.items ≡ visits (all_members self.groups)) }
+        ensures goes { IfOk result (λ parts. AreGoing T.Goes J.tasks J.world parts.items) }
+    {
+        let Players {
+            mut groups,
+            callers,
+            deal: _,
+            pace: _,
+        } = self;
+        let mut parts = Vec::with_capacity(alloc, callers)?;
+        groups.reverse();
+        while let Some(group) = groups.pop() {
+            add_parts(group, &mut parts)?;
+        }
+        Ok(parts)
+    }
+}
+
+// The players of a group join the others, each as its guest and what it played. One whose last reply was lost has none.
+fn add_parts<J: Naming + Placing, T: Task + Drop>(
+    group: Group<J, T>,
+    parts: &mut Vec<(Guest<J>, T)>,
+) -> Result<(), AllocError>
+    ensures same { OnOk result (guests_of parts.new.items ≡ guests_of parts.old.items ++ visits (members group)) }
+    ensures plays { OnOk result (ArePlayed J.tasks J.world (guests_of parts.old.items) → ArePlayed J.tasks J.world (guests_of parts.new.items)) }
+    ensures goes { OnOk result (AreGoing T.Goes J.tasks J.world parts.old.items → AreGoing T.Goes J.tasks J.world parts.new.items) }
+{
+    let Group {
+        players,
+        clock,
+        memory: _,
+    } = group;
+    add_player_parts(players, parts)?;
+    add_clock_part(clock, parts)?;
+    Ok(())
+}
+
+fn add_player_parts<J: Naming + Placing, T: Task + Drop>(
+    mut players: Vec<Player<J, T>>,
+    parts: &mut Vec<(Guest<J>, T)>,
+) -> Result<(), AllocError>
+    ensures same { OnOk result (guests_of parts.new.items ≡ guests_of parts.old.items ++ visits players.items) }
+    ensures plays { OnOk result (ArePlayed J.tasks J.world (guests_of parts.old.items) → ArePlayed J.tasks J.world (guests_of parts.new.items)) }
+    ensures goes { OnOk result (AreGoing T.Goes J.tasks J.world parts.old.items → AreGoing T.Goes J.tasks J.world parts.new.items) }
+{
+    players.reverse();
+    while let Some(player) = players.pop() {
+        let part = player.into_part()?;
+        parts.push(part)?;
+    }
+    Ok(())
+}
+
+fn add_clock_part<J: Naming + Placing, T: Task + Drop>(
+    clock: Option<Player<J, T>>,
+    parts: &mut Vec<(Guest<J>, T)>,
+) -> Result<(), AllocError>
+    ensures same { OnOk result (guests_of parts.new.items ≡ guests_of parts.old.items ++ visits (with_last [] clock)) }
+    ensures plays { OnOk result (ArePlayed J.tasks J.world (guests_of parts.old.items) → ArePlayed J.tasks J.world (guests_of parts.new.items)) }
+    ensures goes { OnOk result (AreGoing T.Goes J.tasks J.world parts.old.items → AreGoing T.Goes J.tasks J.world parts.new.items) }
+{
+    match clock {
+        Some(player) => {
+            let part = player.into_part()?;
+            parts.push(part)?;
+            Ok(())
+        }
+        None => Ok(()),
+    }
 }
 
 // The guests of a group join the others.
@@ -225,7 +300,7 @@ fn add_guests<J: Naming + Placing, T: Task + Drop>(
     guests: &mut Vec<Guest<J>>,
 ) -> Result<(), AllocError>
     ensures same { OnOk result (guests.new.items ≡ guests.old.items ++ visits (members group)) }
-    ensures plays { OnOk result (ArePlayed J.world guests.old.items → ArePlayed J.world guests.new.items) }
+    ensures plays { OnOk result (ArePlayed J.tasks J.world guests.old.items → ArePlayed J.tasks J.world guests.new.items) }
 {
     let Group {
         players,
@@ -242,7 +317,7 @@ fn add_players<J: Naming + Placing, T: Task + Drop>(
     guests: &mut Vec<Guest<J>>,
 ) -> Result<(), AllocError>
     ensures same { OnOk result (guests.new.items ≡ guests.old.items ++ visits players.items) }
-    ensures plays { OnOk result (ArePlayed J.world guests.old.items → ArePlayed J.world guests.new.items) }
+    ensures plays { OnOk result (ArePlayed J.tasks J.world guests.old.items → ArePlayed J.tasks J.world guests.new.items) }
 {
     players.reverse();
     while let Some(player) = players.pop() {
@@ -256,7 +331,7 @@ fn add_clock<J: Naming + Placing, T: Task + Drop>(
     guests: &mut Vec<Guest<J>>,
 ) -> Result<(), AllocError>
     ensures same { OnOk result (guests.new.items ≡ guests.old.items ++ visits (with_last [] clock)) }
-    ensures plays { OnOk result (ArePlayed J.world guests.old.items → ArePlayed J.world guests.new.items) }
+    ensures plays { OnOk result (ArePlayed J.tasks J.world guests.old.items → ArePlayed J.tasks J.world guests.new.items) }
 {
     match clock {
         Some(player) => {
@@ -325,7 +400,7 @@ impl<J: Naming + Placing> Net<J, WorldActor<J>> {
         ensures deal { players.new.deal ≡ players.old.deal }
         ensures seats { all_seats players.new.groups ≡ all_seats players.old.groups }
         ensures rest { list_any (λ g. g.memory) players.new.groups ≡ false
-            → AreWaiting J.world (all_members players.new.groups) }
+            → AreWaiting J.tasks J.world (all_members players.new.groups) }
     {
         self.play_groups(rt, alloc, gate, &mut players.pace, &mut players.groups);
     }
@@ -342,7 +417,7 @@ impl<J: Naming + Placing> Net<J, WorldActor<J>> {
     where
         J: Send + Sync,
         ensures seats { all_seats groups.new ≡ all_seats groups.old }
-        ensures rest { list_any (λ g. g.memory) groups.new ≡ false → AreWaiting J.world (all_members groups.new) }
+        ensures rest { list_any (λ g. g.memory) groups.new ≡ false → AreWaiting J.tasks J.world (all_members groups.new) }
     {
         pace.begin();
         for _ in rt.forever() {
@@ -412,7 +487,7 @@ impl<J: Naming + Placing> Net<J, WorldActor<J>> {
         going: &mut usize,
     ) -> Played
         ensures seats { all_seats groups.new ≡ all_seats groups.old }
-        ensures rest { round ≡ Whole → result ≡ played.Waits → AreWaiting J.world (all_members groups.new) }
+        ensures rest { round ≡ Whole → result ≡ played.Waits → AreWaiting J.tasks J.world (all_members groups.new) }
         ensures short { result ≡ played.Memory → list_any (λ g. g.memory) groups.new ≡ true }
     {
         match groups.split_first_mut() {
@@ -479,7 +554,7 @@ impl<J: Naming + Placing> Net<J, WorldActor<J>> {
         group: &mut Group<J, T>,
     )
         ensures seats { seats group.new ≡ seats group.old }
-        ensures rest { group.new.memory ≡ false → AreWaiting J.world (members group.new) }
+        ensures rest { group.new.memory ≡ false → AreWaiting J.tasks J.world (members group.new) }
     {
         for _ in rt.forever() {
             match self.play_round(rt, alloc, gate, Round::Whole, group) {
@@ -584,7 +659,7 @@ impl<J: Naming + Placing> Net<J, WorldActor<J>> {
         group: &mut Group<J, T>,
     ) -> Played
         ensures seats { seats group.new ≡ seats group.old }
-        ensures rest { round ≡ Whole → result ≡ played.Waits → AreWaiting J.world (members group.new) }
+        ensures rest { round ≡ Whole → result ≡ played.Waits → AreWaiting J.tasks J.world (members group.new) }
         ensures short { result ≡ played.Memory → group.new.memory ≡ true }
     {
         let others = self.play_each(rt, alloc, gate, round, &mut group.players);
@@ -605,7 +680,7 @@ impl<J: Naming + Placing> Net<J, WorldActor<J>> {
         players: &mut [Player<J, T>],
     ) -> Played
         ensures callers { callers_of players.new ≡ callers_of players.old }
-        ensures rest { round ≡ Whole → result ≡ played.Waits → AreWaiting J.world players.new }
+        ensures rest { round ≡ Whole → result ≡ played.Waits → AreWaiting J.tasks J.world players.new }
     {
         let mut turns = Played::Waits;
         let mut i = 0;
@@ -629,7 +704,7 @@ impl<J: Naming + Placing> Net<J, WorldActor<J>> {
     ) -> Played
         ensures caller { option_map caller clock.new ≡ option_map caller clock.old }
         ensures rest { round ≡ Whole → result ≡ played.Waits
-            → IfSome clock.new (λ p. IsWaiting J.world p.visit) }
+            → IfSome clock.new (λ p. IsWaiting J.tasks J.world p.visit) }
     {
         match clock {
             Some(player) => self.play_one(rt, alloc, gate, round, player),
@@ -647,7 +722,7 @@ impl<J: Naming + Placing> Net<J, WorldActor<J>> {
         player: &mut Player<J, T>,
     ) -> Played
         ensures same { IsSamePlayer player.old player.new }
-        ensures rest { round ≡ Whole → result ≡ played.Waits → IsWaiting J.world player.new.visit }
+        ensures rest { round ≡ Whole → result ≡ played.Waits → IsWaiting J.tasks J.world player.new.visit }
     {
         if round == Round::Brief && self.stands_still(player) {
             return Played::Waits;

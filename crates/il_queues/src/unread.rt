@@ -74,6 +74,10 @@ impl Unread {
         let Some(first) = self.texts.front() else {
             return Ok(None);
         };
+        if self.cut == 0 && first.len() <= count {
+            // a message that is read whole isn't copied
+            return Ok(self.texts.pop_front());
+        }
         let left = first.len() - self.cut;
         let text = Octets::from_slice(*self.texts.allocator(), self.peek(count))?;
         if count < left {

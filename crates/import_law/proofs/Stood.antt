@@ -11,11 +11,11 @@ use Rattle.net_base.specs.Callers.{Caller, IsScript, caller_of}
 use Rattle.net_base.specs.Duties.{Duty}
 use Rattle.net_base.specs.Legal.{IsAsked, IsLegal, MayFollow, asked_by, cites_of}
 use Rattle.net_base.specs.Net.{owed}
-use Rattle.net_base.specs.Next.{by, finished_by, next, next_of, own_replies, standing, zone_of}
+use Rattle.net_base.specs.Next.{by, finished_by, next, next_of, own_entries, own_replies, standing, zone_of}
 use Rattle.net_base.specs.Scripts.{at_first}
 use Rattle.history_laws.proofs.Histories.{by_entries}
 use Rattle.import_law.specs.ImportLaw.{StandsInOrder}
-use Rattle.import_law.specs.Order.{StandInOrder, own_entries}
+use Rattle.import_law.specs.Order.{StandInOrder}
 use Rattle.import_law.specs.Scripted.{scripted}
 use Rattle.import_law.proofs.Plays.{Stood, counted, none_stood, replies, stood_push}
 

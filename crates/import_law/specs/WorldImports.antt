@@ -38,7 +38,8 @@ pub record AllExported (w : World) (h : List Entry) (s : ℕ) (far : Script) (f 
 -- the requests that were served begin the calls, the replies begin what was answered, and each reply is the session's answer to its call
 abbrev pub AnsweredInOrder : (w : World) (h : List Entry) (c s : ℕ) (near far : Script) (e f : Conversation) → AllExported w h s far f → Type 0
 AnsweredInOrder w h c s near far e f x =
-    Served {S = Sharing} (exported far.host) (unheard x.span.kept.names) f (calls h c e (scripted (zone_of w) near) is_importing) (replies h c e (scripted (zone_of w) near) is_importing) x.span.entries
+    Served {S = Sharing} (exported far.host) (unheard x.span.kept.names) f (calls h c e (scripted (zone_of w) near) is_importing)
+    (replies h c e (scripted (zone_of w) near) is_importing) x.span.entries
 
 -- What a history has of calls that carry files: where two scripts are all that reads and writes at the ends of a call of IL, what is
 -- imported at the one end is what is answered at the other.

@@ -15,7 +15,7 @@ use Rattle.net_base.specs.declared.noted.Number.TheVariants as number
 use Rattle.net_base.specs.Stamped.{same_actor, matches, at, clock, latest, In}
 use Rattle.journal.specs.declared.law.Roster.{Roster}
 use Rattle.journal.specs.declared.law.View.{View}
-use Rattle.journal.specs.Rule.{Held, Fits, Lawful, IsAll, Known, has_caller, is_caller, Knows, Apart, Has, Kept, newcomer, caller_numbers, actor_numbers, same_number, without, only, longer, clock_of, both, spent, Looks, gain, Adds, MayAdd}
+use Rattle.journal.specs.Rule.{Held, Fits, Lawful, IsAll, Known, has_caller, is_caller, Knows, Apart, Has, Kept, newcomer, caller_numbers, actor_numbers, same_number, without, only, longer, clock_of, both, spent, Looks, gain, Adds, MayAdd, words_of}
 use Rattle.journal.proofs.Lists.{prefix_self, prefix_trans, prefix_shorter, prefix_snoc, at-snoc, between, last_split, in-append, in-left, in-right, in-gained, in-gain, snoc_get, longer_is, longer_left, longer_right}
 use Rattle.journal.proofs.Seats.{someone_here, someone_set, someone_split, someone_join}
 use Rattle.journal.proofs.Bounds.{lawful-short}
@@ -42,13 +42,13 @@ apart_set views id v w here fewer apart i j a b k es fs ea eb ia ib =
     (at_set views id i w a ea)
 
 -- a look
-pub looks : (r : Roster) (slots id : ℕ) (me : Me (Unit {0}) View) → Allows (Kept r) slots id me 0 (λ n. n) (λ found after. (after.1 ≡ me.1) × Looks r me.0 found after.0)
+pub looks : (r : Roster) (slots id : ℕ) (me : Me (Unit {0}) View) → Allows (Kept r) slots id me 8 (λ n. n) (λ found after. (after.1 ≡ me.1) × Looks r me.0 found after.0)
 looks r slots id me s kept wide here small =
     let v = me.0 in
     let log = kept.log in
     let own = kept.views id v here in
     let w : View = record { seen = log; olds = []; held = v.held; clock = v.clock; clocks = [] } in
-    let found : slice_index s.words 0 ≡ length log = ap (λ (l : List ℕ). slice_index l 0) kept.word in
+    let found : slice_index s.words 8 ≡ length log = ap (λ (l : List ℕ). slice_index l 8) kept.word in
     let known : Knows r log w = record {
       seen = prefix_self log;
       olds = λ old i. absurd i;
@@ -129,7 +129,7 @@ unmoved log x k e = sym (at-snoc k log x ∙ ap (λ (b : Bool). if b then at k l
 
 -- a record
 pub adds : (r : Roster) (slots id : ℕ) (me : Me (Unit {0}) View) (x : Noted) → MayAdd r me.0 x
-    → Allows (Kept r) slots id me 0 (λ n. (n + 1) % 2 ^ 64) (λ found after. (after.1 ≡ me.1) × Adds r x me.0 found after.0)
+    → Allows (Kept r) slots id me 8 (λ n. (n + 1) % 2 ^ 64) (λ found after. (after.1 ≡ me.1) × Adds r x me.0 found after.0)
 adds r slots id me x may s kept wide here small =
     let v = me.0 in
     let cs = may.of_caller in
@@ -146,7 +146,7 @@ adds r slots id me x may s kept wide here small =
     let holds : has_caller v.held ≡ true = in_has_caller v.held x.entry.caller cs caller in
     let next : List Noted = log ++ x ∷ [] in
     let w : View = record { seen = next; olds = []; held = map (gain n x) v.held; clock = (gain n x (clock, v.clock)).1; clocks = [] } in
-    let found : slice_index s.words 0 ≡ n = ap (λ (l : List ℕ). slice_index l 0) kept.word in
+    let found : slice_index s.words 8 ≡ n = ap (λ (l : List ℕ). slice_index l 8) kept.word in
     let c_is = own.lists (number.Caller x.entry.caller) cs caller in
     let a_is = own.lists (number.Actor x.entry.actor) as' actor in
     let t_is = own.clock_is holds in
@@ -188,7 +188,7 @@ adds r slots id me x may s kept wide here small =
       record {
         log = next;
         few = kept.few;
-        word = rw (found, kept.word) (ap (λ (m : ℕ). m ∷ []) up);
+        word = rw (found, kept.word) (ap words_of up);
         views = views_set r next s.views id w known others;
         front = someone_here (λ z. z.seen ≡ next) s.views id v w here refl;
         apart = apart_set s.views id v w here (λ k es i. let t = in-gained n x v.held k es i in (t.0, t.1)) kept.apart;
@@ -424,7 +424,7 @@ in-actors (b ∷ as') a (inl e) = inl (ap (λ (d : ActorName). (number.Actor d, 
 in-actors (b ∷ as') a (inr i) = inr (in-actors as' a i)
 
 -- the first seat
-pub opens : (r : Roster) → r.callers ≤ 37 → Kept r record { words = 0 ∷ []; homes = []; views = newcomer r ∷ [] }
+pub opens : (r : Roster) → r.callers ≤ 37 → Kept r record { words = words_of 0; homes = []; views = newcomer r ∷ [] }
 opens r few = record {
   log = [];
   few = few;

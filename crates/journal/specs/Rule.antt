@@ -82,12 +82,16 @@ abbrev pub Apart : List View → Type 0
 Apart views = (i j : ℕ) (v w : View) (k : Number) (es fs : List (ℕ × Noted)) →
     get_elem? views i ≡ some v → get_elem? views j ≡ some w → In (k, es) v.held → In (k, fs) w.held → i ≡ j
 
+-- the words where the length of the history is this: it stands in the ninth, a line of a cache behind the first
+abbrev pub words_of : ℕ → List ℕ
+words_of n = 0 ∷ 0 ∷ 0 ∷ 0 ∷ 0 ∷ 0 ∷ 0 ∷ 0 ∷ n ∷ 0 ∷ 0 ∷ 0 ∷ 0 ∷ 0 ∷ 0 ∷ 0 ∷ []
+
 -- there is a history, whose length is the word. Each seat knows a beginning of it, and one knows the whole. Each number is
 -- held by one seat
 pub record Kept (r : Roster) (s : State (Unit {0}) View) : Type 0 where
   pub log : List Noted
   pub few : r.callers ≤ 37
-  pub word : s.words ≡ length log ∷ []
+  pub word : s.words ≡ words_of (length log)
   pub views : (i : ℕ) (v : View) → get_elem? s.views i ≡ some v → Knows r log v
   pub front : Someone (λ v. v.seen ≡ log) s.views
   pub apart : Apart s.views

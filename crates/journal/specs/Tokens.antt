@@ -167,7 +167,7 @@ pub record Dealt (callers : ℕ) (actors : List ActorName) (i : ℕ) (v : View) 
 pub record IsOpened (id : TableId) (r : Roster) (s : Seat (Unit {0}) View) (actors : List ActorName) : Type 0 where
   pub seat : IsSeat id s
   pub view_is : s.me.0 ≡ newcomer r
-  pub words : id.words ≡ 1
+  pub words : id.words ≡ 16
   pub slots : id.slots ≡ 0
   pub actors_are : actors ≡ r.actors
   pub few : r.callers ≤ 37

@@ -5,7 +5,7 @@ ghost use Rattle.journal.specs.Tokens.{Distinct, AreBlank};
 
 use crate::law::{Law, Naming, Roster, View};
 use crate::tokens::{Book, Pass};
-use crate::word::{Journal, Token};
+use crate::word::{Journal, Token, WORDS};
 use atomic_table::Table;
 use net_base::{ActorList, ActorName, Number};
 use std::alloc::{AllocError, Global};
@@ -40,7 +40,7 @@ impl Opened {
             callers: u64::from(callers),
             actors: actors.clone()?,
         };
-        let (table, seat) = Table::of_words(alloc, &[0], &roster)?;
+        let (table, seat) = Table::of_words(alloc, &[0; WORDS], &roster)?;
         let Roster { callers: _, actors } = roster;
         Ok(Opened {
             table,

@@ -10,14 +10,21 @@ use std::marker::PhantomData;
 
 pub(crate) type Token = Seat<(), View>;
 
-/// The word that all threads share: the length of the history.
+/// How many words the table has: as many as two lines of a processor's cache.
+pub(crate) const WORDS: usize = 16;
+
+// Which of them is the length of the history. Splits and joins of seats read the first word, and no line that has that is
+// ever written.
+const COUNT: usize = 8;
+
+/// The word that all threads share: the length of the history. It stands among others that stay 0.
 #[derive(Drop)]
 pub struct Journal<J: Naming> {
     pub(crate) table: Table<(), View, Roster, Law, Global>,
     pub(crate) of: PhantomData<J>,
     ghost table_is: { table.shared.table_id ≡ J.run.table },
     ghost roster_is: { table.shared.key ≡ J.run.roster },
-    ghost words: { table.shared.table_id.words ≡ 1 },
+    ghost words: { table.shared.table_id.words ≡ 16 },
     ghost no_slots: { table.shared.table_id.slots ≡ 0 },
 }
 
@@ -28,7 +35,7 @@ impl<J: Naming> Journal<J> {
         ensures seat { IsSeat J.run.table seat.new }
         ensures seen { Looks J.run.roster seat.old.me.0 result seat.new.me.0 }
     {
-        self.table.shared.load::<Look<J>>(seat, 0)
+        self.table.shared.load::<Look<J>>(seat, COUNT)
     }
 
     // The one step that changes the history. The entry and its work are named for the proof alone.
@@ -39,7 +46,7 @@ impl<J: Naming> Journal<J> {
         ensures seat { IsSeat J.run.table seat.new }
         ensures added { Adds J.run.roster E.noted seat.old.me.0 result seat.new.me.0 }
     {
-        self.table.shared.fetch_add::<Add<J, E>>(seat, 0, 1)
+        self.table.shared.fetch_add::<Add<J, E>>(seat, COUNT, 1)
     }
 
     // Hands a number over to a new seat.

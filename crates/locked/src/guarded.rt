@@ -20,6 +20,15 @@ pub enum Answer {
     Memory,
 }
 
+/// What a caller asks of an actor: that it does a work now, for what it cites.
+#[derive(Clone, Copy)]
+pub struct Asked<'a> {
+    pub caller: u32,
+    pub now: u64,
+    pub work: &'a Work,
+    pub cites: Option<u64>,
+}
+
 /// What was seen of an actor, at the front that the pass has then seen.
 #[derive(Clone, Copy, Debug, PartialEq, Eq)]
 pub struct View {
@@ -70,38 +79,28 @@ impl<J: Naming, M: Machine> Guarded<J, M> {
         journal: &Journal<J>,
         gate: &G,
         pass: &mut Pass<J>,
-        caller: u32,
-        now: u64,
-        work: &Work,
+        asked: Asked<'_>,
         event: Event,
-        cites: Option<u64>,
     ) -> Answer
-        requires copy { event ≡ work.now.event }
-        requires room { (es : List (ℕ × Noted)) × Holds pass.old caller es × (length es < 131072) }
-        requires moment { now ≡ moment pass.old.seen }
-        requires now { now < 2 ^ 63 }
+        requires copy { event ≡ asked.work.now.event }
+        requires room { (es : List (ℕ × Noted)) × Holds pass.old asked.caller es × (length es < 131072) }
+        requires moment { asked.now ≡ moment pass.old.seen }
+        requires now { asked.now < 2 ^ 63 }
         requires timely { IsTimely J.run.roster self.old.actor pass.old }
-        ensures acted { Acted M.begin M.answer J.run.roster self.old.actor caller now work.now cites
-            pass.old result pass.new }
-        ensures book { Leaves self.old.actor caller now work.now cites self.old result pass.new self.new }
+        ensures acted { Acted M.begin M.answer J.run.roster self.old.actor asked.entry.caller asked.entry.now
+            asked.entry.work.now asked.entry.cites pass.old result pass.new }
+        ensures book { Leaves self.old.actor asked.entry.caller asked.entry.now
+            asked.entry.work.now asked.entry.cites self.old result pass.new self.new }
         ensures actor { (self.new.actor ≡ self.old.actor) × (self.new.number ≡ self.old.number) }
     {
-        if !self.machine.ready(now, work) {
+        if !self.machine.ready(asked.now, asked.work) {
             let front = journal.look_with(&mut self.book, pass);
             return Answer::NotReady { front };
         }
-        match prepare(
-            &mut self.machine,
-            &mut self.book,
-            caller,
-            now,
-            work,
-            event,
-            cites,
-        ) {
+        match prepare(&mut self.machine, &mut self.book, asked, event) {
             Ok((entry, outcome)) => {
                 gate.at(2 * self.book.number());
-                let stamp = record(journal, &mut self.book, pass, entry, work);
+                let stamp = record(journal, &mut self.book, pass, entry, asked.work);
                 Answer::Done { stamp, outcome }
             }
             Err(AllocError) => Answer::Memory,
@@ -151,52 +150,39 @@ impl<J: Naming, M: Machine> Guarded<J, M> {
 fn prepare<J: Naming, M: Machine>(
     machine: &mut M,
     book: &mut Book<J>,
-    caller: u32,
-    now: u64,
-    work: &Work,
+    asked: Asked<'_>,
     event: Event,
-    cites: Option<u64>,
 ) -> Result<(Entry, Outcome), AllocError>
-    requires copy { event ≡ work.now.event }
+    requires copy { event ≡ asked.work.now.event }
     requires stands { Stands M.begin M.answer machine.old book.old }
-    requires ready { is_some (M.answer machine.old now work.now) ≡ true }
-    requires now { now < 2 ^ 63 }
+    requires ready { is_some (M.answer machine.old asked.now asked.work.now) ≡ true }
+    requires now { asked.now < 2 ^ 63 }
     ensures book { (book.new.actor ≡ book.old.actor) × (book.new.number ≡ book.old.number)
         × (book.new.seen ≡ book.old.seen) × (book.new.list ≡ book.old.list) }
     ensures ok { IfOk result (λ r. (0 < book.new.room)
-        × (o : Outcome) × (M.answer machine.old now work.now ≡ Some record { state = machine.new; outcome = o })
-        × (r.1 ≡ without_copy o) × (r.0 ≡ (made book.old.actor caller now work.now cites o).entry)) }
+        × (o : Outcome) × (M.answer machine.old asked.entry.now asked.entry.work.now ≡ Some record { state = machine.new; outcome = o })
+        × (r.1 ≡ without_copy o) × (r.0 ≡ (made book.old.actor asked.entry.caller asked.entry.now
+        asked.entry.work.now asked.entry.cites o).entry)) }
     ensures err { OnErr result (machine.new ≡ machine.old) }
 {
     book.reserve()?;
-    let Outcome {
-        reply,
-        copy,
-        emit,
-        taken,
-        ended,
-    } = machine.step(now, work)?;
-    let Some(copy) = copy else { unreachable!() };
-    let emits = match &emit {
+    let mut outcome = machine.step(asked.now, asked.work)?;
+    let Some(copy) = outcome.copy.take() else {
+        unreachable!()
+    };
+    let emits = match &outcome.emit {
         Some(packet) => Some(packet.header()),
         None => None,
     };
     let entry = Entry {
         actor: book.actor(),
-        caller,
-        moment: now,
+        caller: asked.caller,
+        moment: asked.now,
         event,
-        cites,
+        cites: asked.cites,
         reply: copy,
         emits,
-        ended,
-    };
-    let outcome = Outcome {
-        reply,
-        copy: None,
-        emit,
-        taken,
-        ended,
+        ended: outcome.ended,
     };
     Ok((entry, outcome))
 }

@@ -5,6 +5,6 @@ mod guarded;
 mod lock;
 mod machine;
 
-pub use guarded::{Answer, Guarded, View};
+pub use guarded::{Answer, Asked, Guarded, View};
 pub use lock::Locked;
 pub use machine::Machine;

@@ -6,7 +6,7 @@ ghost use Rattle.net_base.specs.Stamped.{same_actor, moment};
 ghost use Rattle.journal.specs.Tokens.{Holds, HoldsAll, Looked};
 ghost use Rattle.locked.specs.Acts.{Acted, IsTimely, Stands, state_at};
 
-use crate::guarded::{Answer, Guarded, View};
+use crate::guarded::{Answer, Asked, Guarded, View};
 use crate::machine::Machine;
 use journal::{Book, Journal, Naming, Pass};
 use net_base::{ActorName, Work, same_actor};
@@ -47,6 +47,13 @@ impl<J: Naming, M: Machine> Locked<J, M> {
         self.actor
     }
 
+    /// The actor's place in the list of actors.
+    pub fn number(&self) -> u32
+        ensures { result ≡ self.now.number }
+    {
+        self.number
+    }
+
     /// One event at the actor by the caller. Two calls of the gate are made where it is recorded, inside the lock before
     /// the record and after the lock.
     pub fn act<R: Wait, G: Gate>(
@@ -67,7 +74,13 @@ impl<J: Naming, M: Machine> Locked<J, M> {
         ensures { Acted M.begin M.answer J.run.roster self.now.actor caller now work.now cites
             pass.old result pass.new }
     {
-        self.act_timely(rt, journal, gate, pass, caller, now, work, cites)
+        let asked = Asked {
+            caller,
+            now,
+            work,
+            cites,
+        };
+        self.act_timely(rt, journal, gate, pass, asked)
     }
 
     /// One event at the clock, by a pass that holds every caller's number.
@@ -89,7 +102,13 @@ impl<J: Naming, M: Machine> Locked<J, M> {
         ensures { Acted M.begin M.answer J.run.roster self.now.actor caller now work.now cites
             pass.old result pass.new }
     {
-        self.act_timely(rt, journal, gate, pass, caller, now, work, cites)
+        let asked = Asked {
+            caller,
+            now,
+            work,
+            cites,
+        };
+        self.act_timely(rt, journal, gate, pass, asked)
     }
 
     // One event at the actor, which isn't the clock, or by a pass that holds every caller's number.
@@ -99,20 +118,17 @@ impl<J: Naming, M: Machine> Locked<J, M> {
         journal: &Journal<J>,
         gate: &G,
         pass: &mut Pass<J>,
-        caller: u32,
-        now: u64,
-        work: &Work,
-        cites: Option<u64>,
+        asked: Asked<'_>,
     ) -> Answer
-        requires room { (es : List (ℕ × Noted)) × Holds pass.old caller es × (length es < 131072) }
-        requires moment { now ≡ moment pass.old.seen }
-        requires now { now < 2 ^ 63 }
+        requires room { (es : List (ℕ × Noted)) × Holds pass.old asked.caller es × (length es < 131072) }
+        requires moment { asked.now ≡ moment pass.old.seen }
+        requires now { asked.now < 2 ^ 63 }
         requires timely { IsTimely J.run.roster self.now.actor pass.old }
-        ensures { Acted M.begin M.answer J.run.roster self.now.actor caller now work.now cites
-            pass.old result pass.new }
+        ensures { Acted M.begin M.answer J.run.roster self.now.actor asked.entry.caller asked.entry.now
+            asked.entry.work.now asked.entry.cites pass.old result pass.new }
     {
         // The copy that the entry keeps is made before the lock is taken.
-        let Ok(event) = work.event.clone() else {
+        let Ok(event) = asked.work.event.clone() else {
             return Answer::Memory;
         };
         let answer = {
@@ -120,7 +136,7 @@ impl<J: Naming, M: Machine> Locked<J, M> {
             let guarded = &mut *guard;
             // Nothing is known of what lies behind a lock but its type, so the actor is compared here. It is always this one.
             if same_actor(guarded.actor(), self.actor) {
-                guarded.act(journal, gate, pass, caller, now, work, event, cites)
+                guarded.act(journal, gate, pass, asked, event)
             } else {
                 Answer::Memory
             }

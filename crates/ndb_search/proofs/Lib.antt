@@ -1,3 +1,2 @@
 pub mod Nearest
-pub mod FoundNumbers
 pub mod Owned

@@ -1,8 +1,9 @@
+pub mod Behind
 pub mod Copied
 pub mod Covered
-pub mod NonEmpty
 pub mod Firsts
 pub mod Found
+pub mod FoundNumbers
 pub mod Lists
+pub mod NonEmpty
 pub mod Pieces
-pub mod Behind

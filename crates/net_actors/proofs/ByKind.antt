@@ -1,8 +1,8 @@
 -- What an actor keeps answers as the actor of the definitions.
-use Rattle.std.proofs.Common.{◌≡◌, ℕ, Bool, true, List, Option, Some, None, Result, Ok, Err, IfOk, OnErr, slice_get, is_some, bytes_eq, codes, nat_le, refl, ap, sym, subst, ◌∙◌}
+use Rattle.std.proofs.Common.{◌≡◌, ℕ, Bool, true, List, Option, Some, None, Result, Ok, Err, IfOk, OnErr, slice_get, is_some, refl, ap, sym, subst, ◌∙◌}
 use Rattle.std.specs.Prelude.{IfSome}
 use Rattle.std.specs.Option.{option_map, option_and_then}
-use Rattle.std.proofs.lemmas.Bool.{cond_both, false≢true}
+use Rattle.std.proofs.lemmas.Bool.{false≢true}
 use Rattle.std.proofs.lemmas.Option.{none-some, same_Some}
 use Rattle.net_base.specs.declared.actor.ActorName.{ActorName}
 use Rattle.net_base.specs.declared.actor.ActorName.TheVariants as name
@@ -11,8 +11,6 @@ use Rattle.net_base.specs.declared.event.Event.{Event}
 use Rattle.net_base.specs.declared.event.Event.TheVariants as event
 use Rattle.net_base.specs.declared.history.Outcome.{Outcome}
 use Rattle.net_base.specs.declared.history.Work.{Work}
-use Rattle.net_base.specs.declared.names.Mode.{Mode}
-use Rattle.net_base.specs.declared.names.Node.{Node}
 use Rattle.net_base.specs.declared.reply.Reply.{Reply}
 use Rattle.net_base.specs.declared.world.HostSpec.{HostSpec}
 use Rattle.net_base.specs.declared.world.MediumSpec.{MediumSpec}
@@ -21,12 +19,11 @@ use Rattle.net_base.specs.declared.world.World.{World}
 use Rattle.net_base.specs.ActorStep.{Step, replies, when}
 use Rattle.net_base.specs.Actors.{Actor, IsDesk, IsConv, IsDir, IsMedium, IsPlain, actor_step, has_actor, plain_step, step_as, table_step}
 use Rattle.net_base.specs.Conversation.{Conv, conv_step}
-use Rattle.net_base.specs.Cs.{CsAnswer, Lines, Refused, cs_list}
-use Rattle.net_base.specs.Desk.{Desk, clock_reply, cs_reply, desk_after, desk_replies, desk_reply, desk_step, ls_reply, open_refusal}
+use Rattle.net_base.specs.Cs.{cs_list}
+use Rattle.net_base.specs.Desk.{Desk, clock_reply, cs_reply, desk_after, desk_replies, desk_reply, desk_step}
 use Rattle.net_base.specs.Directory.{dir_step}
 use Rattle.net_base.specs.Duties.{due_of_core}
 use Rattle.net_base.specs.Medium.{medium_step}
-use Rattle.net_base.specs.Paths.{may_open, walk}
 use Rattle.net_base.specs.Versions.{database_of}
 use Rattle.conversation.specs.Kept.{Seat}
 use Rattle.conversation.specs.Memory.{work_takes}
@@ -40,7 +37,8 @@ use Rattle.net_actors.specs.Stepping.{IsReady, KindSteps, Steps, kind_ready}
 use Rattle.net_actors.specs.declared.actor.Actor.{Actor as Kept}
 use Rattle.net_actors.specs.declared.kind.Kind.{Kind}
 use Rattle.net_actors.specs.declared.kind.Kind.TheVariants as kind
-use Rattle.net_actors.proofs.Copied.{copied, desk_copies, dir_copies, medium_copies}
+use Rattle.table_laws.specs.ActorRows.{DeskRow, Refreshes}
+use Rattle.table_laws.proofs.Shared.{desk_rows, map_some, table_copies}
 
 some_map : {A B : Type 0} (f : A → B) (t : Option A) → is_some t ≡ is_some (option_map f t)
 some_map f None = refl
@@ -71,30 +69,16 @@ desk_keeps w h d n keeps = record { databases = keeps.databases; host = at_versi
 
 -- Only a version that is replied changes a desk.
 
-cs_stays : (answer : CsAnswer) (d : Desk) → desk_after (cs_reply answer) d ≡ d
-cs_stays (Lines lines) d = refl
-cs_stays (Refused n) d = refl
-
-ls_stays : (path : List ℕ) (d : Desk) → desk_after (ls_reply path) d ≡ d
-ls_stays path d = cond_both (bytes_eq path (codes "/net")) _ _ (λ (r : Reply). desk_after r d ≡ d) (λ _. refl) (λ _. refl)
+row_stays : (dbs : List Version) (h : HostSpec) (now : ℕ) (d : Desk) (e : Event) (r : Reply) → leaves_desk e ≡ true → DeskRow dbs h now d e r → desk_after r d ≡ d
+row_stays dbs h now d e r leaves Refreshes = absurd (false≢true leaves)
+row_stays dbs h now d e r leaves _ = refl
 
 -- where there is a reply, it leaves the desk
 abbrev Stays : Desk → Option Reply → Type 0
 Stays d o = IfSome o (λ r. desk_after r d ≡ d)
 
-open_stays : (n : Option Node) (mode : Mode) (d : Desk) → Stays d (open_refusal n mode)
-open_stays None mode d = refl
-open_stays (Some n) mode d = cond_both (may_open n mode) _ _ (λ (o : Option Reply). Stays d o) (λ _. tt) (λ _. refl)
-
 reply_stays : (dbs : List Version) (h : HostSpec) (e : Event) (now : ℕ) (d : Desk) → leaves_desk e ≡ true → Stays d (desk_reply dbs h e now d)
-reply_stays dbs h (event.Cs query) now d leaves = cs_stays (cs_list (database_of dbs d.version) h.name h.nets query) d
-reply_stays dbs h (event.LsPath path) now d leaves = ls_stays path d
-reply_stays dbs h (event.OpenPath path mode) now d leaves = open_stays (walk path) mode d
-reply_stays dbs h (event.Use called) now d leaves = refl
-reply_stays dbs h (event.Misuse called) now d leaves = refl
-reply_stays dbs h (event.Until moment) now d leaves = cond_both (nat_le moment now) _ _ (λ (o : Option Reply). Stays d o) (λ _. refl) (λ _. tt)
-reply_stays dbs h event.Refresh now d leaves = absurd (false≢true leaves)
-reply_stays dbs h _ now d leaves = tt
+reply_stays dbs h e now d leaves = map_some (desk_reply dbs h e now d) _ _ (desk_rows dbs h now d e) (λ r row. row_stays dbs h now d e r leaves row)
 
 desk_gives : (d : Desk) (answer : Option Reply) (o : Outcome) → Stays d answer → Replies answer o → option_map (desk_replies d) answer ≡ Some (record { state = d; outcome = o })
 desk_gives d None o stays is = absurd (none-some _ is)
@@ -118,10 +102,6 @@ told_steps (Err why) dbs h e now d leaves is = tt
 plain_gives : (answer : Option Reply) (o : Outcome) → Replies answer o → option_map plain_step answer ≡ Some (record { state = IsPlain; outcome = o })
 plain_gives None o is = absurd (none-some _ is)
 plain_gives (Some r) o is = ap (λ (x : Outcome). Some (record { state = IsPlain; outcome = x })) (same_Some (replies r None) o is)
-
-plain_copies : (answer : Option Reply) (o : Outcome) → Replies answer o → o.copy ≡ Some o.reply
-plain_copies None o is = absurd (none-some _ is)
-plain_copies (Some r) o is = subst (λ (x : Outcome). x.copy ≡ Some x.reply) (same_Some (replies r None) o is) refl
 
 -- Conversations.
 
@@ -238,25 +218,10 @@ steps_in a l now work o s w of =
     record { of_world = (of.0, t.0); step = in_world w a.name (seen a.kind) now work of.0 ∙ t.1 }
 
 -- an outcome of what is kept has its reply twice
-kind_copies : (w : World) (a : ActorName) (k l : Kind) (now : ℕ) (work : Work) (o : Outcome) → Keeps w a k → KindSteps k l now work o → o.copy ≡ Some o.reply
-kind_copies w (name.Desk h) (kind.Desk d) (kind.Desk e) now work o keeps s =
-    copied (desk_step d.dbs (host_of d) work.event now (desk_at d)) (desk_at e) o s.step (desk_copies (desk_at d) (desk_reply d.dbs (host_of d) work.event now (desk_at d)))
-kind_copies w (name.Dir h p) (kind.Dir d) (kind.Dir e) now work o keeps s =
-    copied (dir_step w h p work.event work.with d.dir) e.dir o (s w h p keeps).1 (dir_copies w h p work.event work.with d.dir)
-kind_copies w (name.Conv h p n) (kind.Conv c) (kind.Conv d) now work o keeps s = s.copy
-kind_copies w (name.Medium n) (kind.Medium m) (kind.Medium l) now work o keeps s =
-    copied (medium_step m.spec m.seed work.event work.with (medium_of m)) (medium_of l) o s.step (medium_copies m.spec m.seed work.event work.with (medium_of m))
-kind_copies w name.Clock kind.Clock kind.Clock now work o keeps s = plain_copies (clock_reply work.event) o s
-kind_copies w (name.Desk h) (kind.Desk d) _ now work o keeps s = absurd s
-kind_copies w (name.Dir h p) (kind.Dir d) _ now work o keeps s = absurd s
-kind_copies w (name.Conv h p n) (kind.Conv c) _ now work o keeps s = absurd s
-kind_copies w (name.Medium n) (kind.Medium m) _ now work o keeps s = absurd s
-kind_copies w name.Clock kind.Clock _ now work o keeps s = absurd s
-kind_copies w _ _ _ now work o keeps s = absurd keeps
-
 copy_of : (a : Kept) (l : Kind) (now : ℕ) (work : Work) (o : Outcome) → IsReady a now work → KindSteps a.kind l now work o → o.copy ≡ Some o.reply
 unfolding IsActorOf
-copy_of a l now work o r s = kind_copies r.0 a.name a.kind l now work o r.1.1 s
+copy_of a l now work o r s =
+    table_copies r.0 a.name (seen a.kind) (seen l) now work o (table_steps r.0 a.name a.kind l now work o r.1.1 s).1
 
 pub steps_if : {E : Type 0} (r : Result Outcome E) (a : Kept) (l : Kind) (now : ℕ) (work : Work) → IfOk r (KindSteps a.kind l now work) → IfOk r (Steps a (record { name = a.name; kind = l }) now work)
 steps_if (Ok o) a l now work is = steps_in a l now work o is

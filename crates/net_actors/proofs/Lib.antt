@@ -1,5 +1,4 @@
 pub mod ByKind
-pub mod Copied
 pub mod DuesOf
 pub mod FewWorks
 pub mod InForce

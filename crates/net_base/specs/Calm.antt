@@ -1,4 +1,5 @@
--- When the clock may move and to which moment, and how a run ends.
+-- When the clock may move and to which moment, and how a run ends: by who plays a task in the place of a script, and at the end where
+-- nobody does.
 use Rattle.std.specs.Prelude.{ℕ, ◌++◌, ◌==◌, ◌&&◌, ◌||◌, Bool, true, false, not, List, [], ◌∷◌, length, min, Option, Some, None, is_some, nat_lt, filter_map}
 use Rattle.std.specs.List.{list_any, list_all, range_with_len, enumerate_from}
 use Rattle.net_base.specs.declared.actor.ActorName.{ActorName}
@@ -12,8 +13,9 @@ use Rattle.net_base.specs.Actors.{Actor, IsMedium, actor_step}
 use Rattle.net_base.specs.Callers.{Caller, IsClock, caller_of, caller_count}
 use Rattle.net_base.specs.Duties.{conversations, due_of}
 use Rattle.net_base.specs.Net.{Net}
-use Rattle.net_base.specs.Next.{by, next_of, is_unfinished}
+use Rattle.net_base.specs.Next.{by, next_of_by, is_unfinished_by}
 use Rattle.net_base.specs.Steps.{Ask}
+use Rattle.net_base.specs.Tasks.{Tasks, nobody}
 
 -- The calm. Each of these speaks of a net that stands after a history.
 
@@ -26,8 +28,8 @@ is_ready w net None = false
 is_ready w net (Some ask) = is_some (actor_step w ask.actor (net.actors ask.actor) net.moment (record { event = ask.event; with = given.Nothing }))
 
 -- a caller's next event is ready
-abbrev pub can_go_on : World → Net → ℕ → Bool
-can_go_on w net c = is_ready w net (next_of w (caller_of w c) net.past c)
+abbrev pub can_go_on_by : Tasks → World → Net → ℕ → Bool
+can_go_on_by ts w net c = is_ready w net (next_of_by ts w (caller_of w c) net.past c)
 
 -- the numbers of all callers
 abbrev pub callers : World → List ℕ
@@ -44,22 +46,22 @@ is_quiet _ = true
 abbrev pub nothing_pending : World → Net → Bool
 nothing_pending w net = list_all (λ (m : ℕ). is_quiet (net.actors (name.Medium m))) (range_with_len 0 (length w.media))
 
--- no script's next event is ready
-abbrev pub scripts_wait : World → Net → Bool
-scripts_wait w net = list_all (λ (c : ℕ). not (can_go_on w net c)) (range_with_len 0 (length w.scripts))
+-- of no script or task is the next event ready
+abbrev pub scripts_wait_by : Tasks → World → Net → Bool
+scripts_wait_by ts w net = list_all (λ (c : ℕ). not (can_go_on_by ts w net c)) (range_with_len 0 (length w.scripts))
 
-abbrev pub calm : World → Net → Bool
-calm w net = nothing_owed w net && (nothing_pending w net && scripts_wait w net)
+abbrev pub calm_by : Tasks → World → Net → Bool
+calm_by ts w net = nothing_owed w net && (nothing_pending w net && scripts_wait_by ts w net)
 
--- some script isn't through
-abbrev pub unfinished : World → Net → Bool
-unfinished w net = list_any (λ (s : ℕ × Script). is_unfinished w net.past s.0 s.1) (enumerate_from 0 w.scripts)
+-- some script or task isn't through
+abbrev pub unfinished_by : Tasks → World → Net → Bool
+unfinished_by ts w net = list_any (λ (s : ℕ × Script). is_unfinished_by ts w net.past s.0 s.1) (enumerate_from 0 w.scripts)
 
 -- the clock may move
-abbrev pub movable : World → Net → Bool
-movable w net = calm w net && (unfinished w net && nat_lt net.moment w.end)
+abbrev pub movable_by : Tasks → World → Net → Bool
+movable_by ts w net = calm_by ts w net && (unfinished_by ts w net && nat_lt net.moment w.end)
 
--- the moment that a script waits for
+-- the moment that a script or a task waits for
 abbrev pub awaited_moment : Option Ask → Option ℕ
 awaited_moment None = None
 awaited_moment (Some ask) = until ask.event
@@ -73,13 +75,13 @@ abbrev pub least : ℕ → List ℕ → ℕ
 least last [] = last
 least last (m ∷ ms) = min m (least last ms)
 
--- the moment to which the clock moves: the least of the due moments and of those that scripts wait for, or the end moment
+-- the moment to which the clock moves: the least of the due moments and of those that scripts and tasks wait for, or the end moment
 -- where that is not later
-abbrev pub target : World → Net → ℕ
-target w net =
+abbrev pub target_by : Tasks → World → Net → ℕ
+target_by ts w net =
     least w.end
     (filter_map (λ (a : ActorName). due_of (net.actors a)) (conversations w)
-    ++ filter_map (λ (c : ℕ). awaited_moment (next_of w (caller_of w c) net.past c)) (callers w))
+    ++ filter_map (λ (c : ℕ). awaited_moment (next_of_by ts w (caller_of w c) net.past c)) (callers w))
 
 -- The end of a run.
 
@@ -88,28 +90,69 @@ abbrev pub most_entries : ℕ
 most_entries = 131072
 
 -- this caller owes a duty or could go on
-abbrev pub could_record : World → Net → Caller → ℕ → Bool
-could_record w net IsClock c = owes net c || movable w net
-could_record w net _ c = owes net c || can_go_on w net c
+abbrev pub could_record_by : Tasks → World → Net → Caller → ℕ → Bool
+could_record_by ts w net IsClock c = owes net c || movable_by ts w net
+could_record_by ts w net _ c = owes net c || can_go_on_by ts w net c
 
 -- it has recorded the most entries that a caller may, and could record more
-abbrev pub at_limit_of : ℕ → World → Net → ℕ → Bool
-at_limit_of most w net c = (length (by net.past c) == most) && could_record w net (caller_of w c) c
+abbrev pub at_limit_of_by : Tasks → ℕ → World → Net → ℕ → Bool
+at_limit_of_by ts most w net c = (length (by net.past c) == most) && could_record_by ts w net (caller_of w c) c
 
-abbrev pub at_limit : World → Net → ℕ → Bool
-at_limit w net = at_limit_of most_entries w net
+abbrev pub at_limit_by : Tasks → World → Net → ℕ → Bool
+at_limit_by ts w net = at_limit_of_by ts most_entries w net
 
 -- some caller is at the limit
+abbrev pub limited_to_by : Tasks → ℕ → World → Net → Bool
+limited_to_by ts most w net = list_any (at_limit_of_by ts most w net) (callers w)
+
+abbrev pub limited_by : Tasks → World → Net → Bool
+limited_by ts w net = limited_to_by ts most_entries w net
+
+-- every step is answered, and every task through
+abbrev pub done_by : Tasks → World → Net → Bool
+done_by ts w net = calm_by ts w net && (not (limited_by ts w net) && not (unfinished_by ts w net))
+
+-- the end moment came, and some script or task isn't through
+abbrev pub stopped_by : Tasks → World → Net → Bool
+stopped_by ts w net = calm_by ts w net && (not (limited_by ts w net) && (unfinished_by ts w net && (net.moment == w.end)))
+
+-- The same where each script is played.
+
+abbrev pub can_go_on : World → Net → ℕ → Bool
+can_go_on w net c = can_go_on_by nobody w net c
+
+abbrev pub scripts_wait : World → Net → Bool
+scripts_wait w net = scripts_wait_by nobody w net
+
+abbrev pub calm : World → Net → Bool
+calm w net = calm_by nobody w net
+
+abbrev pub unfinished : World → Net → Bool
+unfinished w net = unfinished_by nobody w net
+
+abbrev pub movable : World → Net → Bool
+movable w net = movable_by nobody w net
+
+abbrev pub target : World → Net → ℕ
+target w net = target_by nobody w net
+
+abbrev pub could_record : World → Net → Caller → ℕ → Bool
+could_record w net k c = could_record_by nobody w net k c
+
+abbrev pub at_limit_of : ℕ → World → Net → ℕ → Bool
+at_limit_of most w net c = at_limit_of_by nobody most w net c
+
+abbrev pub at_limit : World → Net → ℕ → Bool
+at_limit w net = at_limit_by nobody w net
+
 abbrev pub limited_to : ℕ → World → Net → Bool
-limited_to most w net = list_any (at_limit_of most w net) (callers w)
+limited_to most w net = limited_to_by nobody most w net
 
 abbrev pub limited : World → Net → Bool
-limited w net = limited_to most_entries w net
+limited w net = limited_by nobody w net
 
--- every step is answered
 abbrev pub done : World → Net → Bool
-done w net = calm w net && (not (limited w net) && not (unfinished w net))
+done w net = done_by nobody w net
 
--- the end moment came, and some script isn't through
 abbrev pub stopped : World → Net → Bool
-stopped w net = calm w net && (not (limited w net) && (unfinished w net && (net.moment == w.end)))
+stopped w net = stopped_by nobody w net

@@ -2,6 +2,7 @@
 --     Follows, MayFollow      an entry may stand after these: a field a rule
 --     IsLegal          each entry may follow those before it
 --     IsTimed          each move comes after a calm, and to the right moment
+--     IsLegalBy, IsTimedBy ..    the same by who plays a task in the place of a script
 --     Keeps, IsFault   the same by rules, and the first entry that breaks one
 use Rattle.std.specs.Prelude.{ℕ, ◌≡◌, ◌<◌, Bool, true, List, [], ◌∷◌, length, take, Option, Some, None, IsSome, slice_get}
 use Rattle.std.specs.Option.{option_map}
@@ -16,12 +17,13 @@ use Rattle.net_base.specs.declared.reply.Reply.{Reply}
 use Rattle.net_base.specs.declared.world.World.{World}
 use Rattle.net_base.specs.Actors.{has_actor}
 use Rattle.net_base.specs.Callers.{Caller, IsClock, caller_of, caller_count}
-use Rattle.net_base.specs.Calm.{movable, target, most_entries}
+use Rattle.net_base.specs.Calm.{movable_by, target_by, most_entries}
 use Rattle.net_base.specs.Duties.{Duty}
 use Rattle.net_base.specs.Headers.{header}
 use Rattle.net_base.specs.Net.{Net, after, outcome_in}
-use Rattle.net_base.specs.Next.{by, next}
+use Rattle.net_base.specs.Next.{by, next, next_by}
 use Rattle.net_base.specs.Steps.{Ask}
+use Rattle.net_base.specs.Tasks.{Tasks, nobody}
 
 -- what an entry shows of its outcome
 pub record Shown : Type 0 where
@@ -65,33 +67,50 @@ IsAsked [] caller ask x = IsNext caller ask x
 IsAsked (d ∷ ds) caller ask x = record { actor = d.actor; event = d.event } ≡ asked_by x
 
 -- the entry may stand after these, after which the net stands so
-pub record Follows (w : World) (past : List Entry) (net : Net) (x : Entry) : Type 0 where
+pub record FollowsBy (ts : Tasks) (w : World) (past : List Entry) (net : Net) (x : Entry) : Type 0 where
   -- its reply, its header and its `ended` are those of its outcome
   pub answers : Shows (outcome_in w net x) x
   pub at_moment : x.moment ≡ net.moment
   pub cites : x.cites ≡ cites_of (net.owed x.caller)
   -- its actor and its event are those of its caller's first duty, or those that come next
-  pub is_asked : IsAsked (net.owed x.caller) (caller_of w x.caller) (next w past x.caller) x
+  pub is_asked : IsAsked (net.owed x.caller) (caller_of w x.caller) (next_by ts w past x.caller) x
   pub is_ready : IsSome (outcome_in w net x)
   pub is_known : (has_actor w x.actor ≡ true) × (x.caller < caller_count w)
   pub has_room : length (by past x.caller) < most_entries
 
-abbrev pub MayFollow : World → List Entry → Entry → Type 0
-MayFollow w past x = Follows w past (after w past) x
+abbrev pub MayFollowBy : Tasks → World → List Entry → Entry → Type 0
+MayFollowBy ts w past x = FollowsBy ts w past (after w past) x
 
 -- each entry may follow those before it
+abbrev pub IsLegalBy : Tasks → World → List Entry → Type 0
+IsLegalBy ts w h = (k : ℕ) (x : Entry) → slice_get h k ≡ Some x → MayFollowBy ts w (take k h) x
+
+-- the same where each script is played
+abbrev pub Follows : World → List Entry → Net → Entry → Type 0
+Follows w past net x = FollowsBy nobody w past net x
+
+abbrev pub MayFollow : World → List Entry → Entry → Type 0
+MayFollow w past x = MayFollowBy nobody w past x
+
 abbrev pub IsLegal : World → List Entry → Type 0
-IsLegal w h = (k : ℕ) (x : Entry) → slice_get h k ≡ Some x → MayFollow w (take k h) x
+IsLegal w h = IsLegalBy nobody w h
 
 -- The moves.
 
 -- a move comes where the clock may move, and to the target
+abbrev pub IsInTimeBy : Tasks → Net → World → Event → Type 0
+IsInTimeBy ts net w (event.Move m) = (movable_by ts w net ≡ true) × (m ≡ target_by ts w net)
+IsInTimeBy ts net w _ = Unit {0}
+
+abbrev pub IsTimedBy : Tasks → World → List Entry → Type 0
+IsTimedBy ts w h = (k : ℕ) (x : Entry) → slice_get h k ≡ Some x → IsInTimeBy ts (after w (take k h)) w x.event
+
+-- the same where each script is played
 abbrev pub IsInTime : Net → World → Event → Type 0
-IsInTime net w (event.Move m) = (movable w net ≡ true) × (m ≡ target w net)
-IsInTime net w _ = Unit {0}
+IsInTime net w e = IsInTimeBy nobody net w e
 
 abbrev pub IsTimed : World → List Entry → Type 0
-IsTimed w h = (k : ℕ) (x : Entry) → slice_get h k ≡ Some x → IsInTime (after w (take k h)) w x.event
+IsTimed w h = IsTimedBy nobody w h
 
 -- The rules, in the order of their numbers.
 

@@ -41,6 +41,8 @@ pub mod Duties
 pub mod Net
 pub mod Steps
 pub mod Asks
+pub mod Requests
+pub mod Tasks
 pub mod NinepFields
 pub mod NinepMessages
 pub mod NinepFaults

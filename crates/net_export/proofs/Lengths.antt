@@ -1,9 +1,9 @@
 -- How many events an entry owes, where it neither takes a copy nor moves the clock: as many as what it shows brings.
-use Rattle.std.proofs.Common.{◌≡◌, ℕ, ◌+◌, Bool, true, false, List, [], ◌++◌, length, Option, Some, None, slice_get, refl, sym, subst, ◌∙◌, length-append, arith}
-use Rattle.std.specs.Prelude.{if◌then◌else◌, nat_lt}
-use Rattle.std.specs.Option.{option_map, option_and_then}
+use Rattle.std.proofs.Common.{◌≡◌, ℕ, ◌+◌, Bool, true, false, List, [], ◌++◌, length, Option, Some, None, refl, subst, ◌∙◌, length-append, arith}
+use Rattle.std.specs.Prelude.{IfSome}
+use Rattle.std.specs.Option.{option_map}
 use Rattle.std.proofs.lemmas.List.{length-map}
-use Rattle.std.proofs.lemmas.Option.{none-some, same_Some}
+use Rattle.std.proofs.lemmas.Option.{none-some}
 use Rattle.net_base.specs.declared.actor.ActorName.{ActorName}
 use Rattle.net_base.specs.declared.actor.ActorName.TheVariants as name
 use Rattle.net_base.specs.declared.actor.Call.{Call}
@@ -20,15 +20,18 @@ use Rattle.net_base.specs.declared.reply.Reply.{Reply}
 use Rattle.net_base.specs.declared.reply.Reply.TheVariants as reply
 use Rattle.net_base.specs.declared.world.MediumSpec.{MediumSpec}
 use Rattle.net_base.specs.declared.world.World.{World}
-use Rattle.net_base.specs.ActorStep.{Step, when}
-use Rattle.net_base.specs.Actors.{Actor, IsDir, IsConv, IsMedium, actor_step, has_actor, step_as, table_step}
-use Rattle.net_base.specs.Conversation.{Conv, conv_step}
-use Rattle.net_base.specs.Directory.{Dir, dir_step}
+use Rattle.net_base.specs.ActorStep.{Step}
+use Rattle.net_base.specs.Actors.{Actor, IsConv, actor_step}
+use Rattle.net_base.specs.Directory.{Dir}
 use Rattle.net_base.specs.Duties.{Duty, duties, put_by, emitted_put, close_calls, follow_up, courier_duty, ticks, release}
 use Rattle.net_base.specs.Headers.{header}
-use Rattle.net_base.specs.Medium.{Medium, datagram_length, medium_step, puts as lays_down}
+use Rattle.net_base.specs.Medium.{Medium}
 use Rattle.net_base.specs.Routes.{Way, way}
 use Rattle.net_export.specs.Counted.{if_way, puts, at_directory, at_conversation, follow_ups, releases}
+use Rattle.table_laws.specs.ActorRows.{ActorRow, AtDesk, AtDir, AtConv, AtMedium, AtClock, MediumRow, Takes, TakesHeld}
+use Rattle.table_laws.specs.DirRows.{DirRow, slot_in}
+use Rattle.table_laws.specs.DirRows as dir_row
+use Rattle.table_laws.proofs.Shared.{actor_rows}
 use Rattle.net_export.proofs.FreeEvents.{IsFree}
 
 -- The put of what it emits.
@@ -139,81 +142,35 @@ record IsPart (a : ActorName) (e : Event) (gift : With) (s : Step Actor) : Type 
   state : IsStateOf a s.state
   takes : TakesNothing a s.outcome.taken
 
-in_directory : (w : World) (h : ℕ) (p : Proto) (e : Event) (gift : With) (d : Dir) (s : Step Dir) → dir_step w h p e gift d ≡ Some s → IsGiven e gift
-in_directory w h p event.Arrive (given.Packet packet) d s is = tt
-in_directory w h p event.Arrive given.Nothing d s is = absurd (none-some s is)
-in_directory w h p event.Arrive (given.Grant pair start limit) d s is = absurd (none-some s is)
-in_directory w h p event.Arrive (given.Key ip port) d s is = absurd (none-some s is)
-in_directory w h p event.Arrive (given.Birth packet start limit) d s is = absurd (none-some s is)
-in_directory w h p _ gift d s is = tt
+-- what an event that names a slot is given is nothing that arrives
+stale_given : (e : Event) (gift : With) (n g : ℕ) → slot_in e ≡ Some (n, g) → IsGiven e gift
+stale_given event.Arrive gift n g names = absurd (none-some _ names)
+stale_given _ gift n g names = tt
 
-as_dir : (w : World) (h : ℕ) (p : Proto) (e : Event) (gift : With) (o : Option (Step Dir)) (s : Step Actor) → ((t : Step Dir) → o ≡ Some t → IsGiven e gift)
-    → step_as IsDir o ≡ Some s → IsPart (name.Dir h p) e gift s
-as_dir w h p e gift None s given is = absurd (none-some s is)
-as_dir w h p e gift (Some t) s given is = record { given = given t refl; state = tt; takes = tt }
+dir_given : (w : World) (h : ℕ) (p : Proto) (d : Dir) (e : Event) (gift : With) (s : Step Dir) → DirRow w h p d e gift s → IsGiven e gift
+dir_given w h p d e gift s (dir_row.Stale {n = n} {g = g} names at other) = stale_given e gift n g names
+dir_given w h p d e gift s _ = tt
 
-as_conv : (h : ℕ) (p : Proto) (n : ℕ) (e : Event) (gift : With) (o : Option (Step Conv)) (s : Step Actor)
-    → step_as IsConv o ≡ Some s → IsPart (name.Conv h p n) e gift s
-as_conv h p n e gift None s is = absurd (none-some s is)
-as_conv h p n e gift (Some t) s is =
-    record { given = tt; state = subst (λ (u : Step Actor). IsStateOf (name.Conv h p n) u.state) (same_Some _ s is) tt; takes = tt }
+medium_nothing : (spec : MediumSpec) (seed n : ℕ) (m : Medium) (e : Event) (gift : With) (s : Step Medium) → IsFree e → MediumRow spec seed m e gift s
+    → TakesNothing (name.Medium n) s.outcome.taken
+medium_nothing spec seed n m e gift s free (Takes queued) = absurd free
+medium_nothing spec seed n m e gift s free (TakesHeld queued are) = absurd free
+medium_nothing spec seed n m e gift s free _ = tt
 
-abbrev LeavesNothing : Option (Step Medium) → Type 0
-LeavesNothing None = Unit {0}
-LeavesNothing (Some t) = t.outcome.taken ≡ None
-
-laid_nothing : (spec : MediumSpec) (seed : ℕ) (to : Option ℕ) (packet : Packet) (m : Medium) → (lays_down spec seed to packet m).outcome.taken ≡ None
-laid_nothing spec seed None packet m = refl
-laid_nothing spec seed (Some to) packet m = either (nat_lt spec.mtu (datagram_length packet.body)) _ _ refl refl
-  where
-    either : (b : Bool) (x y : Step Medium) → x.outcome.taken ≡ None → y.outcome.taken ≡ None → (if b then x else y).outcome.taken ≡ None
-    either true x y one two = one
-    either false x y one two = two
-
-medium_nothing : (spec : MediumSpec) (seed : ℕ) (e : Event) (gift : With) (m : Medium) → IsFree e → LeavesNothing (medium_step spec seed e gift m)
-medium_nothing spec seed (event.Put to) (given.Packet p) m free = laid_nothing spec seed to p m
-medium_nothing spec seed event.Take gift m free = absurd free
-medium_nothing spec seed _ _ m free = tt
-
-as_medium : (n : ℕ) (e : Event) (gift : With) (o : Option (Step Medium)) (s : Step Actor) → LeavesNothing o
-    → step_as IsMedium o ≡ Some s → IsPart (name.Medium n) e gift s
-as_medium n e gift None s nothing is = absurd (none-some s is)
-as_medium n e gift (Some t) s nothing is =
-    record {
-      given = tt;
-      state = tt;
-      takes = subst (λ (u : Step Actor). TakesNothing (name.Medium n) u.outcome.taken) (same_Some _ s is) (none_taken t.outcome.taken nothing);
-    }
-  where
-    none_taken : (o : Option Taken) → o ≡ None → TakesNothing (name.Medium n) o
-    none_taken None none = tt
-    none_taken (Some x) none = absurd (none-some x (sym none))
-
-of_medium : (w : World) (n : ℕ) (e : Event) (gift : With) (o : Option MediumSpec) (m : Medium) (s : Step Actor) → IsFree e
-    → option_and_then (λ (spec : MediumSpec). step_as IsMedium (medium_step spec w.seed e gift m)) o ≡ Some s
-    → IsPart (name.Medium n) e gift s
-of_medium w n e gift None m s free is = absurd (none-some s is)
-of_medium w n e gift (Some spec) m s free is = as_medium n e gift (medium_step spec w.seed e gift m) s (medium_nothing spec w.seed e gift m free) is
-
-in_table : (w : World) (a : ActorName) (before : Actor) (now : ℕ) (work : Work) (s : Step Actor) → IsFree work.event
-    → table_step w a before now work ≡ Some s → IsPart a work.event work.with s
-in_table w (name.Desk h) before now work s free is = record { given = tt; state = tt; takes = tt }
-in_table w (name.Dir h p) (IsDir d) now work s free is =
-    as_dir w h p work.event work.with (dir_step w h p work.event work.with d) s (λ t. in_directory w h p work.event work.with d t) is
-in_table w (name.Conv h p n) (IsConv c) now work s free is = as_conv h p n work.event work.with (conv_step n work.event work.with now c) s is
-in_table w (name.Medium m) (IsMedium t) now work s free is = of_medium w m work.event work.with (slice_get w.media m) t s free is
-in_table w name.Clock before now work s free is = record { given = tt; state = tt; takes = tt }
-in_table w (name.Dir h p) _ now work s free is = absurd (none-some s is)
-in_table w (name.Conv h p n) _ now work s free is = absurd (none-some s is)
-in_table w (name.Medium m) _ now work s free is = absurd (none-some s is)
+row_part : (w : World) (now : ℕ) (a : ActorName) (before : Actor) (e : Event) (gift : With) (s : Step Actor) → IsFree e → ActorRow w now a before e gift s
+    → IsPart a e gift s
+row_part w now a before e gift s free (AtDir {h = h} {p = p} {d = d} {s = x} row) = record { given = dir_given w h p d e gift x row; state = tt; takes = tt }
+row_part w now a before e gift s free (AtMedium {k = n} {spec = spec} {m = m} {s = x} there row) =
+    record { given = tt; state = tt; takes = medium_nothing spec w.seed n m e gift x free row }
+row_part w now a before e gift s free (AtConv row) = record { given = tt; state = tt; takes = tt }
+row_part w now a before e gift s free (AtDesk there row) = record { given = tt; state = tt; takes = tt }
+row_part w now a before e gift s free AtClock = record { given = tt; state = tt; takes = tt }
 
 is_part : (w : World) (a : ActorName) (before : Actor) (now : ℕ) (work : Work) (s : Step Actor) → IsFree work.event
     → actor_step w a before now work ≡ Some s → IsPart a work.event work.with s
-is_part w a before now work s free is = in_table w a before now work s free (given_when (has_actor w a) (table_step w a before now work) s is)
-  where
-    given_when : (b : Bool) (o : Option (Step Actor)) (x : Step Actor) → when b o ≡ Some x → o ≡ Some x
-    given_when true o x is = is
-    given_when false o x is = absurd (none-some x is)
+is_part w a before now work s free is =
+    row_part w now a before work.event work.with s free
+    (subst (λ (o : Option (Step Actor)). IfSome o (λ (t : Step Actor). ActorRow w now a before work.event work.with t)) is (actor_rows w now a before work))
 
 -- All that it owes.
 

@@ -23,7 +23,7 @@ use Rattle.net_base.specs.SessionScript as streams
 use Rattle.sessions.specs.InHistory.{IsSessionOf}
 use Rattle.session_answers.specs.Told.{AreTold, is_told}
 use Rattle.net_export.proofs.SessionEvents.{IsSessionEvent, next_of_session}
-use Rattle.net_export.proofs.ToldReplies.{Tells, step_told}
+use Rattle.net_export.proofs.ToldReplies.{entry_told}
 
 -- ---- one entry
 
@@ -42,20 +42,16 @@ asked_next w bytes [] k s h c x script is free asked =
 script_of : (w : World) (c : ℕ) (s : Script) → slice_get w.scripts c ≡ Some s → caller_of w c ≡ IsScript s
 script_of w c s is = ap (λ (o : Option Script). option_map_or (λ (t : Script). IsScript t) o (other_caller w c)) is
 
-shown : (o : Option (Step Actor)) (x : Entry) → Tells o → Shows (option_map (λ (s : Step Actor). s.outcome) o) x → IsSome (option_map (λ (s : Step Actor). s.outcome) o) → is_told x.reply ≡ true
-shown None x told shows ready = absurd (false≢true ready)
-shown (Some s) x told shows ready = ap (λ (y : Shown). is_told y.reply) shows ∙ told
-
-entry_told : (w : World) (bytes : List ℕ) (h : List Entry) (c : ℕ) (x : Entry) → IsSessionOf w c bytes → MayFollow w h x → (x.caller == c) ≡ true → is_none x.cites ≡ true
+own_reply_told : (w : World) (bytes : List ℕ) (h : List Entry) (c : ℕ) (x : Entry) → IsSessionOf w c bytes → MayFollow w h x → (x.caller == c) ≡ true → is_none x.cites ≡ true
     → is_told x.reply ≡ true
-entry_told w bytes h c x session may own free =
+own_reply_told w bytes h c x session may own free =
     let same : x.caller ≡ c = eqb-true x.caller c own in
     let asked : IsAsked (owed w h c) (caller_of w c) (next_of w (caller_of w c) h c) x =
     subst (λ (d : ℕ). IsAsked (owed w h d) (caller_of w d) (next_of w (caller_of w d) h d) x) same may.is_asked in
     let owes_none : is_none (cites_of (owed w h c)) ≡ true = ap (λ (d : ℕ). is_none (cites_of (owed w h d))) (sym same) ∙ (ap is_none (sym may.cites) ∙ free) in
     let event : IsSessionEvent x.actor x.event =
     asked_next w bytes (owed w h c) (caller_of w c) session.as_script h c x (script_of w c session.as_script session.stands) session.plays owes_none asked in
-    shown (step_of w (after w h) x) x (step_told w x.actor ((after w h).actors x.actor) (after w h).moment (work_of (after w h) x) event) may.answers may.is_ready
+    entry_told w (after w h) x event may.is_ready may.answers
 
 -- ---- all of them
 
@@ -89,4 +85,4 @@ stands_at (x ∷ h) (suc k) d lt = stands_at h k d (omega (arith, lt))
 pub session_told : (w : World) (h : List Entry) (c : ℕ) (bytes : List ℕ) → IsLegal w h → IsSessionOf w c bytes → AreTold (own_replies h c)
 session_told w h c bytes legal session =
     own_told c h (each_from_get (OwnTold c) h (λ k d lt own free.
-    entry_told w bytes (take k h) c (get_or h k d) session (legal k (get_or h k d) (stands_at h k d lt)) own free))
+    own_reply_told w bytes (take k h) c (get_or h k d) session (legal k (get_or h k d) (stands_at h k d lt)) own free))

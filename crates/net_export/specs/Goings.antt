@@ -18,16 +18,17 @@ use Rattle.net_base.specs.Exports.{is_dotted}
 use Rattle.net_base.specs.Paths.{reads, walk, writes}
 use Rattle.net_base.specs.Steps.{Asks, Bound, Ends, Fid, Names, Play, bind, conversation_of, controls, ends_with, fid_among, fid_of, if_accepted, is_accepted, is_bound, misuses, on_fid, openable, opened_fid, opens, puts, read_event, unbind, uses, without}
 use Rattle.net_export.specs.Serving.{IsDotted, goes_on}
-use Rattle.script_task.specs.declared.request.Request.{Request}
-use Rattle.script_task.specs.declared.request.Request.TheVariants as request
+use Rattle.net_base.specs.declared.request.Request.{Request}
+use Rattle.net_base.specs.declared.request.Request.TheVariants as request
 use Rattle.script_task.specs.Fitting.{fits_grant, fits_write, is_granted, is_unopened}
-use Rattle.script_task.specs.Requests.{bound_after, opened_names, request_play, settled}
+use Rattle.net_base.specs.Requests.{bound_after, opened_names, request_play, settled}
 use Rattle.script_task.specs.Task.{fits_play}
 
 -- the play of a request, these names after the reply, and the request that goes on, if one does
 pub data Goes (h : ℕ) (names : Names) (r : Reply) (now : Names) : Option Request → Play → Type 0 where
   IsLast : (a : ActorName) (e : Event) (next : Reply → Play) → next r ≡ Ends now → Goes h names r now None (Asks a e next)
-  IsMore : (a : ActorName) (e : Event) (next : Reply → Play) (q : Request) → next r ≡ request_play h names q → now ≡ names → IsDotted q → Goes h names r now (Some q) (Asks a e next)
+  IsMore : (a : ActorName) (e : Event) (next : Reply → Play) (q : Request) → next r ≡ request_play h names q → now ≡ names → IsDotted q
+      → Goes h names r now (Some q) (Asks a e next)
 
 -- ---- replies
 
@@ -59,7 +60,8 @@ apart called other plain dotted = by (bytes_eq called other) refl
 bound_apart : (called other : List ℕ) (names : Names) (f : Fid) → bytes_eq called other ≡ false → fid_of called (bind other f names) ≡ fid_of called names
 bound_apart called other names f differ = rw differ refl
 
-without_apart : (called other : List ℕ) (bound : List Bound) → is_dotted called ≡ false → is_dotted other ≡ true → fid_among called (without other bound) ≡ fid_among called bound
+without_apart : (called other : List ℕ) (bound : List Bound) → is_dotted called ≡ false → is_dotted other ≡ true
+    → fid_among called (without other bound) ≡ fid_among called bound
 without_apart called other [] plain dotted = refl
 without_apart called other (b ∷ bs) plain dotted = by (bytes_eq other b.called) refl (without_apart called other bs plain dotted)
   where
@@ -71,7 +73,8 @@ without_apart called other (b ∷ bs) plain dotted = by (bytes_eq other b.called
         more ∙ rw is refl
 
 -- the names that a session binds and unbinds are others than this
-pub keeps_bound : (names : Names) (called : List ℕ) (q : Request) (r : Reply) → is_dotted called ≡ false → IsDotted q → fid_of called (settled names q r) ≡ fid_of called names
+pub keeps_bound : (names : Names) (called : List ℕ) (q : Request) (r : Reply) → is_dotted called ≡ false → IsDotted q
+    → fid_of called (settled names q r) ≡ fid_of called names
 keeps_bound names called (request.Open other path m) r plain dotted = by (is_bound names other) (opened_fid m (openable (walk path) m) r)
   where
     by : (v : Bool) (o : Option Fid) → fid_of called (if v then names else bound_after other names o) ≡ fid_of called names
@@ -121,12 +124,14 @@ module _ (h : ℕ) (names : Names) (r : Reply) where
   read_goes : (called : List ℕ) (count : ℕ) → Goes h names r names None (request_play h names (request.Read called count))
   read_goes called count = found (fid_of called names)
     where
-      by : (f : Fid) (v : Bool) → Goes h names r names None (if v then ends_with (conversation_of h f) (read_event f count f.file) names else misuses h called names)
+      by : (f : Fid) (v : Bool) → Goes h names r names None (if v then ends_with (conversation_of h f)
+          (read_event f count f.file) names else misuses h called names)
       by f true = IsLast _ _ _ refl
       by f false = IsLast _ _ _ refl
 
       found : (o : Option Fid) → Goes h names r names None
-          (on_fid o (uses h called names) (λ (f : Fid). if reads f.mode then ends_with (conversation_of h f) (read_event f count f.file) names else misuses h called names))
+          (on_fid o (uses h called names) (λ (f : Fid). if reads f.mode then ends_with (conversation_of h f)
+          (read_event f count f.file) names else misuses h called names))
       found None = IsLast _ _ _ refl
       found (Some f) = by f (reads f.mode)
 
@@ -141,7 +146,8 @@ module _ (h : ℕ) (names : Names) (r : Reply) where
   wait_goes : (called : List ℕ) → Goes h names r names None (request_play h names (request.Wait called))
   wait_goes called = found (fid_of called names)
     where
-      found : (o : Option Fid) → Goes h names r names None (on_fid o (uses h called names) (λ (f : Fid). ends_with (conversation_of h f) (event.Await f.generation) names))
+      found : (o : Option Fid) → Goes h names r names None (on_fid o (uses h called names)
+          (λ (f : Fid). ends_with (conversation_of h f) (event.Await f.generation) names))
       found None = IsLast _ _ _ refl
       found (Some f) = IsLast _ _ _ refl
 
@@ -172,11 +178,13 @@ module _ (h : ℕ) (names : Names) (r : Reply) (called : List ℕ) where
       → Goes h names r names waits (Asks a e (λ (granted : Reply). if_accepted granted (awaits f) (Ends names)))
   granted_goes a e f is fit = by r fit
     where
-      by : (x : Reply) → fits_grant x ≡ true → Goes h names x names (if is_granted x then Some (request.Wait called) else None) (Asks a e (λ (granted : Reply). if_accepted granted (awaits f) (Ends names)))
+      by : (x : Reply) → fits_grant x ≡ true → Goes h names x names (if is_granted x then Some (request.Wait called) else None)
+          (Asks a e (λ (granted : Reply). if_accepted granted (awaits f) (Ends names)))
       by (reply.Granted pair start limit) fit = IsMore a e _ (request.Wait called) (awaited f is) refl tt
       by x fit = IsLast a e _ (ap (λ (v : Bool). if v then awaits f else Ends names) (flip (is_accepted x) fit))
 
-  controlled_goes : (f : Fid) (text : List ℕ) (read : Result Ctl ℕ) → fid_of called names ≡ Some f → fits_play (controls h f text read (Ends names) (Ends names)) r ≡ true
+  controlled_goes : (f : Fid) (text : List ℕ) (read : Result Ctl ℕ) → fid_of called names ≡ Some f
+      → fits_play (controls h f text read (Ends names) (Ends names)) r ≡ true
       → Goes h names r names waits (controls h f text read (Ends names) (Ends names))
   controlled_goes f text (Ok (ctl.Connect remote lport)) is fit = granted_goes _ _ f is fit
   controlled_goes f text (Ok (ctl.Announce ip port)) is fit = ended _ _ _ (flip (is_granted r) fit) (same_ends r names)
@@ -196,17 +204,21 @@ module _ (h : ℕ) (names : Names) (r : Reply) (called : List ℕ) where
   put_goes f file.Remote text is fit = controlled_goes f text (control.read text) is fit
   put_goes f file.Status text is fit = controlled_goes f text (control.read text) is fit
 
-  write_goes : (text : List ℕ) → fits_play (request_play h names (request.Write called text)) r ≡ true → Goes h names r names waits (request_play h names (request.Write called text))
+  write_goes : (text : List ℕ) → fits_play (request_play h names (request.Write called text)) r ≡ true
+      → Goes h names r names waits (request_play h names (request.Write called text))
   write_goes text fit = found (fid_of called names) refl fit
     where
-      by : (f : Fid) (v : Bool) → fid_of called names ≡ Some f → fits_play (if v then puts h f f.file text (Ends names) (Ends names) else misuses h called names) r ≡ true
+      by : (f : Fid) (v : Bool) → fid_of called names ≡ Some f → fits_play
+          (if v then puts h f f.file text (Ends names) (Ends names) else misuses h called names) r ≡ true
           → Goes h names r names waits (if v then puts h f f.file text (Ends names) (Ends names) else misuses h called names)
       by f true is fit = put_goes f f.file text is fit
       by f false is fit = ended _ _ _ (unopened_no r fit) refl
 
       found : (o : Option Fid) → fid_of called names ≡ o
-          → fits_play (on_fid o (uses h called names) (λ (f : Fid). if writes f.mode then puts h f f.file text (Ends names) (Ends names) else misuses h called names)) r ≡ true
-          → Goes h names r names waits (on_fid o (uses h called names) (λ (f : Fid). if writes f.mode then puts h f f.file text (Ends names) (Ends names) else misuses h called names))
+          → fits_play (on_fid o (uses h called names) (λ (f : Fid). if writes f.mode then puts h f f.file text (Ends names)
+          (Ends names) else misuses h called names)) r ≡ true
+          → Goes h names r names waits (on_fid o (uses h called names) (λ (f : Fid). if writes f.mode then puts h f f.file text (Ends names)
+          (Ends names) else misuses h called names))
       found None none fit = ended _ _ _ (unopened_no r fit) refl
       found (Some f) is fit = by f (writes f.mode) is fit
 

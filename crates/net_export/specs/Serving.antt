@@ -13,10 +13,10 @@ use Rattle.net_base.specs.SessionScript as script
 use Rattle.net_base.specs.SessionTable.{Table, opening}
 use Rattle.net_base.specs.Steps.{Names, Play}
 use Rattle.net_export.specs.Rows.{dotted_request, first_of}
-use Rattle.script_task.specs.declared.request.Request.{Request}
-use Rattle.script_task.specs.declared.request.Request.TheVariants as request
+use Rattle.net_base.specs.declared.request.Request.{Request}
+use Rattle.net_base.specs.declared.request.Request.TheVariants as request
 use Rattle.script_task.specs.Fitting.{is_granted, is_opening}
-use Rattle.script_task.specs.Requests.{request_play}
+use Rattle.net_base.specs.Requests.{request_play}
 use Rattle.session_answers.specs.Served.{asked}
 use Rattle.session_script.specs.Seen.{brings_fid}
 

@@ -17,9 +17,10 @@ use Rattle.net_base.specs.Paths.{reads, walk, writes}
 use Rattle.net_base.specs.Stamped.{same_actor}
 use Rattle.net_base.specs.Steps.{Ask, Names, Fid, Play, Asks, Ends, controls, fid_of, is_bound, ls_actor, on_fid, open_actor, openable, opened_fid, puts}
 use Rattle.script_task.specs.Holdings.{Holdings}
-use Rattle.script_task.specs.declared.request.Request.{Request}
-use Rattle.script_task.specs.declared.request.Request.TheVariants as request
-use Rattle.script_task.specs.Requests.{HasRoom, head, newly_opened, planned, request_play}
+use Rattle.net_base.specs.declared.request.Request.{Request}
+use Rattle.net_base.specs.declared.request.Request.TheVariants as request
+use Rattle.net_base.specs.Requests.{head, planned, request_play}
+use Rattle.script_task.specs.Requests.{HasRoom, newly_opened}
 
 -- The clock.
 

@@ -6,15 +6,16 @@ use Rattle.net_base.specs.Callers.{IsScript, caller_of}
 use Rattle.net_base.specs.Duties.{Duty}
 use Rattle.net_base.specs.Steps.{Ask, Names}
 use Rattle.journal.specs.declared.tokens.Sight.{Sight}
-use Rattle.script_task.specs.declared.request.Request.{Request}
+use Rattle.net_base.specs.declared.request.Request.{Request}
 use Rattle.net_base.specs.declared.reply.Reply.{Reply}
 use Rattle.script_task.specs.Holdings.{Holdings}
 use Rattle.script_task.specs.Effects.{effect_of, opened, settles}
-use Rattle.script_task.specs.Requests.{planned, settled}
+use Rattle.net_base.specs.Requests.{planned, settled}
 use Rattle.net_locks.specs.declared.turn.Turn.{Turn}
 use Rattle.net_locks.specs.declared.turn.Turn.TheVariants as turn
 use mathlib.Core.List.{IsPrefix}
 use Rattle.net_base.specs.declared.noted.Noted.{Noted}
+use Rattle.net_base.specs.Tasks.{Tasks}
 use Rattle.journal.specs.declared.law.Roster.{Roster}
 use Rattle.net_locks.specs.declared.calendar.Calendar.{Calendar}
 use Rattle.net_locks.specs.Knowing.{IsKnown}
@@ -43,17 +44,17 @@ pub hosted_on : {J : Type 0} (w : World) (r : Roster) (v v' : Visitor J) (host :
 hosted_on w r v v' host caller home is = record { visit = is; home = λ s at. home s (ap (caller_of w) (sym caller) ∙ at) }
 
 -- the turn of a request that was planned
-pub operated : (w : World) (h : ℕ) (q : Request) (c now : ℕ) (p p' : Sight) (ds ds' : List Duty) (names names' : Names) (ask : Ask) (t : Turn) → ds ≡ []
-    → planned h names q ≡ Some ask → Turned w c now ask.actor (bare ask.event) None p ds t p' ds' → names' ≡ names_after names q t
-    → Operated w h q (visit c now p ds names) t (visit c now p' ds' names')
-operated w h q c now p p' ds ds' names names' ask (turn.Recorded stamp answer) free asks takes called =
+pub operated : (ts : Tasks) (w : World) (h : ℕ) (q : Request) (c now : ℕ) (p p' : Sight) (ds ds' : List Duty) (names names' : Names) (ask : Ask) (t : Turn) → ds ≡ []
+    → planned h names q ≡ Some ask → Turned ts w c now ask.actor (bare ask.event) None p ds t p' ds' → names' ≡ names_after names q t
+    → Operated ts w h q (visit c now p ds names) t (visit c now p' ds' names')
+operated ts w h q c now p p' ds ds' names names' ask (turn.Recorded stamp answer) free asks takes called =
     record { free = free; ask = ask; asks = asks; takes = takes; names = called }
-operated w h q c now p p' ds ds' names names' ask turn.NotReady free asks takes called =
+operated ts w h q c now p p' ds ds' names names' ask turn.NotReady free asks takes called =
     record { free = free; ask = ask; asks = asks; takes = takes; names = called }
-operated w h q c now p p' ds ds' names names' ask turn.Owes free asks takes called = absurd takes
-operated w h q c now p p' ds ds' names names' ask turn.Limit free asks takes called =
+operated ts w h q c now p p' ds ds' names names' ask turn.Owes free asks takes called = absurd takes
+operated ts w h q c now p p' ds ds' names names' ask turn.Limit free asks takes called =
     (free, takes.0, same_visit c now p p' ds ds' names names' takes.1 takes.2 called)
-operated w h q c now p p' ds ds' names names' ask turn.Memory free asks takes called =
+operated ts w h q c now p p' ds ds' names names' ask turn.Memory free asks takes called =
     (free, takes.0, same_visit c now p p' ds ds' names names' takes.1 takes.2 called)
 
 -- the effect of a request settles the names of a turn as its reply does

@@ -8,7 +8,7 @@ use Rattle.net_base.specs.declared.noted.Noted.{Noted}
 use Rattle.net_base.specs.declared.noted.Number.TheVariants as number
 use Rattle.net_base.specs.declared.world.World.{World}
 use Rattle.net_base.specs.Actors.{has_actor}
-use Rattle.net_base.specs.Legal.{IsLegal, IsTimed}
+use Rattle.net_base.specs.Legal.{IsLegalBy, IsTimedBy}
 use Rattle.net_base.specs.Net.{Net, after, owed}
 use Rattle.net_base.specs.Stamped.{In, at, of_actor, of_caller}
 use Rattle.journal.specs.declared.law.Roster.{Roster}
@@ -22,6 +22,7 @@ use Rattle.guest_laws.specs.Guests.{IsGuest, IsOfGuests, StaysGuest}
 use Rattle.guest_laws.specs.Own.{AreNext, AreTimely, AreTurns, IsLegalButScripts, StandsStill}
 use Rattle.guest_laws.specs.Works.{entries, noted_net}
 use Rattle.net_base.specs.Callers.{caller_count}
+use Rattle.net_base.specs.Tasks.{Tasks}
 use Rattle.net_locks.specs.Rosters.{AreReplayed, IsReplayed}
 use Rattle.net_guests.specs.Visits.{Finished, Gathering, Gathers, HasBook, HasGuest, IsWith, Visit}
 use Rattle.net_locks.specs.Turns.{Stays, own}
@@ -33,10 +34,10 @@ module _ (w : World) (r : Roster) where
   stands_on c a b d one two =
       record {
         owes = two.owes ∙ one.owes;
-        comes_next = two.comes_next ∙ one.comes_next;
+        comes_next = λ ts. two.comes_next ts ∙ one.comes_next ts;
         turns = λ t. two.turns (one.turns t);
-        nexts = λ t. two.nexts (one.nexts t);
-        timely = λ t. two.timely (one.timely t);
+        nexts = λ ts t. two.nexts ts (one.nexts ts t);
+        timely = λ ts t. two.timely ts (one.timely ts t);
       }
 
   pub stays_on : (c : ℕ) (p q s : Sight) → Stays w c p q → Stays w c q s → Stays w c p s
@@ -56,7 +57,7 @@ module _ (w : World) (r : Roster) where
           before = subst (λ (q : Sight). IsPrefix v.sight.seen q.seen) (sym is) ([], append-nil v.sight.seen);
           alone = ap (own v.caller) is;
           stands = subst (λ (q : Sight). StandsStill w v.caller v.sight.seen q.seen) (sym is)
-              (record { owes = refl; comes_next = refl; turns = λ t. t; nexts = λ t. t; timely = λ t. t });
+              (record { owes = refl; comes_next = λ ts. refl; turns = λ t. t; nexts = λ ts t. t; timely = λ ts t. t });
         };
       }
 
@@ -140,7 +141,7 @@ module _ (w : World) (r : Roster) (vs : List Visit) (p' : Sight) where
 
 -- The end.
 
-module _ (w : World) (r : Roster) (actors : (a : ActorName) → In a r.actors → has_actor w a ≡ true) (callers : r.callers ≡ caller_count w)
+module _ (ts : Tasks) (w : World) (r : Roster) (actors : (a : ActorName) → In a r.actors → has_actor w a ≡ true) (callers : r.callers ≡ caller_count w)
     (vs : List Visit) (p : Sight) (books : List Volume) (h : List Entry)
     (all : (c : ℕ) → c < r.callers → HasGuest c vs) (here : (v : Visit) → In v vs → IsWith w r v p) (whole : IsWhole r p books h) where
   of_guests : IsOfGuests w r p.seen
@@ -173,8 +174,8 @@ module _ (w : World) (r : Roster) (actors : (a : ActorName) → In a r.actors �
 
   pub finished : ((a : ActorName) → has_actor w a ≡ true → HasBook w a h) → (IsOfGuests w r p.seen → noted_net w p.seen ≡ after w (entries p.seen))
       → (IsOfGuests w r p.seen → IsLegalButScripts w (entries p.seen))
-      → (IsOfGuests w r p.seen → ((c : ℕ) → c < r.callers → AreNext w c p.seen) → IsLegal w (entries p.seen))
-      → (IsOfGuests w r p.seen → ((c : ℕ) → c < r.callers → AreTimely w c p.seen) → IsTimed w (entries p.seen)) → Finished w vs h
+      → (IsOfGuests w r p.seen → ((c : ℕ) → c < r.callers → AreNext ts w c p.seen) → IsLegalBy ts w (entries p.seen))
+      → (IsOfGuests w r p.seen → ((c : ℕ) → c < r.callers → AreTimely ts w c p.seen) → IsTimedBy ts w (entries p.seen)) → Finished ts w vs h
   finished has_books net but legal timed =
       record {
         lists = lists;
@@ -182,9 +183,9 @@ module _ (w : World) (r : Roster) (actors : (a : ActorName) → In a r.actors �
         books = has_books;
         but_scripts = subst (λ (l : List Entry). IsLegalButScripts w l) (sym whole.entries) (but of_guests);
         legal = λ each.
-            subst (λ (l : List Entry). IsLegal w l) (sym whole.entries)
-            (legal of_guests (λ c lt. let v = all c lt in subst (λ (k : ℕ). AreNext w k p.seen) v.2 ((here v.0 v.1).stays.stands.nexts (each v.0 v.1))));
+            subst (λ (l : List Entry). IsLegalBy ts w l) (sym whole.entries)
+            (legal of_guests (λ c lt. let v = all c lt in subst (λ (k : ℕ). AreNext ts w k p.seen) v.2 ((here v.0 v.1).stays.stands.nexts ts (each v.0 v.1))));
         timed = λ each.
-            subst (λ (l : List Entry). IsTimed w l) (sym whole.entries)
-            (timed of_guests (λ c lt. let v = all c lt in subst (λ (k : ℕ). AreTimely w k p.seen) v.2 ((here v.0 v.1).stays.stands.timely (each v.0 v.1))));
+            subst (λ (l : List Entry). IsTimedBy ts w l) (sym whole.entries)
+            (timed of_guests (λ c lt. let v = all c lt in subst (λ (k : ℕ). AreTimely ts w k p.seen) v.2 ((here v.0 v.1).stays.stands.timely ts (each v.0 v.1))));
       }

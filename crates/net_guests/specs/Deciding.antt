@@ -1,8 +1,9 @@
 -- What becomes of the clock's guest.
 use Rattle.std.specs.Prelude.{◌≡◌, ℕ, ◌==◌, true, false, []}
 use Rattle.net_base.specs.declared.world.World.{World}
-use Rattle.net_base.specs.Calm.{limited, movable, target}
+use Rattle.net_base.specs.Calm.{limited_by, movable_by, target_by}
 use Rattle.net_base.specs.Net.{Net}
+use Rattle.net_base.specs.Tasks.{Tasks}
 use Rattle.journal.specs.declared.law.Roster.{Roster}
 use Rattle.guest_laws.specs.Own.{AreNext, AreTimely}
 use Rattle.guest_laws.specs.Works.{noted_net}
@@ -16,25 +17,25 @@ abbrev pub net_of : World → Visit → Net
 net_of w v = noted_net w v.sight.seen
 
 -- it may move, has room, and moved to the target
-pub record Moves (w : World) (old : Visit) (m : ℕ) (new : Visit) : Type 0 where
-  pub may : movable w (net_of w old) ≡ true
-  pub has_room : limited w (net_of w old) ≡ false
-  pub target_is : m ≡ target w (net_of w old)
+pub record Moves (ts : Tasks) (w : World) (old : Visit) (m : ℕ) (new : Visit) : Type 0 where
+  pub may : movable_by ts w (net_of w old) ≡ true
+  pub has_room : limited_by ts w (net_of w old) ≡ false
+  pub target_is : m ≡ target_by ts w (net_of w old)
   pub free : old.owed ≡ []
-  pub entry : MovesTo w old.caller old.now m old.sight old.owed new.sight new.owed
+  pub entry : MovesTo ts w old.caller old.now m old.sight old.owed new.sight new.owed
   pub now_is : new.now ≡ m
 
 -- by the answer. Where it didn't move it is as it was
-abbrev pub Decided : World → Visit → Advance → Visit → Type 0
-Decided w old (advance.Moved m) new = Moves w old m new
-Decided w old advance.Memory new = new ≡ old
-Decided w old answer new = Keeps w (net_of w old) answer × (new ≡ old)
+abbrev pub Decided : Tasks → World → Visit → Advance → Visit → Type 0
+Decided ts w old (advance.Moved m) new = Moves ts w old m new
+Decided ts w old advance.Memory new = new ≡ old
+Decided ts w old answer new = Keeps ts w (net_of w old) answer × (new ≡ old)
 
 -- and what it leaves of the clock's guest, and of the others by its pass
-pub record Leaves (w : World) (r : Roster) (old : Visit) (answer : Advance) (new : Visit) : Type 0 where
+pub record Leaves (ts : Tasks) (w : World) (r : Roster) (old : Visit) (answer : Advance) (new : Visit) : Type 0 where
   pub caller : new.caller ≡ old.caller
   pub names : new.names ≡ old.names
   pub others : (v : Visit) → IsWith w r v old.sight → (v.caller == old.caller) ≡ false → IsWith w r v new.sight
-  pub nexts : AreNext w old.caller old.sight.seen → AreNext w old.caller new.sight.seen
-  pub timely : AreTimely w old.caller old.sight.seen → AreTimely w old.caller new.sight.seen
-  pub decided : Decided w old answer new
+  pub nexts : AreNext ts w old.caller old.sight.seen → AreNext ts w old.caller new.sight.seen
+  pub timely : AreTimely ts w old.caller old.sight.seen → AreTimely ts w old.caller new.sight.seen
+  pub decided : Decided ts w old answer new

@@ -9,7 +9,7 @@ use Rattle.net_base.specs.declared.world.World.{World}
 use Rattle.net_base.specs.Actors.{has_actor}
 use Rattle.net_base.specs.Callers.{IsScript, caller_of}
 use Rattle.net_base.specs.Duties.{Duty}
-use Rattle.net_base.specs.Legal.{IsLegal, IsTimed}
+use Rattle.net_base.specs.Legal.{IsLegalBy, IsTimedBy}
 use Rattle.net_base.specs.Net.{owed}
 use Rattle.net_base.specs.Stamped.{In, of_actor, of_caller}
 use Rattle.net_base.specs.Steps.{Ask, Names, no_names}
@@ -19,9 +19,10 @@ use Rattle.journal.specs.declared.tokens.Sight.{Sight}
 use Rattle.journal.specs.Closing.{plain}
 use Rattle.script_task.specs.Holdings.{Holdings}
 use Rattle.script_task.specs.declared.effect.Effect.{Effect}
-use Rattle.script_task.specs.declared.request.Request.{Request}
+use Rattle.net_base.specs.declared.request.Request.{Request}
 use Rattle.script_task.specs.Effects.{opened, settles}
-use Rattle.script_task.specs.Requests.{planned, settled}
+use Rattle.net_base.specs.Requests.{planned, settled}
+use Rattle.net_base.specs.Tasks.{Tasks}
 use Rattle.guest_laws.specs.Own.{AreNext, AreTimely, IsLegalButScripts}
 use Rattle.guest_laws.specs.Guests.{IsGuest}
 use Rattle.due_moments.specs.Marks.{Marks}
@@ -67,9 +68,9 @@ IsComplete w r b = IsHosted w r b.visit.caller b.visit.now b.visit.sight b.visit
 -- Turns.
 
 -- a guest's turn with this work at this actor
-abbrev pub Takes : World → ActorName → Work → Option ℕ → Visit → Turn → Visit → Type 0
-Takes w a work cites old answer new =
-    Turned w old.caller old.now a work cites old.sight old.owed answer new.sight new.owed
+abbrev pub Takes : Tasks → World → ActorName → Work → Option ℕ → Visit → Turn → Visit → Type 0
+Takes ts w a work cites old answer new =
+    Turned ts w old.caller old.now a work cites old.sight old.owed answer new.sight new.owed
 
 -- the names after a turn with a request
 abbrev pub names_after : Names → Request → Turn → Names
@@ -82,19 +83,19 @@ settled_by e (turn.Recorded stamp answer) b = settles e (opened e answer) b
 settled_by e _ b = b
 
 -- the turn of a request of a script's host, where nothing is owed
-pub record Asked (w : World) (h : ℕ) (q : Request) (old : Visit) (answer : Turn) (new : Visit) : Type 0 where
+pub record Asked (ts : Tasks) (w : World) (h : ℕ) (q : Request) (old : Visit) (answer : Turn) (new : Visit) : Type 0 where
   pub free : old.owed ≡ []
   pub ask : Ask
   pub asks : planned h old.names q ≡ Some ask
-  pub takes : Takes w ask.actor (bare ask.event) None old answer new
+  pub takes : Takes ts w ask.actor (bare ask.event) None old answer new
   pub names : new.names ≡ names_after old.names q answer
 
 -- what a request of a script's host did
-abbrev pub Operated : World → ℕ → Request → Visit → Turn → Visit → Type 0
-Operated w h q old turn.Owes new = (old.owed ≢ []) × (new ≡ old)
-Operated w h q old turn.Limit new = (old.owed ≡ []) × IsFull old.caller old.sight × (new ≡ old)
-Operated w h q old turn.Memory new = (old.owed ≡ []) × HasRoom old.caller old.sight × (new ≡ old)
-Operated w h q old answer new = Asked w h q old answer new
+abbrev pub Operated : Tasks → World → ℕ → Request → Visit → Turn → Visit → Type 0
+Operated ts w h q old turn.Owes new = (old.owed ≢ []) × (new ≡ old)
+Operated ts w h q old turn.Limit new = (old.owed ≡ []) × IsFull old.caller old.sight × (new ≡ old)
+Operated ts w h q old turn.Memory new = (old.owed ≡ []) × HasRoom old.caller old.sight × (new ≡ old)
+Operated ts w h q old answer new = Asked ts w h q old answer new
 
 -- the same guest as before, its pass, duties and names aside
 pub record IsSame (old new : Visit) : Type 0 where
@@ -120,13 +121,13 @@ pub record HasBook (w : World) (a : ActorName) (h : List Entry) : Type 0 where
 -- the history of these guests: each caller's entries are those that its guest knows, and it owes after them what that knows;
 -- each actor's are those of its book; and it is legal, but that the entries of scripts are their next events; legal where they are, and timed where each
 -- move comes in time
-pub record Finished (w : World) (vs : List Visit) (h : List Entry) : Type 0 where
+pub record Finished (ts : Tasks) (w : World) (vs : List Visit) (h : List Entry) : Type 0 where
   pub lists : (v : Visit) → In v vs → of_caller v.caller h ≡ map plain (own v.caller v.sight)
   pub owes : (v : Visit) → In v vs → owed w h v.caller ≡ v.owed
   pub books : (a : ActorName) → has_actor w a ≡ true → HasBook w a h
   pub but_scripts : IsLegalButScripts w h
-  pub legal : ((v : Visit) → In v vs → AreNext w v.caller v.sight.seen) → IsLegal w h
-  pub timed : ((v : Visit) → In v vs → AreTimely w v.caller v.sight.seen) → IsTimed w h
+  pub legal : ((v : Visit) → In v vs → AreNext ts w v.caller v.sight.seen) → IsLegalBy ts w h
+  pub timed : ((v : Visit) → In v vs → AreTimely ts w v.caller v.sight.seen) → IsTimedBy ts w h
 
 -- the passes of these guests were taken in: who was with the pass is still, and the guests' callers are
 pub record Gathers (w : World) (r : Roster) (p : Sight) (vs : List Visit) (p' : Sight) : Type 0 where

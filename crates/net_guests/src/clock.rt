@@ -28,10 +28,10 @@ impl<J: Naming + Placing> Bundle<J> {
         requires world { J.world ≡ world.now }
         requires is { IsWorld world.now }
         requires clock { caller_of J.world self.old.visit.caller ≡ IsClock }
-        requires all { AllStand J.world J.run.roster self.old.visit.sight standings.now }
+        requires all { AllStand J.tasks J.world J.run.roster self.old.visit.sight standings.now }
         ensures complete { IsComplete J.world J.run.roster self.new }
         ensures guests { IsOfGuests J.world J.run.roster self.old.visit.sight.seen }
-        ensures leaves { Leaves J.world J.run.roster self.old.visit result self.new.visit }
+        ensures leaves { Leaves J.tasks J.world J.run.roster self.old.visit result self.new.visit }
     {
         let halt = locks.halt(rt, world, standings, &mut self.visitor.bearer);
         if let Some(answer) = halt {

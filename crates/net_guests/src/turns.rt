@@ -26,7 +26,7 @@ pub fn first_spot<J: Naming + Placing>(
     bundle: &Bundle<J>,
 ) -> Spot {
     match bundle.visitor.duties.first() {
-        Some(duty) => locks.spot_of(duty.actor),
+        Some(duty) => locks.spot_of(duty.actor, &duty.work().event),
         None => Spot::nowhere(),
     }
 }
@@ -45,7 +45,7 @@ impl<J: Naming + Placing> Bundle<J> {
         ensures same { IsSame self.old.visit self.new.visit }
         ensures names { self.new.visit.names ≡ self.old.visit.names }
         ensures turn { (d : AnyDuty) → slice_get self.old.visit.owed 0 ≡ Some d
-            → Takes J.world d.actor (work_of_duty d) (Some d.cites) self.old.visit result self.new.visit }
+            → Takes J.tasks J.world d.actor (work_of_duty d) (Some d.cites) self.old.visit result self.new.visit }
     {
         locks.serve(rt, gate, &mut self.visitor)
     }
@@ -64,9 +64,9 @@ impl<J: Naming + Placing> Bundle<J> {
         ensures same { IsSame self.old.visit self.new.visit }
         ensures names { self.new.visit.names ≡ self.old.visit.names }
         ensures duty { (d : AnyDuty) → slice_get self.old.visit.owed 0 ≡ Some d
-            → Takes J.world d.actor (work_of_duty d) (Some d.cites) self.old.visit result self.new.visit }
+            → Takes J.tasks J.world d.actor (work_of_duty d) (Some d.cites) self.old.visit result self.new.visit }
         ensures free { self.old.visit.owed ≡ []
-            → Takes J.world (name.Medium medium) (bare event.Take) None self.old.visit result self.new.visit }
+            → Takes J.tasks J.world (name.Medium medium) (bare event.Take) None self.old.visit result self.new.visit }
     {
         turns_are_these();
         if self.owes() {
@@ -91,7 +91,7 @@ impl<J: Naming + Placing> Bundle<J> {
         ensures complete { IsComplete J.world J.run.roster self.new }
         ensures same { IsSame self.old.visit self.new.visit }
         ensures turn { (s : AnyScript) → caller_of J.world self.old.visit.caller ≡ IsScript s
-            → Operated J.world s.host request.now self.old.visit result self.new.visit }
+            → Operated J.tasks J.world s.host request.now self.old.visit result self.new.visit }
     {
         if self.owes() {
             return Turn::Owes;
@@ -119,7 +119,7 @@ impl<J: Naming + Placing> Bundle<J> {
         ensures complete { IsComplete J.world J.run.roster self.new }
         ensures same { IsSame self.old.visit self.new.visit }
         ensures turn { (s : AnyScript) → caller_of J.world self.old.visit.caller ≡ IsScript s
-            → Operated J.world s.host request self.old.visit result self.new.visit }
+            → Operated J.tasks J.world s.host request self.old.visit result self.new.visit }
     {
         turns_are_these();
         effects_settle();
@@ -137,7 +137,7 @@ impl<J: Naming + Placing> Bundle<J> {
         if reserve(&mut self.fids, &effect).is_err() {
             return Turn::Memory;
         }
-        *spot = locks.spot_of(actor);
+        *spot = locks.spot_of(actor, &event);
         let turn = locks.own(rt, gate, &mut self.visitor, actor, event);
         settle_turn(&mut self.fids, effect, &turn);
         turn

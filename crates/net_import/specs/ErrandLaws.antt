@@ -21,9 +21,9 @@ use Rattle.net_import.specs.Errands as spec
 use Rattle.net_import.specs.Standings.{TalksBy}
 use Rattle.net_import.specs.TalkLaws.{follows_read, heads, moves_write, names_stay}
 use Rattle.net_import.specs.Talks as talk
-use Rattle.script_task.specs.declared.request.Request.{Request}
-use Rattle.script_task.specs.declared.request.Request.TheVariants as request
-use Rattle.script_task.specs.Requests.{settled}
+use Rattle.net_base.specs.declared.request.Request.{Request}
+use Rattle.net_base.specs.declared.request.Request.TheVariants as request
+use Rattle.net_base.specs.Requests.{settled}
 use Rattle.script_task.specs.Task.{AsksSo, Heads, MovesSo, follow}
 
 -- The beginning.

@@ -15,8 +15,8 @@ use Rattle.net_import.specs.declared.errand.Errand.TheVariants as errand
 use Rattle.net_import.specs.declared.errand.Rclose.{Rclose}
 use Rattle.net_import.specs.Standings.{Talks}
 use Rattle.net_import.specs.Talks as talk
-use Rattle.script_task.specs.declared.request.Request.{Request}
-use Rattle.script_task.specs.declared.request.Request.TheVariants as request
+use Rattle.net_base.specs.declared.request.Request.{Request}
+use Rattle.net_base.specs.declared.request.Request.TheVariants as request
 
 -- ---- the beginning
 

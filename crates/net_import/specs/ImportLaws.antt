@@ -17,8 +17,8 @@ use Rattle.net_import.specs.Importing.{follows}
 use Rattle.net_import.specs.Standings.{TalksBy}
 use Rattle.net_import.specs.TalkLaws.{follows_read, heads, moves_write, names_stay}
 use Rattle.net_import.specs.Talks as talk
-use Rattle.script_task.specs.declared.request.Request.{Request}
-use Rattle.script_task.specs.Requests.{settled}
+use Rattle.net_base.specs.declared.request.Request.{Request}
+use Rattle.net_base.specs.Requests.{settled}
 use Rattle.script_task.specs.Task.{AsksSo, MovesSo, follow, fits_play}
 
 pub fresh : (t : Import) (called : List ℕ) → t ≡ spec.begun called → spec.Begins t (step.Import called)

@@ -11,7 +11,7 @@ use Rattle.net_import.specs.declared.import.Import.{Import}
 use Rattle.net_import.specs.declared.talk.TalkPhase.TheVariants as phase
 use Rattle.net_import.specs.Standings.{Talks}
 use Rattle.net_import.specs.Talks as talk
-use Rattle.script_task.specs.declared.request.Request.{Request}
+use Rattle.net_base.specs.declared.request.Request.{Request}
 
 abbrev pub begun : List ℕ → Import
 begun called = record { talk = talk.begun called (t_bytes version_message); attaches = false }

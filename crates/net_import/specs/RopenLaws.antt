@@ -23,10 +23,10 @@ use Rattle.net_import.specs.Ropening.{follows}
 use Rattle.net_import.specs.Standings.{TalksBy, reading}
 use Rattle.net_import.specs.TalkLaws.{follows_read, heads, names_stay}
 use Rattle.net_import.specs.Talks as talk
-use Rattle.script_task.specs.declared.request.Request.{Request}
-use Rattle.script_task.specs.declared.request.Request.TheVariants as request
+use Rattle.net_base.specs.declared.request.Request.{Request}
+use Rattle.net_base.specs.declared.request.Request.TheVariants as request
 use Rattle.script_task.specs.Fitting.{is_unopened}
-use Rattle.script_task.specs.Requests.{settled}
+use Rattle.net_base.specs.Requests.{settled}
 use Rattle.script_task.specs.Task.{AsksSo, Heads, MovesSo, follow, fits_play}
 
 -- a reply to what isn't open is a refusal

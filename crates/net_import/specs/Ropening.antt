@@ -16,8 +16,8 @@ use Rattle.net_import.specs.declared.ropen.RopenStage.TheVariants as stage
 use Rattle.net_import.specs.declared.talk.Talk.{Talk}
 use Rattle.net_import.specs.Standings.{Talks}
 use Rattle.net_import.specs.Talks as talk
-use Rattle.script_task.specs.declared.request.Request.{Request}
-use Rattle.script_task.specs.declared.request.Request.TheVariants as request
+use Rattle.net_base.specs.declared.request.Request.{Request}
+use Rattle.net_base.specs.declared.request.Request.TheVariants as request
 
 abbrev pub begun : List ℕ → List ℕ → List ℕ → Mode → Left → Ropen
 begun called call path m left = record {

@@ -9,9 +9,9 @@ use Rattle.net_import.specs.declared.talk.TalkPhase.TheVariants as phase
 use Rattle.net_import.specs.Standings.{TalksBy, reading, writing}
 use Rattle.net_import.specs.Talks as talk
 use Rattle.script_task.proofs.Events.{read_is, write_is}
-use Rattle.script_task.specs.declared.request.Request.{Request}
-use Rattle.script_task.specs.declared.request.Request.TheVariants as request
-use Rattle.script_task.specs.Requests.{settled}
+use Rattle.net_base.specs.declared.request.Request.{Request}
+use Rattle.net_base.specs.declared.request.Request.TheVariants as request
+use Rattle.net_base.specs.Requests.{settled}
 use Rattle.script_task.specs.Task.{Heads, follow}
 
 -- its requests

@@ -5,8 +5,8 @@ use Rattle.net_base.specs.Steps.{is_accepted}
 use Rattle.net_import.specs.declared.talk.Talk.{Talk}
 use Rattle.net_import.specs.declared.talk.TalkPhase.{TalkPhase}
 use Rattle.net_import.specs.declared.talk.TalkPhase.TheVariants as phase
-use Rattle.script_task.specs.declared.request.Request.{Request}
-use Rattle.script_task.specs.declared.request.Request.TheVariants as request
+use Rattle.net_base.specs.declared.request.Request.{Request}
+use Rattle.net_base.specs.declared.request.Request.TheVariants as request
 
 abbrev pub begun : List ℕ → List ℕ → Talk
 begun call message = record { call = call; message = message; phase = phase.Write }

@@ -10,7 +10,7 @@ use net_base::{Left, Octets, Remote, Reply};
 use script_task::{Names, Request, Task};
 use std::alloc::{AllocError, Global};
 
-/// One message about a remote file. A name that no remote file has is asked for in its place.
+/// One message about a remote file: it is read, written or closed. A name that no remote file has is asked for in its place.
 #[derive(Debug, Drop)]
 pub enum Errand {
     Unbound { name: Octets, is_through: bool },
@@ -47,6 +47,44 @@ impl Errand {
         ensures { IfOk result (λ e. e ≡ spec.sends remote.now message) }
     {
         Ok(Errand::Talks(Talk::new(remote.call.clone()?, message)))
+    }
+
+    /// Reads so many bytes of the file, where this is left by earlier steps.
+    #[tactic(auto, using(crate::specs::ErrandLaws::rread_fresh))]
+    pub fn read(alloc: Global, name: &[u8], count: u32, left: &Left) -> Result<Errand, AllocError>
+        ensures value { IfOk result (λ t. t ≡ spec.reads name.now count left.now) }
+        ensures stands { IfOk result (λ t. spec.Begins t left.now (step.Rread name.now count)) }
+    {
+        let errand = match remote_of(left, name) {
+            None => Errand::unbound(alloc, name)?,
+            Some(remote) => Errand::sends(remote, messages::read(alloc, remote.fid, count)?)?,
+        };
+        Ok(errand)
+    }
+
+    /// Writes the text to the file, where this is left by earlier steps.
+    #[tactic(auto, using(crate::specs::ErrandLaws::rwrite_fresh))]
+    pub fn write(alloc: Global, name: &[u8], text: &[u8], left: &Left) -> Result<Errand, AllocError>
+        requires short { length text.now ≤ 488 }
+        ensures value { IfOk result (λ t. t ≡ spec.writes name.now text.now left.now) }
+        ensures stands { IfOk result (λ t. spec.Begins t left.now (step.Rwrite name.now text.now)) }
+    {
+        let errand = match remote_of(left, name) {
+            None => Errand::unbound(alloc, name)?,
+            Some(remote) => Errand::sends(remote, messages::write(alloc, remote.fid, text)?)?,
+        };
+        Ok(errand)
+    }
+
+    // Closes the file.
+    fn close(alloc: Global, name: &[u8], left: &Left) -> Result<Errand, AllocError>
+        ensures { IfOk result (λ t. t ≡ spec.closes name.now left.now) }
+    {
+        let errand = match remote_of(left, name) {
+            None => Errand::unbound(alloc, name)?,
+            Some(remote) => Errand::sends(remote, messages::clunk(alloc, remote.fid)?)?,
+        };
+        Ok(errand)
     }
 }
 
@@ -92,49 +130,6 @@ impl Task for Errand {
     }
 }
 
-/// Reads a remote file.
-#[derive(Debug, Drop)]
-pub struct Rread {
-    errand: Errand,
-}
-
-impl Rread {
-    /// Reads so many bytes of the file, where this is left by earlier steps.
-    #[tactic(auto, using(crate::specs::ErrandLaws::rread_fresh))]
-    pub fn new(alloc: Global, name: &[u8], count: u32, left: &Left) -> Result<Rread, AllocError>
-        ensures value { IfOk result (λ t. t.errand ≡ spec.reads name.now count left.now) }
-        ensures stands { IfOk result (λ t. spec.Begins t.errand left.now (step.Rread name.now count)) }
-    {
-        let errand = match remote_of(left, name) {
-            None => Errand::unbound(alloc, name)?,
-            Some(remote) => Errand::sends(remote, messages::read(alloc, remote.fid, count)?)?,
-        };
-        Ok(Rread { errand })
-    }
-}
-
-/// Writes to a remote file.
-#[derive(Debug, Drop)]
-pub struct Rwrite {
-    errand: Errand,
-}
-
-impl Rwrite {
-    /// Writes the text to the file, where this is left by earlier steps.
-    #[tactic(auto, using(crate::specs::ErrandLaws::rwrite_fresh))]
-    pub fn new(alloc: Global, name: &[u8], text: &[u8], left: &Left) -> Result<Rwrite, AllocError>
-        requires short { length text.now ≤ 488 }
-        ensures value { IfOk result (λ t. t.errand ≡ spec.writes name.now text.now left.now) }
-        ensures stands { IfOk result (λ t. spec.Begins t.errand left.now (step.Rwrite name.now text.now)) }
-    {
-        let errand = match remote_of(left, name) {
-            None => Errand::unbound(alloc, name)?,
-            Some(remote) => Errand::sends(remote, messages::write(alloc, remote.fid, text)?)?,
-        };
-        Ok(Rwrite { errand })
-    }
-}
-
 /// Closes a remote file.
 #[derive(Debug, Drop)]
 pub struct Rclose {
@@ -160,10 +155,7 @@ impl Rclose {
         ensures value { IfOk result (λ t. t ≡ record { name = name.now; errand = spec.closes name.now left.now }) }
         ensures stands { IfOk result (λ t. spec.Begins t.errand left.now (step.Rclose name.now)) }
     {
-        let errand = match remote_of(left, name) {
-            None => Errand::unbound(alloc, name)?,
-            Some(remote) => Errand::sends(remote, messages::clunk(alloc, remote.fid)?)?,
-        };
+        let errand = Errand::close(alloc, name, left)?;
         Ok(Rclose {
             name: Octets::from_slice(alloc, name)?,
             errand,
@@ -175,58 +167,6 @@ impl Rclose {
         ensures { left.new ≡ spec.leaves self.now left.old }
     {
         forget(left, self.name.as_slice());
-    }
-}
-
-impl Task for Rread {
-    ghost use Rattle.net_import.specs.ErrandLaws as laws;
-
-    ghost asks = { λ t names. spec.asks t.errand names };
-
-    ghost after = { λ t r. record t { errand = spec.after t.errand r } };
-
-    ghost Stands = { λ h names t p. spec.StandsFor h names t.errand p };
-
-    ghost asks_so = { λ h names t p stands. laws.asks_so h names t.errand p stands };
-
-    ghost moves_so = { λ h names t p q r stands asked fit. laws.moves_so h names t.errand p q r stands asked fit };
-
-    fn next(&self, alloc: Global, fids: &Names) -> Result<Option<Request>, AllocError> {
-        self.errand.next(alloc, fids)
-    }
-
-    fn is_through(&self) -> bool {
-        self.errand.is_through()
-    }
-
-    fn told(&mut self, alloc: Global, reply: Reply) -> Result<(), AllocError> {
-        self.errand.told(alloc, reply)
-    }
-}
-
-impl Task for Rwrite {
-    ghost use Rattle.net_import.specs.ErrandLaws as laws;
-
-    ghost asks = { λ t names. spec.asks t.errand names };
-
-    ghost after = { λ t r. record t { errand = spec.after t.errand r } };
-
-    ghost Stands = { λ h names t p. spec.StandsFor h names t.errand p };
-
-    ghost asks_so = { λ h names t p stands. laws.asks_so h names t.errand p stands };
-
-    ghost moves_so = { λ h names t p q r stands asked fit. laws.moves_so h names t.errand p q r stands asked fit };
-
-    fn next(&self, alloc: Global, fids: &Names) -> Result<Option<Request>, AllocError> {
-        self.errand.next(alloc, fids)
-    }
-
-    fn is_through(&self) -> bool {
-        self.errand.is_through()
-    }
-
-    fn told(&mut self, alloc: Global, reply: Reply) -> Result<(), AllocError> {
-        self.errand.told(alloc, reply)
     }
 }
 

@@ -8,7 +8,8 @@ mod remotes;
 mod ropen;
 mod talk;
 
-pub use errand::{Rclose, Rread, Rwrite};
+pub use errand::{Errand, Rclose};
 pub use import::Import;
+pub use messages::is_open;
 pub use remotes::is_remote;
 pub use ropen::Ropen;

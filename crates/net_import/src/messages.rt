@@ -182,7 +182,8 @@ pub(crate) fn is_whole(alloc: Global, path: &[u8], text: &[u8]) -> Result<bool, 
     }
 }
 
-pub(crate) fn is_open(alloc: Global, text: &[u8]) -> Result<bool, AllocError>
+/// Whether it is the answer to an open that isn't refused.
+pub fn is_open(alloc: Global, text: &[u8]) -> Result<bool, AllocError>
     ensures { IfOk result (λ is. is ≡ spec.is_open text.now) }
 {
     match answer_in(alloc, text)? {

@@ -13,6 +13,7 @@ use Rattle.net_base.specs.declared.reply.Reply.{Reply}
 use Rattle.net_base.specs.declared.world.World.{World}
 use Rattle.net_base.specs.Duties.{Duty}
 use Rattle.net_base.specs.Stamped.{at, at_from}
+use Rattle.net_base.specs.Tasks.{Tasks}
 use Rattle.journal.proofs.Lists.{prefix_trans}
 use Rattle.journal.specs.declared.law.Roster.{Roster}
 use Rattle.journal.specs.declared.tokens.Sight.{Sight}
@@ -68,9 +69,9 @@ covers_noted w r c now a work cites p p' ds g stamp o d noted_at is m m' notes c
     subst (λ (l : List (ℕ × Noted)). Covers l m') (sym grown) (notes (own c p) x covers (sym is))
 
 -- a move of the clock
-pub covers_move : (w : World) (c now : ℕ) (work : Work) (cites : Option ℕ) (p p' : Sight) (ds ds' : List Duty) (stamp : ℕ) (answer : Reply) (m : Marks)
-    → Recorded w c now name.Clock work cites p ds stamp answer p' ds' → Covers (own c p) m → Covers (own c p') m
-covers_move w c now work cites p p' ds ds' stamp answer m rec covers =
+pub covers_move : (ts : Tasks) (w : World) (c now : ℕ) (work : Work) (cites : Option ℕ) (p p' : Sight) (ds ds' : List Duty) (stamp : ℕ) (answer : Reply) (m : Marks)
+    → Recorded ts w c now name.Clock work cites p ds stamp answer p' ds' → Covers (own c p) m → Covers (own c p') m
+covers_move ts w c now work cites p p' ds ds' stamp answer m rec covers =
     let x = made name.Clock c now work cites (without_copy rec.step.outcome) in
     let grown : own c p' ≡ own c p ++ (stamp, x) ∷ [] = ap (at (number.Caller c)) rec.seen ∙ own_more rec.past x stamp rec.stamp_is (own c p) rec.alone in
     subst (λ (l : List (ℕ × Noted)). Covers l m) (sym grown) (covers_other (own c p) x name.Clock stamp m covers refl refl)
@@ -80,18 +81,18 @@ covers_move w c now work cites p p' ds ds' stamp answer m rec covers =
 grown_by : (p p' : Sight) (past : List Noted) (x : Noted) → IsPrefix p.seen past → p'.seen ≡ past ++ x ∷ [] → IsPrefix p.seen p'.seen
 grown_by p p' past x before seen = prefix_trans p.seen past p'.seen before (x ∷ [], sym seen)
 
-pub recorded_grows : (w : World) (c now : ℕ) (a : ActorName) (work : Work) (cites : Option ℕ) (p p' : Sight) (ds ds' : List Duty) (stamp : ℕ) (answer : Reply)
-    → Recorded w c now a work cites p ds stamp answer p' ds' → IsPrefix p.seen p'.seen
-recorded_grows w c now a work cites p p' ds ds' stamp answer rec =
+pub recorded_grows : (ts : Tasks) (w : World) (c now : ℕ) (a : ActorName) (work : Work) (cites : Option ℕ) (p p' : Sight) (ds ds' : List Duty) (stamp : ℕ) (answer : Reply)
+    → Recorded ts w c now a work cites p ds stamp answer p' ds' → IsPrefix p.seen p'.seen
+recorded_grows ts w c now a work cites p p' ds ds' stamp answer rec =
     grown_by p p' rec.past (made a c now work cites (without_copy rec.step.outcome)) rec.before rec.seen
 
 pub same_grows : (p p' : Sight) → p' ≡ p → IsPrefix p.seen p'.seen
 same_grows p p' same = subst (λ (q : Sight). IsPrefix p.seen q.seen) (sym same) ([], append-nil p.seen)
 
-pub turned_grows : (w : World) (c now : ℕ) (a : ActorName) (work : Work) (cites : Option ℕ) (p p' : Sight) (ds ds' : List Duty) (t : Turn)
-    → Turned w c now a work cites p ds t p' ds' → IsPrefix p.seen p'.seen
-turned_grows w c now a work cites p p' ds ds' (turn.Recorded stamp answer) turned = recorded_grows w c now a work cites p p' ds ds' stamp answer turned
-turned_grows w c now a work cites p p' ds ds' turn.NotReady turned = turned.0.stays.before
-turned_grows w c now a work cites p p' ds ds' turn.Owes turned = absurd turned
-turned_grows w c now a work cites p p' ds ds' turn.Limit turned = same_grows p p' turned.1
-turned_grows w c now a work cites p p' ds ds' turn.Memory turned = same_grows p p' turned.1
+pub turned_grows : (ts : Tasks) (w : World) (c now : ℕ) (a : ActorName) (work : Work) (cites : Option ℕ) (p p' : Sight) (ds ds' : List Duty) (t : Turn)
+    → Turned ts w c now a work cites p ds t p' ds' → IsPrefix p.seen p'.seen
+turned_grows ts w c now a work cites p p' ds ds' (turn.Recorded stamp answer) turned = recorded_grows ts w c now a work cites p p' ds ds' stamp answer turned
+turned_grows ts w c now a work cites p p' ds ds' turn.NotReady turned = turned.0.stays.before
+turned_grows ts w c now a work cites p p' ds ds' turn.Owes turned = absurd turned
+turned_grows ts w c now a work cites p p' ds ds' turn.Limit turned = same_grows p p' turned.1
+turned_grows ts w c now a work cites p p' ds ds' turn.Memory turned = same_grows p p' turned.1

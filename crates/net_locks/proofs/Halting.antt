@@ -8,6 +8,7 @@ use Rattle.net_base.specs.Callers.{IsClock, caller_count, caller_of, clock_numbe
 use Rattle.net_base.specs.Net.{Net}
 use Rattle.net_base.specs.Next.{by}
 use Rattle.net_base.specs.Stamped.{at, moment}
+use Rattle.net_base.specs.Tasks.{Tasks}
 use Rattle.calm_laws.specs.Could.{is_full}
 use Rattle.journal.specs.declared.law.Roster.{Roster}
 use Rattle.journal.specs.declared.tokens.Sight.{Sight}
@@ -26,7 +27,7 @@ use Rattle.net_locks.proofs.Sighted.{clock_at, counted, holds_all, looked_same}
 
 -- Room.
 
-module _ (w : World) (r : Roster) (p : Sight) (ss : List Standing) (stand : AllStand w r p ss) (callers : r.callers ≡ caller_count w)
+module _ (ts : Tasks) (w : World) (r : Roster) (p : Sight) (ss : List Standing) (stand : AllStand ts w r p ss) (callers : r.callers ≡ caller_count w)
     (past : (noted_net w p.seen).past ≡ entries p.seen) (c : ℕ) (is : caller_of w c ≡ IsClock) where
   abbrev net : Net
   net = noted_net w p.seen
@@ -73,7 +74,7 @@ pub in_end : (moment end now last : ℕ) → moment ≤ end → moment ≡ now �
 in_end moment end now last within here is apart = omega arith
 
 -- the history by a look
-pub guests_seen : (w : World) (r : Roster) (p q : Sight) (ss : List Standing) (front : ℕ) → AllStand w r p ss → IsRosterOf w r → Looked r p front q → IsOfGuests w r p.seen
-guests_seen w r p q ss front stand roster look =
-    of_guests w r p ss stand (known w (count_in w) r.actors roster.actors_are) roster.callers_are
-    (subst (λ (s : Sight). Lawful r s.seen) (looked_same r p front q (holds_all w r p ss stand) look) look.lawful)
+pub guests_seen : (ts : Tasks) (w : World) (r : Roster) (p q : Sight) (ss : List Standing) (front : ℕ) → AllStand ts w r p ss → IsRosterOf w r → Looked r p front q → IsOfGuests w r p.seen
+guests_seen ts w r p q ss front stand roster look =
+    of_guests ts w r p ss stand (known w (count_in w) r.actors roster.actors_are) roster.callers_are
+    (subst (λ (s : Sight). Lawful r s.seen) (looked_same r p front q (holds_all ts w r p ss stand) look) look.lawful)

@@ -12,11 +12,12 @@ use Rattle.net_base.specs.declared.history.Entry.{Entry}
 use Rattle.net_base.specs.declared.world.World.{World}
 use Rattle.net_base.specs.Actors.{Actor, has_actor}
 use Rattle.net_base.specs.Callers.{caller_count, caller_of}
-use Rattle.net_base.specs.Calm.{awaited_moment, least, target}
+use Rattle.net_base.specs.Calm.{awaited_moment, least, target_by}
 use Rattle.net_base.specs.Duties.{conversations, due_of, generation_of}
 use Rattle.net_base.specs.Net.{Net}
-use Rattle.net_base.specs.Next.{next_of}
+use Rattle.net_base.specs.Next.{next_of_by}
 use Rattle.net_base.specs.Stamped.{In}
+use Rattle.net_base.specs.Tasks.{Tasks}
 use Rattle.calm_laws.specs.Moments.{IsAwaited, IsDue}
 use Rattle.journal.specs.declared.law.Roster.{Roster}
 use Rattle.journal.specs.declared.tokens.Sight.{Sight}
@@ -120,21 +121,21 @@ module _ (w : World) (net : Net) (only : (a : ActorName) → In a (conversations
       let one = only a.0 a.1 in
       record { actor = a.0; there = a.1; due = due_from net.actors a.0 d.0 one.0 one.1 one.2 one.3 a.2 ∙ ap (λ (k : ℕ). Some k) (sym d.2) }
 
-module _ (w : World) (r : Roster) (p : Sight) (ss : List Standing) (stand : AllStand w r p ss) (callers : r.callers ≡ caller_count w)
+module _ (ts : Tasks) (w : World) (r : Roster) (p : Sight) (ss : List Standing) (stand : AllStand ts w r p ss) (callers : r.callers ≡ caller_count w)
     (past : (noted_net w p.seen).past ≡ entries p.seen) where
   abbrev net : Net
   net = noted_net w p.seen
 
-  awaits_so : (s : Standing) → StandsAt w r p s → awaited_moment (next_of w (caller_of w s.caller) net.past s.caller) ≡ awaited_of s
-  awaits_so s st = ap (λ (h : List Entry). awaited_moment (next_of w (caller_of w s.caller) h s.caller)) past ∙ ap awaited_moment (sym st.next_is)
+  awaits_so : (s : Standing) → StandsAt ts w r p s → awaited_moment (next_of_by ts w (caller_of w s.caller) net.past s.caller) ≡ awaited_of s
+  awaits_so s st = ap (λ (h : List Entry). awaited_moment (next_of_by ts w (caller_of w s.caller) h s.caller)) past ∙ ap awaited_moment (sym st.next_is)
 
-  awaited_in : (m : ℕ) → IsAwaited w net m → In m (awaited_moments ss)
+  awaited_in : (m : ℕ) → IsAwaited ts w net m → In m (awaited_moments ss)
   awaited_in m is =
       let s = stand.all is.caller (subst (λ (n : ℕ). is.caller < n) (sym callers) is.known) in
       in_filter_map awaited_of ss s.0 m s.1
-      (sym (awaits_so s.0 (stand.each s.0 s.1)) ∙ (ap (λ (c : ℕ). awaited_moment (next_of w (caller_of w c) net.past c)) s.2 ∙ is.awaits))
+      (sym (awaits_so s.0 (stand.each s.0 s.1)) ∙ (ap (λ (c : ℕ). awaited_moment (next_of_by ts w (caller_of w c) net.past c)) s.2 ∙ is.awaits))
 
-  in_awaited : (m : ℕ) → In m (awaited_moments ss) → IsAwaited w net m
+  in_awaited : (m : ℕ) → In m (awaited_moments ss) → IsAwaited ts w net m
   in_awaited m there =
       let s = filter_map_in awaited_of ss m there in
       let st = stand.each s.0 s.1 in
@@ -142,9 +143,9 @@ module _ (w : World) (r : Roster) (p : Sight) (ss : List Standing) (stand : AllS
 
   -- the least of these, the end moment among them, is the target
   pub target_is : ((a : ActorName) → In a (conversations w) → IsOne w a)
-      → ((t : ℕ) → t ≤ w.end → ((m : ℕ) → IsDue w net m → t ≤ m) → ((m : ℕ) → IsAwaited w net m → t ≤ m) → (t ≡ w.end) ⊎ (IsDue w net t ⊎ IsAwaited w net t) → t ≡ target w net)
+      → ((t : ℕ) → t ≤ w.end → ((m : ℕ) → IsDue w net m → t ≤ m) → ((m : ℕ) → IsAwaited ts w net m → t ≤ m) → (t ≡ w.end) ⊎ (IsDue w net t ⊎ IsAwaited ts w net t) → t ≡ target_by ts w net)
       → (dues : List Due) (awaited t : ℕ) → dues ≡ dues_of w net.actors → awaited ≡ least w.end (awaited_moments ss) → t ≡ least awaited (due_moments dues)
-      → (t ≡ target w net) × (t ≤ w.end)
+      → (t ≡ target_by ts w net) × (t ≤ w.end)
   target_is only law dues awaited t are awaits is = (law t within each_due each_awaited one, within)
     where
       here : t ≡ least awaited (due_moments (dues_of w net.actors))
@@ -156,18 +157,18 @@ module _ (w : World) (r : Roster) (p : Sight) (ss : List Standing) (stand : AllS
       each_due : (m : ℕ) → IsDue w net m → t ≤ m
       each_due m due = omega (arith, here, within_each awaited (due_moments (dues_of w net.actors)) m (due_in w net only m due))
 
-      each_awaited : (m : ℕ) → IsAwaited w net m → t ≤ m
+      each_awaited : (m : ℕ) → IsAwaited ts w net m → t ≤ m
       each_awaited m a = omega (arith, here, within_last awaited (due_moments (dues_of w net.actors)), awaits, within_each w.end (awaited_moments ss) m (awaited_in m a))
 
       by_awaited : (least awaited (due_moments (dues_of w net.actors)) ≡ awaited) → (least w.end (awaited_moments ss) ≡ w.end) ⊎ In (least w.end (awaited_moments ss)) (awaited_moments ss)
-          → (t ≡ w.end) ⊎ (IsDue w net t ⊎ IsAwaited w net t)
+          → (t ≡ w.end) ⊎ (IsDue w net t ⊎ IsAwaited ts w net t)
       by_awaited at (inl last) = inl (here ∙ (at ∙ (awaits ∙ last)))
       by_awaited at (inr there) = inr (inr (in_awaited t (subst (λ (m : ℕ). In m (awaited_moments ss)) (sym (here ∙ (at ∙ awaits))) there)))
 
       by_due : (least awaited (due_moments (dues_of w net.actors)) ≡ awaited) ⊎ In (least awaited (due_moments (dues_of w net.actors))) (due_moments (dues_of w net.actors))
-          → (t ≡ w.end) ⊎ (IsDue w net t ⊎ IsAwaited w net t)
+          → (t ≡ w.end) ⊎ (IsDue w net t ⊎ IsAwaited ts w net t)
       by_due (inl at) = by_awaited at (one_of_them w.end (awaited_moments ss))
       by_due (inr there) = inr (inl (in_due w net only t (subst (λ (m : ℕ). In m (due_moments (dues_of w net.actors))) (sym here) there)))
 
-      one : (t ≡ w.end) ⊎ (IsDue w net t ⊎ IsAwaited w net t)
+      one : (t ≡ w.end) ⊎ (IsDue w net t ⊎ IsAwaited ts w net t)
       one = by_due (one_of_them awaited (due_moments (dues_of w net.actors)))

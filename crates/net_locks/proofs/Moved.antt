@@ -15,10 +15,11 @@ use Rattle.net_base.specs.ActorStep.{Step}
 use Rattle.net_base.specs.Actors.{Actor}
 use Rattle.net_base.specs.Callers.{caller_of}
 use Rattle.net_base.specs.Duties.{Duty, duties}
-use Rattle.net_base.specs.Legal.{IsAsked, IsInTime}
+use Rattle.net_base.specs.Legal.{IsAsked, IsInTimeBy}
 use Rattle.net_base.specs.Net.{Net}
-use Rattle.net_base.specs.Next.{next}
+use Rattle.net_base.specs.Next.{next_by}
 use Rattle.net_base.specs.Stamped.{at, at_from, matches, moment}
+use Rattle.net_base.specs.Tasks.{Tasks}
 use Rattle.journal.specs.declared.law.Roster.{Roster}
 use Rattle.journal.specs.declared.tokens.Sight.{Sight}
 use Rattle.journal.specs.Tokens.{HoldsAll}
@@ -43,7 +44,7 @@ at_other k x other n (y ∷ log) = ap (λ (l : List (ℕ × Noted)). if matches 
 apart : (a b : ℕ) → (a == b) ≡ false → (b == a) ≡ false
 apart a b is = grind (arith, nat_tests)
 
-module _ (w : World) (r : Roster) (c now m : ℕ) (p p' : Sight) (ds : List Duty) (g : IsGuest w r c p ds) (stamp : ℕ) (o : Outcome)
+module _ (ts : Tasks) (w : World) (r : Roster) (c now m : ℕ) (p p' : Sight) (ds : List Duty) (g : IsGuest w r c p ds) (stamp : ℕ) (o : Outcome)
     (d : Records w r name.Clock c now (bare (event.Move m)) None p stamp o p')
     (rec : HasRecorded w r name.Clock c now (bare (event.Move m)) None d.past p ds stamp o p') (numbers : HoldsAll r p) (free : ds ≡ []) where
   whole : d.past ≡ p.seen
@@ -62,8 +63,8 @@ module _ (w : World) (r : Roster) (c now m : ℕ) (p p' : Sight) (ds : List Duty
   pub guest_on : (ds' : List Duty) → ds' ≡ drop 1 ds ++ duties w (noted_net w d.past).actors name.Clock stamp (bare (event.Move m)) rec.step → IsGuest w r c p' ds'
   guest_on ds' owed = subst (λ (l : List Duty). IsGuest w r c p' l) (sym owed) rec.guest
 
-  turn_on : HasRoom c p → IsInTime (noted_net w d.past) w (event.Move m) → (ds' : List Duty)
-      → ds' ≡ drop 1 ds ++ duties w (noted_net w d.past).actors name.Clock stamp (bare (event.Move m)) rec.step → MovesTo w c now m p ds p' ds'
+  turn_on : HasRoom c p → IsInTimeBy ts (noted_net w d.past) w (event.Move m) → (ds' : List Duty)
+      → ds' ≡ drop 1 ds ++ duties w (noted_net w d.past).actors name.Clock stamp (bare (event.Move m)) rec.step → MovesTo ts w c now m p ds p' ds'
   turn_on room in_time ds' owed =
       record {
         stamp = stamp;
@@ -80,15 +81,15 @@ module _ (w : World) (r : Roster) (c now m : ℕ) (p p' : Sight) (ds : List Duty
           seen = subst (λ (q : Outcome). p'.seen ≡ d.past ++ made name.Clock c now (bare (event.Move m)) None q ∷ []) rec.outcome d.seen;
           owed = owed;
           nexts = λ asked.
-              rec.nexts (subst (λ (q : Outcome). IsAsked ds (caller_of w c) (next w (entries p.seen) c) (made name.Clock c now (bare (event.Move m)) None q).entry) (sym rec.outcome) asked);
-          timely = rec.timely in_time;
+              rec.nexts ts (subst (λ (q : Outcome). IsAsked ds (caller_of w c) (next_by ts w (entries p.seen) c) (made name.Clock c now (bare (event.Move m)) None q).entry) (sym rec.outcome) asked);
+          timely = rec.timely ts in_time;
         };
         whole = whole;
       }
 
-  pub moves_to : HasRoom c p → IsInTime (noted_net w p.seen) w (event.Move m) → (ds' : List Duty)
-      → ds' ≡ drop 1 ds ++ duties w (noted_net w d.past).actors name.Clock stamp (bare (event.Move m)) rec.step → MovesTo w c now m p ds p' ds'
-  moves_to room in_time ds' owed = turn_on room (subst (λ (log : List Noted). IsInTime (noted_net w log) w (event.Move m)) (sym whole) in_time) ds' owed
+  pub moves_to : HasRoom c p → IsInTimeBy ts (noted_net w p.seen) w (event.Move m) → (ds' : List Duty)
+      → ds' ≡ drop 1 ds ++ duties w (noted_net w d.past).actors name.Clock stamp (bare (event.Move m)) rec.step → MovesTo ts w c now m p ds p' ds'
+  moves_to room in_time ds' owed = turn_on room (subst (λ (log : List Noted). IsInTimeBy ts (noted_net w log) w (event.Move m)) (sym whole) in_time) ds' owed
 
   abbrev entry : Noted
   entry = made name.Clock c now (bare (event.Move m)) None o
@@ -121,9 +122,9 @@ module _ (w : World) (r : Roster) (c now m : ℕ) (p p' : Sight) (ds : List Duty
       → ((log : List Noted) (x : Noted) → noted_net w (log ++ x ∷ []) ≡ next_noted w (noted_net w log) x)
       → ((log : List Noted) → (noted_net w log).moment ≡ moment log)
       → ((k : ℕ) (es : List Duty) → (c == k) ≡ false → IsGuest w r k p es → StaysGuest w r k p es p')
-      → HasRoom c p → IsInTime (noted_net w p.seen) w (event.Move m)
+      → HasRoom c p → IsInTimeBy ts (noted_net w p.seen) w (event.Move m)
       → (dues : List Due) → dues ≡ dues_of w (noted_net w p.seen).actors → (ds' : List Duty) → ds' ≡ ds ++ ticks_of stamp m dues
-      → LeavesMoved w r c now m p ds p' ds'
+      → LeavesMoved ts w r c now m p ds p' ds'
   leaves_moved owe grows here stay room in_time dues are ds' added =
       let owed = owed_so owe dues are ds' added in
       let moves = moves_to room in_time ds' owed in
@@ -132,17 +133,17 @@ module _ (w : World) (r : Roster) (c now m : ℕ) (p p' : Sight) (ds : List Duty
         entry = moves;
         free = free;
         here = moment_on grows here;
-        covers = λ t covers. covers_move w c now (bare (event.Move m)) None p p' ds ds' moves.stamp moves.reply t moves.turn covers;
+        covers = λ t covers. covers_move ts w c now (bare (event.Move m)) None p p' ds ds' moves.stamp moves.reply t moves.turn covers;
         others = λ k es guest other. others_on k es other (stay k es (apart k c other) guest);
       }
 
 -- After what came before it, which left the pass and the duties as they were.
-module _ (w : World) (r : Roster) (c now m : ℕ) (p q p' : Sight) (ds es ds' : List Duty) (same : q ≡ p) (still : es ≡ ds) where
-  pub unmoved_so : (b : Bool) → MayLeave w r c now m q es b p' ds' → b ≡ false → (p' ≡ p) × (ds' ≡ ds)
+module _ (ts : Tasks) (w : World) (r : Roster) (c now m : ℕ) (p q p' : Sight) (ds es ds' : List Duty) (same : q ≡ p) (still : es ≡ ds) where
+  pub unmoved_so : (b : Bool) → MayLeave ts w r c now m q es b p' ds' → b ≡ false → (p' ≡ p) × (ds' ≡ ds)
   unmoved_so true left is = absurd (true≢false is)
   unmoved_so false left is = (left.0 ∙ same, left.1 ∙ still)
 
-  pub moved_so : (b : Bool) → MayLeave w r c now m q es b p' ds' → b ≡ true → LeavesMoved w r c now m p ds p' ds'
+  pub moved_so : (b : Bool) → MayLeave ts w r c now m q es b p' ds' → b ≡ true → LeavesMoved ts w r c now m p ds p' ds'
   moved_so true left is =
-      subst (λ (l : List Duty). LeavesMoved w r c now m p l p' ds') still (subst (λ (s : Sight). LeavesMoved w r c now m s es p' ds') same left)
+      subst (λ (l : List Duty). LeavesMoved ts w r c now m p l p' ds') still (subst (λ (s : Sight). LeavesMoved ts w r c now m s es p' ds') same left)
   moved_so false left is = absurd (false≢true is)

@@ -13,11 +13,12 @@ use Rattle.net_base.specs.declared.world.World.{World}
 use Rattle.net_base.specs.ActorStep.{when}
 use Rattle.net_base.specs.Actors.{Actor, actor_step, has_actor, table_step}
 use Rattle.net_base.specs.Callers.{IsScript, IsCourier, IsClock, IsNobody, caller_of, clock_number, first_courier, other_caller}
-use Rattle.net_base.specs.Calm.{can_go_on, is_ready, owes}
+use Rattle.net_base.specs.Calm.{can_go_on_by, is_ready, owes}
 use Rattle.net_base.specs.Duties.{Duty}
 use Rattle.net_base.specs.Net.{Net}
-use Rattle.net_base.specs.Next.{by, next_of}
+use Rattle.net_base.specs.Next.{by, next_of_by}
 use Rattle.net_base.specs.Stamped.{at_from}
+use Rattle.net_base.specs.Tasks.{Tasks}
 use Rattle.calm_laws.specs.Could.{could, is_full}
 use Rattle.journal.specs.declared.law.Roster.{Roster}
 use Rattle.journal.specs.declared.tokens.Sight.{Sight}
@@ -41,8 +42,8 @@ same_sight p p' seen held = ap (λ (s : List Noted). sight_of s p'.held) seen �
 pub looked_same : (r : Roster) (p : Sight) (front : ℕ) (p' : Sight) → HoldsAll r p → Looked r p front p' → p' ≡ p
 looked_same r p front p' all look = same_sight p p' (look.whole all) look.held
 
-pub holds_all : (w : World) (r : Roster) (p : Sight) (ss : List Standing) → AllStand w r p ss → HoldsAll r p
-holds_all w r p ss stand c lt =
+pub holds_all : (ts : Tasks) (w : World) (r : Roster) (p : Sight) (ss : List Standing) → AllStand ts w r p ss → HoldsAll r p
+holds_all ts w r p ss stand c lt =
     let there = stand.all c lt in
     let st = stand.each there.0 there.1 in
     subst (λ (k : ℕ). (es : List (ℕ × Noted)) × Holds p k es) there.2 (st.guest.list, st.guest.held)
@@ -110,15 +111,15 @@ or_left a b is = sym (ap (λ (x : Bool). x || b) is)
 or_right : (a b c : Bool) → a ≡ false → c ≡ b → c ≡ (a || b)
 or_right a b c is same = same ∙ sym (ap (λ (x : Bool). x || b) is)
 
-module _ (w : World) (r : Roster) (p : Sight) (s : Standing) (st : StandsAt w r p s) where
+module _ (ts : Tasks) (w : World) (r : Roster) (p : Sight) (s : Standing) (st : StandsAt ts w r p s) where
   abbrev net : Net
   net = noted_net w p.seen
 
   owes_so : owes net s.caller ≡ s.owes
   owes_so = ap (λ (ds : List Duty). nat_lt 0 (length ds)) st.guest.owed ∙ (positive (length st.owed) ∙ sym st.owes_is)
 
-  goes_so : net.past ≡ entries p.seen → can_go_on w net s.caller ≡ is_ready w net (option_map ask_of s.next)
-  goes_so past = ap (λ (h : List Entry). is_ready w net (next_of w (caller_of w s.caller) h s.caller)) past ∙ ap (is_ready w net) (sym st.next_is)
+  goes_so : net.past ≡ entries p.seen → can_go_on_by ts w net s.caller ≡ is_ready w net (option_map ask_of s.next)
+  goes_so past = ap (λ (h : List Entry). is_ready w net (next_of_by ts w (caller_of w s.caller) h s.caller)) past ∙ ap (is_ready w net) (sym st.next_is)
 
   pub full_so : net.past ≡ entries p.seen → s.full ≡ is_full net s.caller
   full_so past =
@@ -126,12 +127,12 @@ module _ (w : World) (r : Roster) (p : Sight) (s : Standing) (st : StandsAt w r 
       ∙ (ap (λ (n : ℕ). n == 131072) (sym (counted s.caller 0 p.seen)) ∙ ap (λ (h : List Entry). length (by h s.caller) == 131072) (sym past))
 
   -- it owes a duty
-  pub goes_owing : s.owes ≡ true → true ≡ could w net s.caller
-  goes_owing owing = or_left (owes net s.caller) (can_go_on w net s.caller) (owes_so ∙ owing)
+  pub goes_owing : s.owes ≡ true → true ≡ could ts w net s.caller
+  goes_owing owing = or_left (owes net s.caller) (can_go_on_by ts w net s.caller) (owes_so ∙ owing)
 
   -- or the work that comes next is ready
   pub goes_next : net.past ≡ entries p.seen → s.owes ≡ false → (a : ActorName) (work : Work) → s.next ≡ Some (a, work) → (now : ℕ) → now ≡ net.moment
-      → (b : Bool) → b ≡ is_some (actor_step w a (net.actors a) now work) → b ≡ could w net s.caller
+      → (b : Bool) → b ≡ is_some (actor_step w a (net.actors a) now work) → b ≡ could ts w net s.caller
   goes_next past free a work comes now here b is =
       let given : work ≡ bare work.event = subst (λ (o : Option (ActorName × Work)). IsBare o) comes st.given in
       let ready : b ≡ is_ready w net (option_map ask_of s.next) =
@@ -139,10 +140,10 @@ module _ (w : World) (r : Roster) (p : Sight) (s : Standing) (st : StandsAt w r 
       ∙ (ap (λ (m : ℕ). is_some (actor_step w a (net.actors a) m work)) here
       ∙ (ap (λ (x : Work). is_some (actor_step w a (net.actors a) net.moment x)) given
       ∙ ap (λ (o : Option (ActorName × Work)). is_ready w net (option_map ask_of o)) (sym comes))) in
-      or_right (owes net s.caller) (can_go_on w net s.caller) b (owes_so ∙ free) (ready ∙ sym (goes_so past))
+      or_right (owes net s.caller) (can_go_on_by ts w net s.caller) b (owes_so ∙ free) (ready ∙ sym (goes_so past))
 
   -- or nothing comes next
-  pub goes_none : net.past ≡ entries p.seen → s.owes ≡ false → s.next ≡ None → false ≡ could w net s.caller
+  pub goes_none : net.past ≡ entries p.seen → s.owes ≡ false → s.next ≡ None → false ≡ could ts w net s.caller
   goes_none past free none =
-      or_right (owes net s.caller) (can_go_on w net s.caller) false (owes_so ∙ free)
+      or_right (owes net s.caller) (can_go_on_by ts w net s.caller) false (owes_so ∙ free)
       (ap (λ (o : Option (ActorName × Work)). is_ready w net (option_map ask_of o)) (sym none) ∙ sym (goes_so past))

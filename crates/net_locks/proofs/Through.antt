@@ -12,12 +12,14 @@ use Rattle.net_base.specs.declared.world.Script.{Script}
 use Rattle.net_base.specs.declared.world.Step.{Step}
 use Rattle.net_base.specs.declared.world.World.{World}
 use Rattle.net_base.specs.Callers.{Caller, IsScript, caller_count, caller_of, other_caller}
-use Rattle.net_base.specs.Calm.{unfinished}
+use Rattle.net_base.specs.Calm.{unfinished_by}
 use Rattle.net_base.specs.Net.{Net}
-use Rattle.net_base.specs.Next.{is_unfinished, next_of, zone_of}
+use Rattle.net_base.specs.Next.{is_left, is_unfinished_by, next_of_by, place_next, zone_of}
 use Rattle.net_base.specs.Stamped.{In}
 use Rattle.net_base.specs.Scripts.{Kept, at_first, heard, kept_after, position, step_play}
 use Rattle.net_base.specs.Steps.{Names, Stand, Asking, Finished, position_by, stands}
+use Rattle.net_base.specs.Tasks.{Asking as OwnAsking, Tasks}
+use Rattle.net_base.specs.Versions.{Tuples}
 use Rattle.journal.specs.declared.law.Roster.{Roster}
 use Rattle.journal.specs.declared.tokens.Sight.{Sight}
 use Rattle.guest_laws.specs.Works.{entries, noted_net}
@@ -40,6 +42,11 @@ left_is h (s ∷ ss) k rs = by_stand (stands (step_play h k s) rs) (λ after lat
         ≡ is_some (position_by t (s ∷ ss) (λ (after : Names) (later : List Reply). position h ss (kept_after k s after (heard (step_play h k s) rs)) later)).next
     by_stand (Asking ask) rest = some_left (length ss)
     by_stand (Finished after later) rest = rest after later
+
+-- and so has what is played in its place
+left_by : (own : Option OwnAsking) (zone : Tuples) (s : Script) (rs : List Reply) → is_left own zone s rs ≡ is_some (place_next own zone s rs)
+left_by None zone s rs = left_is s.host s.steps (at_first zone) rs
+left_by (Some asks) zone s rs = refl
 
 -- Tests of a row with its numbers.
 
@@ -103,24 +110,24 @@ mapped : (o : Option (ActorName × Work)) → is_some (option_map ask_of o) ≡ 
 mapped None = refl
 mapped (Some x) = refl
 
-module _ (w : World) (r : Roster) (p : Sight) (ss : List Standing) (stand : AllStand w r p ss) (callers : r.callers ≡ caller_count w)
+module _ (ts : Tasks) (w : World) (r : Roster) (p : Sight) (ss : List Standing) (stand : AllStand ts w r p ss) (callers : r.callers ≡ caller_count w)
     (past : (noted_net w p.seen).past ≡ entries p.seen) where
   abbrev net : Net
   net = noted_net w p.seen
 
-  -- a script is unfinished where its standing has something next
-  unfinished_so : (s : Standing) → StandsAt w r p s → (script : Script) → slice_get w.scripts s.caller ≡ Some script → is_unfinished w net.past s.caller script ≡ is_some s.next
+  -- a script, or the task in its place, is unfinished where its standing has something next
+  unfinished_so : (s : Standing) → StandsAt ts w r p s → (script : Script) → slice_get w.scripts s.caller ≡ Some script → is_unfinished_by ts w net.past s.caller script ≡ is_some s.next
   unfinished_so s st script is =
       let caller : caller_of w s.caller ≡ IsScript script = ap (λ (o : Option Script). option_map_or (λ (t : Script). IsScript t) o (other_caller w s.caller)) is in
-      ap (λ (h : List Entry). is_unfinished w h s.caller script) past
-      ∙ (left_is script.host script.steps (at_first (zone_of w)) _
-      ∙ (ap (λ (k : Caller). is_some (next_of w k (entries p.seen) s.caller)) (sym caller) ∙ (ap is_some (sym st.next_is) ∙ mapped s.next)))
+      ap (λ (h : List Entry). is_unfinished_by ts w h s.caller script) past
+      ∙ (left_by (ts s.caller) (zone_of w) script _
+      ∙ (ap (λ (k : Caller). is_some (next_of_by ts w k (entries p.seen) s.caller)) (sym caller) ∙ (ap is_some (sym st.next_is) ∙ mapped s.next)))
 
   abbrev unfinished_at : ℕ × Script → Bool
-  unfinished_at s = is_unfinished w net.past s.0 s.1
+  unfinished_at s = is_unfinished_by ts w net.past s.0 s.1
 
   -- no script is unfinished where none has something left
-  pub all_through : list_any (has_left (length w.scripts)) ss ≡ false → unfinished w net ≡ false
+  pub all_through : list_any (has_left (length w.scripts)) ss ≡ false → unfinished_by ts w net ≡ false
   all_through none =
       none_of unfinished_at w.scripts 0
       (λ k script is.
@@ -130,15 +137,15 @@ module _ (w : World) (r : Roster) (p : Sight) (ss : List Standing) (stand : AllS
       let at : slice_get w.scripts s.0.caller ≡ Some script = ap (slice_get w.scripts) s.2 ∙ is in
       let first : nat_lt s.0.caller (length w.scripts) ≡ true = lt-ltb s.0.caller (length w.scripts) (within w.scripts s.0.caller script at) in
       let here : s.0.caller ≡ 0 + k = omega (arith, s.2) in
-      subst (λ (i : ℕ). is_unfinished w net.past i script ≡ false) here
+      subst (λ (i : ℕ). is_unfinished_by ts w net.past i script ≡ false) here
       (unfinished_so s.0 st script at
       ∙ and_second (nat_lt s.0.caller (length w.scripts)) (is_some s.0.next) (unpassed (has_left (length w.scripts)) ss none s.0 s.1) first))
 
-  pub some_unfinished : list_any (has_left (length w.scripts)) ss ≡ true → unfinished w net ≡ true
+  pub some_unfinished : list_any (has_left (length w.scripts)) ss ≡ true → unfinished_by ts w net ≡ true
   some_unfinished some =
       let s = passed (has_left (length w.scripts)) ss some in
       let both = and_both (nat_lt s.0.caller (length w.scripts)) (is_some s.0.next) s.2 in
       let script = some_there w.scripts s.0.caller (ltb-true s.0.caller (length w.scripts) both.0) in
       let here : s.0.caller ≡ 0 + s.0.caller = omega arith in
       some_of unfinished_at w.scripts 0 s.0.caller script.0 script.1
-      (subst (λ (i : ℕ). is_unfinished w net.past i script.0 ≡ true) here (unfinished_so s.0 (stand.each s.0 s.1) script.0 script.1 ∙ both.1))
+      (subst (λ (i : ℕ). is_unfinished_by ts w net.past i script.0 ≡ true) here (unfinished_so s.0 (stand.each s.0 s.1) script.0 script.1 ∙ both.1))

@@ -19,9 +19,10 @@ use Rattle.net_base.specs.Actors.{Actor, actor_step, has_actor, table_step}
 use Rattle.net_base.specs.Callers.{caller_of}
 use Rattle.net_base.specs.Duties as spec
 use Rattle.net_base.specs.Duties.{Duty}
-use Rattle.net_base.specs.Legal.{IsAsked, IsInTime, IsMove}
-use Rattle.net_base.specs.Next.{next}
+use Rattle.net_base.specs.Legal.{IsAsked, IsInTimeBy, IsMove}
+use Rattle.net_base.specs.Next.{next_by}
 use Rattle.net_base.specs.Stamped.{In, same_actor}
+use Rattle.net_base.specs.Tasks.{Tasks}
 use Rattle.journal.specs.declared.law.Roster.{Roster}
 use Rattle.journal.specs.declared.tokens.Sight.{Sight}
 use Rattle.journal.specs.Rule.{Held, has_caller, is_caller}
@@ -69,7 +70,7 @@ no_move (name.Dir h p) e other is = is
 no_move (name.Conv h p n) e other is = is
 no_move (name.Medium m) e other is = is
 
-module _ (w : World) (r : Roster) (c now : ℕ) (a : ActorName) (work : Work) (cites : Option ℕ) (p p' : Sight) (ds : List Duty)
+module _ (ts : Tasks) (w : World) (r : Roster) (c now : ℕ) (a : ActorName) (work : Work) (cites : Option ℕ) (p p' : Sight) (ds : List Duty)
     (g : IsGuest w r c p ds) (stamp : ℕ) (o : Outcome) (d : Records w r a c now work cites p stamp o p')
     (rec : HasRecorded w r a c now work cites d.past p ds stamp o p') where
   pub new_duties : List Duty
@@ -86,9 +87,9 @@ module _ (w : World) (r : Roster) (c now : ℕ) (a : ActorName) (work : Work) (c
       (record { before = (noted_net w d.past).actors a; now = now; gives = rec.stepped; outcome = sym (ap without_copy rec.outcome) }) (no_move a work.event other)
       ∙ ap (λ (l : List Duty). l ++ spec.duties w (noted_net w d.past).actors a stamp work rec.step) is
 
-  pub recorded : HasRoom c p → IsInTime (noted_net w d.past) w work.event → (ds' : List Duty)
+  pub recorded : HasRoom c p → IsInTimeBy ts (noted_net w d.past) w work.event → (ds' : List Duty)
       → ds' ≡ drop 1 ds ++ spec.duties w (noted_net w d.past).actors a stamp work rec.step → (answer : Reply) → answer ≡ o.reply
-      → Recorded w c now a work cites p ds stamp answer p' ds'
+      → Recorded ts w c now a work cites p ds stamp answer p' ds'
   recorded room intime ds' owed answer is =
       record {
         room = room;
@@ -102,8 +103,8 @@ module _ (w : World) (r : Roster) (c now : ℕ) (a : ActorName) (work : Work) (c
         seen = subst (λ (q : Outcome). p'.seen ≡ d.past ++ made a c now work cites q ∷ []) rec.outcome d.seen;
         owed = owed;
         nexts = λ asked.
-            rec.nexts (subst (λ (q : Outcome). IsAsked ds (caller_of w c) (next w (entries p.seen) c) (made a c now work cites q).entry) (sym rec.outcome) asked);
-        timely = rec.timely intime;
+            rec.nexts ts (subst (λ (q : Outcome). IsAsked ds (caller_of w c) (next_by ts w (entries p.seen) c) (made a c now work cites q).entry) (sym rec.outcome) asked);
+        timely = rec.timely ts intime;
       }
 
 -- Looks.
@@ -150,7 +151,7 @@ stays_there w c p =
     record {
       before = ([], append-nil p.seen);
       alone = refl;
-      stands = record { owes = refl; comes_next = refl; turns = λ t. t; nexts = λ t. t; timely = λ t. t };
+      stands = record { owes = refl; comes_next = λ ts. refl; turns = λ t. t; nexts = λ ts t. t; timely = λ ts t. t };
     }
 
 -- an actor that the world hasn't is never ready

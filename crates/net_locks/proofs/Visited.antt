@@ -12,6 +12,7 @@ use Rattle.net_base.specs.Duties as spec
 use Rattle.net_base.specs.Duties.{Duty}
 use Rattle.net_base.specs.Stamped.{moment, same_actor}
 use Rattle.net_base.specs.World.{is_moment}
+use Rattle.net_base.specs.Tasks.{Tasks}
 use Rattle.journal.specs.declared.law.Roster.{Roster}
 use Rattle.ip_route.specs.Kept.{HostWays}
 use Rattle.due_moments.specs.Marks.{Covers, Marks}
@@ -51,19 +52,19 @@ module _ {J : Type 0} (w : World) (r : Roster) (b b' : Bearer J) (same : IsSameB
         known = known;
       }
 
-module _ {J : Type 0} (w : World) (r : Roster) (a : ActorName) (work : Work) (cites : Option ℕ) (v : Visitor J) (is : IsVisitor w r v) (b' : Bearer J)
+module _ {J : Type 0} (ts : Tasks) (w : World) (r : Roster) (a : ActorName) (work : Work) (cites : Option ℕ) (v : Visitor J) (is : IsVisitor w r v) (b' : Bearer J)
     (same : IsSameBearer v.bearer b') (here : b'.now ≡ moment b'.pass.seen) where
   -- an entry was recorded, and what it owes is owed after the others
-  module _ (stamp : ℕ) (o : Outcome) (d : Does w r a work cites v.bearer v.duties.list stamp o b') (room : HasRoom v.bearer.caller v.bearer.pass)
+  module _ (stamp : ℕ) (o : Outcome) (d : Does ts w r a work cites v.bearer v.duties.list stamp o b') (room : HasRoom v.bearer.caller v.bearer.pass)
       (other : same_actor a name.Clock ≡ false) (ks : List HostWays) (ways : AreWaysOfWorld w ks) (q q' : Queue) (owes : Owes ks a stamp work o q q')
       (rest : q.list ≡ drop 1 v.duties.list) where
     owed : q'.list ≡ drop 1 v.duties.list ++ spec.duties w (noted_net w d.records.past).actors a stamp work d.recorded.step
     owed =
-        adds w r v.bearer.caller v.bearer.now a work cites v.bearer.pass b'.pass v.duties.list is.guest stamp o d.records d.recorded ks ways other q q' owes rest
+        adds ts w r v.bearer.caller v.bearer.now a work cites v.bearer.pass b'.pass v.duties.list is.guest stamp o d.records d.recorded ks ways other q q' owes rest
 
-    pub done_turn : (t : Marks) → Visited w a work cites v (turn.Recorded stamp o.reply) (visitor b' q' t v.calendar)
+    pub done_turn : (t : Marks) → Visited ts w a work cites v (turn.Recorded stamp o.reply) (visitor b' q' t v.calendar)
     done_turn t =
-        recorded w r v.bearer.caller v.bearer.now a work cites v.bearer.pass b'.pass v.duties.list is.guest stamp o d.records d.recorded room d.in_time q'.list owed
+        recorded ts w r v.bearer.caller v.bearer.now a work cites v.bearer.pass b'.pass v.duties.list is.guest stamp o d.records d.recorded room d.in_time q'.list owed
         o.reply refl
 
     pub done_visitor : StaysKnown w → (t t' : Marks) → Covers (own v.bearer.caller v.bearer.pass) t
@@ -73,20 +74,20 @@ module _ {J : Type 0} (w : World) (r : Roster) (a : ActorName) (work : Work) (ci
         is_visitor w r v.bearer b' same q' t' v.calendar (subst (λ (l : List Duty). IsGuest w r v.bearer.caller b'.pass l) (sym owed) d.recorded.guest) here is.early
         (covers_noted w r v.bearer.caller v.bearer.now a work cites v.bearer.pass b'.pass v.duties.list is.guest stamp o d.records a refl t t' notes covers)
         (stays v.bearer.pass.seen b'.pass.seen v.calendar
-        (recorded_grows w v.bearer.caller v.bearer.now a work cites v.bearer.pass b'.pass v.duties.list q'.list stamp o.reply (done_turn t')) is.known)
+        (recorded_grows ts w v.bearer.caller v.bearer.now a work cites v.bearer.pass b'.pass v.duties.list q'.list stamp o.reply (done_turn t')) is.known)
 
   -- nothing was recorded
-  module _ (t : Turn) (m : Misses w r a work cites v.bearer v.duties.list t b') (q : Queue) (list : q.list ≡ v.duties.list) where
-    pub missed_turn : (k : Marks) → Visited w a work cites v t (visitor b' q k v.calendar)
+  module _ (t : Turn) (m : Misses ts w r a work cites v.bearer v.duties.list t b') (q : Queue) (list : q.list ≡ v.duties.list) where
+    pub missed_turn : (k : Marks) → Visited ts w a work cites v t (visitor b' q k v.calendar)
     missed_turn k =
-        subst (λ (l : List Duty). Turned w v.bearer.caller v.bearer.now a work cites v.bearer.pass v.duties.list t b'.pass l) (sym list) m.turned
+        subst (λ (l : List Duty). Turned ts w v.bearer.caller v.bearer.now a work cites v.bearer.pass v.duties.list t b'.pass l) (sym list) m.turned
 
     pub missed_visitor : StaysKnown w → (k : Marks) → Covers (own v.bearer.caller v.bearer.pass) k → IsVisitor w r (visitor b' q k v.calendar)
     missed_visitor stays k covers =
         is_visitor w r v.bearer b' same q k v.calendar (subst (λ (l : List Duty). IsGuest w r v.bearer.caller b'.pass l) (sym list) m.guest) here is.early
         (subst (λ (es : List (ℕ × Noted)). Covers es k) (sym m.alone) covers)
         (stays v.bearer.pass.seen b'.pass.seen v.calendar
-        (turned_grows w v.bearer.caller v.bearer.now a work cites v.bearer.pass b'.pass v.duties.list v.duties.list t m.turned) is.known)
+        (turned_grows ts w v.bearer.caller v.bearer.now a work cites v.bearer.pass b'.pass v.duties.list v.duties.list t m.turned) is.known)
 
 -- the moment of a world's end is early
 pub early_end : (m end : ℕ) → is_moment end ≡ true → m ≤ end → m < 2 ^ 63

@@ -7,10 +7,11 @@ use Rattle.net_base.specs.declared.event.Event.TheVariants as event
 use Rattle.net_base.specs.declared.reply.Reply.{Reply}
 use Rattle.net_base.specs.declared.world.World.{World}
 use Rattle.net_base.specs.Callers.{caller_count}
-use Rattle.net_base.specs.Calm.{done, limited, movable, stopped, target}
+use Rattle.net_base.specs.Calm.{done_by, limited_by, movable_by, stopped_by, target_by}
 use Rattle.net_base.specs.Duties.{Duty}
 use Rattle.net_base.specs.Net.{Net}
 use Rattle.net_base.specs.Stamped.{moment}
+use Rattle.net_base.specs.Tasks.{Tasks}
 use Rattle.calm_laws.specs.Could.{could}
 use Rattle.journal.specs.declared.law.Roster.{Roster}
 use Rattle.journal.specs.declared.tokens.Sight.{Sight}
@@ -22,55 +23,55 @@ use Rattle.net_locks.specs.declared.clock.Advance.TheVariants as advance
 use Rattle.net_locks.specs.Turns.{HasRoom, Recorded, Stays, bare, own}
 
 -- the least caller that owes a duty or whose next event is ready
-pub record IsLeast (w : World) (net : Net) (c : ℕ) : Type 0 where
+pub record IsLeast (ts : Tasks) (w : World) (net : Net) (c : ℕ) : Type 0 where
   pub known : c < caller_count w
-  pub could_is : could w net c ≡ true
-  pub least : (d : ℕ) → d < caller_count w → could w net d ≡ true → c ≤ d
+  pub could_is : could ts w net c ≡ true
+  pub least : (d : ℕ) → d < caller_count w → could ts w net d ≡ true → c ≤ d
 
 -- what keeps the clock where it is, where the net stands so. What limits a run is told before what keeps the clock from
 -- moving, and before how the run ended
-abbrev pub Keeps : World → Net → Advance → Type 0
-Keeps w net (advance.Moved m) = ⊥
-Keeps w net advance.Done = done w net ≡ true
-Keeps w net advance.Stopped = stopped w net ≡ true
-Keeps w net (advance.NotCalm c) = IsLeast w net c × (limited w net ≡ false)
-Keeps w net advance.Limit = limited w net ≡ true
-Keeps w net advance.Memory = ⊥
+abbrev pub Keeps : Tasks → World → Net → Advance → Type 0
+Keeps ts w net (advance.Moved m) = ⊥
+Keeps ts w net advance.Done = done_by ts w net ≡ true
+Keeps ts w net advance.Stopped = stopped_by ts w net ≡ true
+Keeps ts w net (advance.NotCalm c) = IsLeast ts w net c × (limited_by ts w net ≡ false)
+Keeps ts w net advance.Limit = limited_by ts w net ≡ true
+Keeps ts w net advance.Memory = ⊥
 
 -- the clock may move, and has room
-pub record MayMove (w : World) (c : ℕ) (p : Sight) : Type 0 where
-  pub may : movable w (noted_net w p.seen) ≡ true
-  pub unlimited : limited w (noted_net w p.seen) ≡ false
-  pub free : could w (noted_net w p.seen) c ≡ false
+pub record MayMove (ts : Tasks) (w : World) (c : ℕ) (p : Sight) : Type 0 where
+  pub may : movable_by ts w (noted_net w p.seen) ≡ true
+  pub unlimited : limited_by ts w (noted_net w p.seen) ≡ false
+  pub free : could ts w (noted_net w p.seen) c ≡ false
   pub room : HasRoom c p
 
-abbrev pub Halts : World → ℕ → Sight → Option Advance → Type 0
-Halts w c p None = MayMove w c p
-Halts w c p (Some answer) = Keeps w (noted_net w p.seen) answer
+abbrev pub Halts : Tasks → World → ℕ → Sight → Option Advance → Type 0
+Halts ts w c p None = MayMove ts w c p
+Halts ts w c p (Some answer) = Keeps ts w (noted_net w p.seen) answer
 
 -- the clock's move to this moment was recorded, after all that had been seen
-pub record MovesTo (w : World) (c now m : ℕ) (p : Sight) (ds : List Duty) (p' : Sight) (ds' : List Duty) : Type 0 where
+pub record MovesTo (ts : Tasks) (w : World) (c now m : ℕ) (p : Sight) (ds : List Duty) (p' : Sight) (ds' : List Duty) : Type 0 where
   pub stamp : ℕ
   pub reply : Reply
-  pub turn : Recorded w c now name.Clock (bare (event.Move m)) None p ds stamp reply p' ds'
+  pub turn : Recorded ts w c now name.Clock (bare (event.Move m)) None p ds stamp reply p' ds'
   pub whole : turn.past ≡ p.seen
 
 -- what the entry leaves of the clock, which owed nothing, and of the others by its pass
-pub record LeavesMoved (w : World) (r : Roster) (c now m : ℕ) (p : Sight) (ds : List Duty) (p' : Sight) (ds' : List Duty) : Type 0 where
+pub record LeavesMoved (ts : Tasks) (w : World) (r : Roster) (c now m : ℕ) (p : Sight) (ds : List Duty) (p' : Sight) (ds' : List Duty) : Type 0 where
   pub guest : IsGuest w r c p' ds'
-  pub entry : MovesTo w c now m p ds p' ds'
+  pub entry : MovesTo ts w c now m p ds p' ds'
   pub free : ds ≡ []
   pub here : m ≡ moment p'.seen
   pub covers : (t : Marks) → Covers (own c p) t → Covers (own c p') t
   pub others : (k : ℕ) (es : List Duty) → IsGuest w r k p es → (k == c) ≡ false → IsGuest w r k p' es × Stays w k p p'
 
 -- by whether it was recorded
-abbrev pub MayLeave : World → Roster → ℕ → ℕ → ℕ → Sight → List Duty → Bool → Sight → List Duty → Type 0
-MayLeave w r c now m p ds true p' ds' = LeavesMoved w r c now m p ds p' ds'
-MayLeave w r c now m p ds false p' ds' = (p' ≡ p) × (ds' ≡ ds)
+abbrev pub MayLeave : Tasks → World → Roster → ℕ → ℕ → ℕ → Sight → List Duty → Bool → Sight → List Duty → Type 0
+MayLeave ts w r c now m p ds true p' ds' = LeavesMoved ts w r c now m p ds p' ds'
+MayLeave ts w r c now m p ds false p' ds' = (p' ≡ p) × (ds' ≡ ds)
 
 -- by the moment to which it moved, if it did
-abbrev pub MayGo : World → Roster → ℕ → ℕ → Sight → List Duty → Option ℕ → Sight → List Duty → Type 0
-MayGo w r c now p ds None p' ds' = (p' ≡ p) × (ds' ≡ ds)
-MayGo w r c now p ds (Some m) p' ds' =
-    LeavesMoved w r c now m p ds p' ds' × (m ≡ target w (noted_net w p.seen)) × (m ≤ w.end)
+abbrev pub MayGo : Tasks → World → Roster → ℕ → ℕ → Sight → List Duty → Option ℕ → Sight → List Duty → Type 0
+MayGo ts w r c now p ds None p' ds' = (p' ≡ p) × (ds' ≡ ds)
+MayGo ts w r c now p ds (Some m) p' ds' =
+    LeavesMoved ts w r c now m p ds p' ds' × (m ≡ target_by ts w (noted_net w p.seen)) × (m ≤ w.end)

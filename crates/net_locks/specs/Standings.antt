@@ -7,9 +7,10 @@ use Rattle.net_base.specs.declared.history.Work.{Work}
 use Rattle.net_base.specs.declared.world.World.{World}
 use Rattle.net_base.specs.Calm.{awaited_moment}
 use Rattle.net_base.specs.Duties.{Duty}
-use Rattle.net_base.specs.Next.{next}
+use Rattle.net_base.specs.Next.{next_by}
 use Rattle.net_base.specs.Stamped.{In}
 use Rattle.net_base.specs.Steps.{Ask}
+use Rattle.net_base.specs.Tasks.{Tasks}
 use Rattle.journal.specs.declared.law.Roster.{Roster}
 use Rattle.journal.specs.declared.tokens.Sight.{Sight}
 use Rattle.duties.specs.declared.due.Due.{Due}
@@ -34,22 +35,22 @@ IsBare (Some x) = x.1 ≡ bare x.1.event
 
 -- a caller is a guest of the pass: whether it owes a duty, whether it has recorded as much as it may, what it records
 -- next where it owes nothing, and at which conversations it recorded something
-pub record StandsAt (w : World) (r : Roster) (p : Sight) (s : Standing) : Type 0 where
+pub record StandsAt (ts : Tasks) (w : World) (r : Roster) (p : Sight) (s : Standing) : Type 0 where
   pub owed : List Duty
   pub guest : IsGuest w r s.caller p owed
   pub owes_is : s.owes ≡ not (length owed == 0)
   pub full_is : s.full ≡ (length (own s.caller p) == 131072)
-  pub next_is : option_map ask_of s.next ≡ next w (entries p.seen) s.caller
+  pub next_is : option_map ask_of s.next ≡ next_by ts w (entries p.seen) s.caller
   pub given : IsBare s.next
-  pub timely : AreTimely w s.caller p.seen
+  pub timely : AreTimely ts w s.caller p.seen
   pub covers : Covers (own s.caller p) s.touched
 
 abbrev pub HasStanding : ℕ → List Standing → Type 0
 HasStanding c ss = (s : Standing) × In s ss × (s.caller ≡ c)
 
 -- so each of them stands, and every caller is among them
-pub record AllStand (w : World) (r : Roster) (p : Sight) (ss : List Standing) : Type 0 where
-  pub each : (s : Standing) → In s ss → StandsAt w r p s
+pub record AllStand (ts : Tasks) (w : World) (r : Roster) (p : Sight) (ss : List Standing) : Type 0 where
+  pub each : (s : Standing) → In s ss → StandsAt ts w r p s
   pub all : (c : ℕ) → c < r.callers → HasStanding c ss
 
 -- What is found.

@@ -14,8 +14,9 @@ use Rattle.net_base.specs.Actors.{Actor, actor_step}
 use Rattle.net_base.specs.Callers.{caller_of}
 use Rattle.net_base.specs.Duties.{Duty, duties}
 use Rattle.net_base.specs.Legal.{IsAsked}
-use Rattle.net_base.specs.Next.{next}
+use Rattle.net_base.specs.Next.{next_by}
 use Rattle.net_base.specs.Stamped.{at}
+use Rattle.net_base.specs.Tasks.{Tasks}
 use Rattle.journal.specs.declared.tokens.Sight.{Sight}
 use Rattle.locked.specs.Acts.{made, without_copy}
 use Rattle.guest_laws.specs.Works.{entries, noted_net}
@@ -34,7 +35,7 @@ abbrev pub IsFull : ℕ → Sight → Type 0
 IsFull c p = length (own c p) ≡ 131072
 
 -- one entry of the caller was recorded: its actor's step in the net of the past, and its first duty is done
-pub record Recorded (w : World) (c now : ℕ) (a : ActorName) (work : Work) (cites : Option ℕ) (p : Sight)
+pub record Recorded (ts : Tasks) (w : World) (c now : ℕ) (a : ActorName) (work : Work) (cites : Option ℕ) (p : Sight)
     (ds : List Duty) (stamp : ℕ) (answer : Reply) (p' : Sight) (ds' : List Duty) : Type 0 where
   pub room : HasRoom c p
   pub past : List Noted
@@ -46,10 +47,10 @@ pub record Recorded (w : World) (c now : ℕ) (a : ActorName) (work : Work) (cit
   pub reply : answer ≡ step.outcome.reply
   pub seen : p'.seen ≡ past ++ made a c now work cites (without_copy step.outcome) ∷ []
   pub owed : ds' ≡ drop 1 ds ++ duties w (noted_net w past).actors a stamp work step
-  pub nexts : IsAsked ds (caller_of w c) (next w (entries p.seen) c)
+  pub nexts : IsAsked ds (caller_of w c) (next_by ts w (entries p.seen) c)
       (made a c now work cites (without_copy step.outcome)).entry
-      → AreNext w c p.seen → AreNext w c p'.seen
-  pub timely : AreTimely w c p.seen → AreTimely w c p'.seen
+      → AreNext ts w c p.seen → AreNext ts w c p'.seen
+  pub timely : AreTimely ts w c p.seen → AreTimely ts w c p'.seen
 
 -- more was seen, but no entry of the caller
 pub record Stays (w : World) (c : ℕ) (p p' : Sight) : Type 0 where
@@ -64,14 +65,14 @@ pub record Unready (w : World) (c now : ℕ) (a : ActorName) (work : Work) (p : 
   pub unready : actor_step w a ((noted_net w p'.seen).actors a) now work ≡ None
 
 -- what a turn with this work at this actor did, by its answer
-abbrev pub Turned : World → ℕ → ℕ → ActorName → Work → Option ℕ → Sight → List Duty → Turn → Sight → List Duty
+abbrev pub Turned : Tasks → World → ℕ → ℕ → ActorName → Work → Option ℕ → Sight → List Duty → Turn → Sight → List Duty
     → Type 0
-Turned w c now a work cites p ds (turn.Recorded stamp answer) p' ds' =
-    Recorded w c now a work cites p ds stamp answer p' ds'
-Turned w c now a work cites p ds turn.NotReady p' ds' = Unready w c now a work p p' × (ds' ≡ ds)
-Turned w c now a work cites p ds turn.Owes p' ds' = ⊥
-Turned w c now a work cites p ds turn.Limit p' ds' = IsFull c p × (p' ≡ p) × (ds' ≡ ds)
-Turned w c now a work cites p ds turn.Memory p' ds' = HasRoom c p × (p' ≡ p) × (ds' ≡ ds)
+Turned ts w c now a work cites p ds (turn.Recorded stamp answer) p' ds' =
+    Recorded ts w c now a work cites p ds stamp answer p' ds'
+Turned ts w c now a work cites p ds turn.NotReady p' ds' = Unready w c now a work p p' × (ds' ≡ ds)
+Turned ts w c now a work cites p ds turn.Owes p' ds' = ⊥
+Turned ts w c now a work cites p ds turn.Limit p' ds' = IsFull c p × (p' ≡ p) × (ds' ≡ ds)
+Turned ts w c now a work cites p ds turn.Memory p' ds' = HasRoom c p × (p' ≡ p) × (ds' ≡ ds)
 
 -- with nothing given
 abbrev pub bare : Event → Work

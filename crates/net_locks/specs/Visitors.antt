@@ -7,8 +7,9 @@ use Rattle.net_base.specs.declared.history.Outcome.{Outcome}
 use Rattle.net_base.specs.declared.history.Work.{Work}
 use Rattle.net_base.specs.declared.world.World.{World}
 use Rattle.net_base.specs.Duties.{Duty}
-use Rattle.net_base.specs.Legal.{IsInTime}
+use Rattle.net_base.specs.Legal.{IsInTimeBy}
 use Rattle.net_base.specs.Stamped.{moment}
+use Rattle.net_base.specs.Tasks.{Tasks}
 use Rattle.journal.specs.declared.law.Roster.{Roster}
 use Rattle.journal.specs.declared.tokens.Sight.{Sight}
 use Rattle.due_moments.specs.Marks.{Covers, Marks}
@@ -40,32 +41,32 @@ pub record IsSameBearer {J : Type 0} (old new : Bearer J) : Type 0 where
   pub now : new.now ≡ old.now
 
 -- what a turn of the visitor with this work at this actor did, by its answer
-abbrev pub Visited : {J : Type 0} → World → ActorName → Work → Option ℕ → Visitor J → Turn → Visitor J → Type 0
-Visited w a work cites old t new =
-    Turned w old.bearer.caller old.bearer.now a work cites old.bearer.pass old.duties.list t new.bearer.pass new.duties.list
+abbrev pub Visited : {J : Type 0} → Tasks → World → ActorName → Work → Option ℕ → Visitor J → Turn → Visitor J → Type 0
+Visited ts w a work cites old t new =
+    Turned ts w old.bearer.caller old.bearer.now a work cites old.bearer.pass old.duties.list t new.bearer.pass new.duties.list
 
 -- One try to record a work.
 
 -- the entry of this stamp was recorded as a turn of the caller that owed these
-pub record Does {J : Type 0} (w : World) (r : Roster) (a : ActorName) (work : Work) (cites : Option ℕ) (old : Bearer J)
+pub record Does {J : Type 0} (ts : Tasks) (w : World) (r : Roster) (a : ActorName) (work : Work) (cites : Option ℕ) (old : Bearer J)
     (ds : List Duty) (stamp : ℕ) (o : Outcome) (new : Bearer J) : Type 0 where
   pub records : Records w r a old.caller old.now work cites old.pass stamp o new.pass
   pub recorded : HasRecorded w r a old.caller old.now work cites records.past old.pass ds stamp o new.pass
-  pub in_time : IsInTime (noted_net w records.past) w work.event
+  pub in_time : IsInTimeBy ts (noted_net w records.past) w work.event
   pub few : most_owed o ≤ 13
 
 -- nothing was recorded, so that the turn is this one, and the caller that owed these owes them still
-pub record Misses {J : Type 0} (w : World) (r : Roster) (a : ActorName) (work : Work) (cites : Option ℕ) (old : Bearer J)
+pub record Misses {J : Type 0} (ts : Tasks) (w : World) (r : Roster) (a : ActorName) (work : Work) (cites : Option ℕ) (old : Bearer J)
     (ds : List Duty) (t : Turn) (new : Bearer J) : Type 0 where
   pub guest : IsGuest w r old.caller new.pass ds
-  pub turned : Turned w old.caller old.now a work cites old.pass ds t new.pass ds
+  pub turned : Turned ts w old.caller old.now a work cites old.pass ds t new.pass ds
   pub alone : own old.caller new.pass ≡ own old.caller old.pass
 
 -- by whether it was recorded, as a turn of the caller whatever it owes
-abbrev pub Attempted : {J : Type 0} → World → Roster → ActorName → Work → Option ℕ → Bearer J → Result (ℕ × Outcome) Turn
+abbrev pub Attempted : {J : Type 0} → Tasks → World → Roster → ActorName → Work → Option ℕ → Bearer J → Result (ℕ × Outcome) Turn
     → Bearer J → Type 0
-Attempted w r a work cites old (Ok done) new =
+Attempted ts w r a work cites old (Ok done) new =
     (ds : List Duty) → IsGuest w r old.caller old.pass ds → IsTurn w old.caller old.pass ds a work cites
-    → Does w r a work cites old ds done.0 done.1 new
-Attempted w r a work cites old (Err t) new =
-    (ds : List Duty) → IsGuest w r old.caller old.pass ds → Misses w r a work cites old ds t new
+    → Does ts w r a work cites old ds done.0 done.1 new
+Attempted ts w r a work cites old (Err t) new =
+    (ds : List Duty) → IsGuest w r old.caller old.pass ds → Misses ts w r a work cites old ds t new

@@ -57,7 +57,7 @@ impl<J: Naming + Placing> Locks<J, WorldActor<J>> {
         calendar: &mut Calendar,
         now: u64,
     ) -> bool
-        requires all { AllStand J.world J.run.roster pass.old standings.now }
+        requires all { AllStand J.tasks J.world J.run.roster pass.old standings.now }
         requires known { IsKnown J.world pass.old.seen calendar.old }
         ensures same { pass.new ≡ pass.old }
         ensures known { IsKnown J.world pass.old.seen calendar.new }

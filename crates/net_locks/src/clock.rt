@@ -6,7 +6,7 @@ ghost use Rattle.net_base.specs.declared.event.Event.TheVariants as event;
 ghost use Rattle.net_base.specs.Actors.{actor_step};
 ghost use Rattle.net_base.specs.Callers.{IsClock, caller_of};
 ghost use Rattle.net_base.specs.Calm as calm;
-ghost use Rattle.net_base.specs.Legal.{IsInTime};
+ghost use Rattle.net_base.specs.Legal.{IsInTimeBy};
 ghost use Rattle.net_base.specs.Stamped.{moment as moment_of};
 ghost use Rattle.calm_laws.specs.Could.{could, is_full};
 ghost use Rattle.journal.specs.Rule.{Lawful};
@@ -95,10 +95,10 @@ impl<J: Naming + Placing> Locks<J, WorldActor<J>> {
         requires world { J.world ≡ world.now }
         requires clock { caller_of J.world bearer.old.caller ≡ IsClock }
         requires moment { bearer.old.now ≡ moment_of bearer.old.pass.seen }
-        requires all { AllStand J.world J.run.roster bearer.old.pass standings.now }
+        requires all { AllStand J.tasks J.world J.run.roster bearer.old.pass standings.now }
         ensures same { bearer.new ≡ bearer.old }
         ensures guests { IsOfGuests J.world J.run.roster bearer.old.pass.seen }
-        ensures halts { Halts J.world bearer.old.caller bearer.old.pass result }
+        ensures halts { Halts J.tasks J.world bearer.old.caller bearer.old.pass result }
     {
         self.journal.look(&mut bearer.pass);
         let (caller, now) = (bearer.caller, bearer.now);
@@ -118,10 +118,10 @@ impl<J: Naming + Placing> Locks<J, WorldActor<J>> {
         requires world { J.world ≡ world.now }
         requires clock { caller_of J.world caller ≡ IsClock }
         requires moment { now ≡ moment_of pass.old.seen }
-        requires all { AllStand J.world J.run.roster pass.old standings.now }
+        requires all { AllStand J.tasks J.world J.run.roster pass.old standings.now }
         requires lawful { Lawful J.run.roster pass.old.seen }
         ensures same { pass.new ≡ pass.old }
-        ensures halts { Halts J.world caller pass.old result }
+        ensures halts { Halts J.tasks J.world caller pass.old result }
     {
         calm_is_that_nobody_could();
         nets_of_works_grow();
@@ -150,9 +150,9 @@ impl<J: Naming + Placing> Locks<J, WorldActor<J>> {
     fn busy<R: Wait>(&self, rt: &R, standings: &[Standing], pass: &mut Pass<J>, now: u64) -> Busy
         requires numbers { HoldsAll J.run.roster pass.old }
         requires moment { now ≡ moment_of pass.old.seen }
-        requires all { AllStand J.world J.run.roster pass.old standings.now }
+        requires all { AllStand J.tasks J.world J.run.roster pass.old standings.now }
         ensures same { pass.new ≡ pass.old }
-        ensures finds { Finds (could J.world (noted_net J.world pass.old.seen)) (is_full (noted_net J.world pass.old.seen))
+        ensures finds { Finds (could J.tasks J.world (noted_net J.world pass.old.seen)) (is_full (noted_net J.world pass.old.seen))
             (callers_of standings.now) result }
     {
         nets_of_works_grow();
@@ -173,9 +173,9 @@ impl<J: Naming + Placing> Locks<J, WorldActor<J>> {
     fn could<R: Wait>(&self, rt: &R, standing: &Standing, pass: &mut Pass<J>, now: u64) -> bool
         requires numbers { HoldsAll J.run.roster pass.old }
         requires moment { now ≡ moment_of pass.old.seen }
-        requires stands { StandsAt J.world J.run.roster pass.old standing.now }
+        requires stands { StandsAt J.tasks J.world J.run.roster pass.old standing.now }
         ensures same { pass.new ≡ pass.old }
-        ensures could { result ≡ could J.world (noted_net J.world pass.old.seen) standing.now.caller }
+        ensures could { result ≡ could J.tasks J.world (noted_net J.world pass.old.seen) standing.now.caller }
     {
         nets_of_works_grow();
         if standing.owes {
@@ -223,12 +223,12 @@ impl<J: Naming + Placing> Locks<J, WorldActor<J>> {
         requires is { IsWorld world.now }
         requires clock { caller_of J.world visitor.old.bearer.caller ≡ IsClock }
         requires complete { IsVisitor J.world J.run.roster visitor.old }
-        requires all { AllStand J.world J.run.roster visitor.old.bearer.pass standings.now }
-        requires may { MayMove J.world visitor.old.bearer.caller visitor.old.bearer.pass }
+        requires all { AllStand J.tasks J.world J.run.roster visitor.old.bearer.pass standings.now }
+        requires may { MayMove J.tasks J.world visitor.old.bearer.caller visitor.old.bearer.pass }
         ensures complete { IsVisitor J.world J.run.roster visitor.new }
         ensures caller { visitor.new.bearer.caller ≡ visitor.old.bearer.caller }
         ensures now { visitor.new.bearer.now ≡ unwrap_or result visitor.old.bearer.now }
-        ensures go { MayGo J.world J.run.roster visitor.old.bearer.caller visitor.old.bearer.now
+        ensures go { MayGo J.tasks J.world J.run.roster visitor.old.bearer.caller visitor.old.bearer.now
             visitor.old.bearer.pass visitor.old.duties.list result visitor.new.bearer.pass visitor.new.duties.list }
     {
         let Some(moment) = self.reach(rt, gate, world, standings, visitor) else {
@@ -251,12 +251,12 @@ impl<J: Naming + Placing> Locks<J, WorldActor<J>> {
         requires world { J.world ≡ world.now }
         requires clock { caller_of J.world visitor.old.bearer.caller ≡ IsClock }
         requires complete { IsVisitor J.world J.run.roster visitor.old }
-        requires all { AllStand J.world J.run.roster visitor.old.bearer.pass standings.now }
-        requires may { MayMove J.world visitor.old.bearer.caller visitor.old.bearer.pass }
+        requires all { AllStand J.tasks J.world J.run.roster visitor.old.bearer.pass standings.now }
+        requires may { MayMove J.tasks J.world visitor.old.bearer.caller visitor.old.bearer.pass }
         ensures same { IsSameBearer visitor.old.bearer visitor.new.bearer }
         ensures touched { visitor.new.touched ≡ visitor.old.touched }
         ensures known { IsKnown J.world visitor.new.bearer.pass.seen visitor.new.calendar }
-        ensures go { MayGo J.world J.run.roster visitor.old.bearer.caller visitor.old.bearer.now
+        ensures go { MayGo J.tasks J.world J.run.roster visitor.old.bearer.caller visitor.old.bearer.now
             visitor.old.bearer.pass visitor.old.duties.list result visitor.new.bearer.pass visitor.new.duties.list }
     {
         conversations_are_these();
@@ -299,9 +299,9 @@ impl<J: Naming + Placing> Locks<J, WorldActor<J>> {
         requires room { HasRoom bearer.old.caller bearer.old.pass }
         requires dues { dues.now ≡ dues_of J.world (noted_net J.world bearer.old.pass.seen).actors }
         requires reserved { length dues.now ≤ duties.old.room }
-        requires in_time { IsInTime (noted_net J.world bearer.old.pass.seen) J.world (event.Move moment) }
+        requires in_time { IsInTimeBy J.tasks (noted_net J.world bearer.old.pass.seen) J.world (event.Move moment) }
         ensures same { IsSameBearer bearer.old bearer.new }
-        ensures leaves { MayLeave J.world J.run.roster bearer.old.caller bearer.old.now moment bearer.old.pass
+        ensures leaves { MayLeave J.tasks J.world J.run.roster bearer.old.caller bearer.old.now moment bearer.old.pass
             duties.old.list result bearer.new.pass duties.new.list }
     {
         a_move_owes_its_ticks();

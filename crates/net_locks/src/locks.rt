@@ -33,7 +33,7 @@ use net_base::{ActorName, Event, With, Work, World};
 use outside::Gate;
 use std::alloc::{AllocError, Global};
 use std::sync::{Arc, Wait};
-use workers::{Marks, Spot};
+use workers::{Awaited, Marks, Spot};
 
 /// Every actor of a world behind its lock, each at its number, with the journal of the run.
 #[derive(Drop)]
@@ -42,7 +42,7 @@ pub struct Locks<J: Naming + Placing, M: Machine> {
     locks: Vec<Locked<J, M>>,
     pub(crate) ways: WorldWays,
     // who waits for an actor sees here whether it has had an entry
-    marks: Marks,
+    pub(crate) marks: Marks,
     hosts: u32,
     media: u32,
     ghost of: { IsNetOf J.world J.run.roster hosts media ways (map (λ l. l.actor) locks.items) } by { net_prop },
@@ -98,19 +98,19 @@ impl<J: Naming + Placing> Locks<J, WorldActor<J>> {
         Some(&self.locks[number_of(self.hosts, self.media, actor)])
     }
 
-    /// How many entries an actor has had, to be looked at again.
-    pub fn spot_of(&self, actor: ActorName) -> Spot {
-        self.marks.spot(number_of(self.hosts, self.media, actor))
+    /// How many entries an actor has had of those after which this event may be ready, to be looked at again.
+    pub fn spot_of(&self, actor: ActorName, event: &Event) -> Spot {
+        let awaited = match event {
+            Event::Read { .. } => Awaited::Text,
+            _ => Awaited::Entry,
+        };
+        self.marks
+            .spot(number_of(self.hosts, self.media, actor), awaited)
     }
 
-    /// Whether the actor has had no entry since.
+    /// Whether the actor has had none of them since.
     pub fn stands(&self, spot: Spot) -> bool {
         self.marks.stands(spot)
-    }
-
-    // The actor has had an entry more.
-    pub(crate) fn count(&self, actor: ActorName) {
-        self.marks.add(number_of(self.hosts, self.media, actor));
     }
 
     /// The journal, and the books of all actors, in the order of their numbers. Each entry was a step of its actor.

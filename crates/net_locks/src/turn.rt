@@ -27,7 +27,7 @@ use guest_laws::{
 };
 use journal::Naming;
 use locked::Answer;
-use net_base::{ActorName, Event, Outcome, Reply, With, Work};
+use net_base::{ActorName, Body, Event, IlKind, Outcome, Reply, With, Work};
 use outside::Gate;
 use std::sync::Wait;
 
@@ -56,7 +56,7 @@ impl<J: Naming + Placing> Locks<J, WorldActor<J>> {
         ensures complete { IsVisitor J.world J.run.roster visitor.new }
         ensures same { IsSameBearer visitor.old.bearer visitor.new.bearer }
         ensures turn { (d : AnyDuty) → slice_get visitor.old.duties.list 0 ≡ Some d
-            → Visited J.world d.actor (work_of_duty d) (Some d.cites) visitor.old result visitor.new }
+            → Visited J.tasks J.world d.actor (work_of_duty d) (Some d.cites) visitor.old result visitor.new }
     {
         calendars_stay_known();
         no_duty_is_the_clocks();
@@ -94,7 +94,7 @@ impl<J: Naming + Placing> Locks<J, WorldActor<J>> {
         requires other { same_actor actor Clock ≡ false }
         ensures complete { IsVisitor J.world J.run.roster visitor.new }
         ensures same { IsSameBearer visitor.old.bearer visitor.new.bearer }
-        ensures turn { Visited J.world actor (bare event) None visitor.old result visitor.new }
+        ensures turn { Visited J.tasks J.world actor (bare event) None visitor.old result visitor.new }
     {
         calendars_stay_known();
         let bearer = &visitor.bearer;
@@ -115,6 +115,7 @@ impl<J: Naming + Placing> Locks<J, WorldActor<J>> {
     }
 
     // One try to record the first duty.
+    #[inline(always)]
     fn attempt_first<R: Wait, G: Gate>(
         &self,
         rt: &R,
@@ -130,7 +131,7 @@ impl<J: Naming + Placing> Locks<J, WorldActor<J>> {
         ensures same { IsSameBearer bearer.old bearer.new }
         ensures here { bearer.new.now ≡ moment bearer.new.pass.seen }
         ensures attempted { (d : AnyDuty) → slice_get duties.now.list 0 ≡ Some d
-            → Attempted J.world J.run.roster d.actor (work_of_duty d) (Some d.cites) bearer.old result bearer.new }
+            → Attempted J.tasks J.world J.run.roster d.actor (work_of_duty d) (Some d.cites) bearer.old result bearer.new }
     {
         no_duty_is_the_clocks();
         let first = duties.first().unwrap();
@@ -140,6 +141,7 @@ impl<J: Naming + Placing> Locks<J, WorldActor<J>> {
 
     // One try to record a work at an actor. The answer is the stamp of its entry and what the step gave, or else what became
     // of the turn.
+    #[inline(always)]
     fn attempt<R: Wait, G: Gate>(
         &self,
         rt: &R,
@@ -156,7 +158,7 @@ impl<J: Naming + Placing> Locks<J, WorldActor<J>> {
         requires other { same_actor actor Clock ≡ false }
         ensures same { IsSameBearer bearer.old bearer.new }
         ensures here { bearer.new.now ≡ moment bearer.new.pass.seen }
-        ensures attempted { Attempted J.world J.run.roster actor work.now cites bearer.old result bearer.new }
+        ensures attempted { Attempted J.tasks J.world J.run.roster actor work.now cites bearer.old result bearer.new }
     {
         few_calls_wait();
         guests_look();
@@ -169,13 +171,18 @@ impl<J: Naming + Placing> Locks<J, WorldActor<J>> {
         let (caller, now) = (bearer.caller, bearer.now);
         let pass = &mut bearer.pass;
         match lock.act(rt, &self.journal, gate, pass, caller, now, work, cites) {
-            Answer::Done { stamp, outcome } => Ok((stamp, outcome)),
+            Answer::Done { stamp, outcome } => {
+                // who waits for the actor sees that it has had an entry more
+                self.marks.add(lock.number() as usize, may_give_text(work));
+                Ok((stamp, outcome))
+            }
             Answer::NotReady { front: _ } => Err(Turn::NotReady),
             Answer::Memory => Err(Turn::Memory),
         }
     }
 
     // What an entry owes is owed after the others, and its actor is noted. The turn is that it was recorded.
+    #[inline(always)]
     fn settle(
         &self,
         duties: &mut Duties,
@@ -194,7 +201,6 @@ impl<J: Naming + Placing> Locks<J, WorldActor<J>> {
     {
         let shown = self.ways.owe(actor, stamp, work, outcome, duties);
         touched.note(actor, stamp);
-        self.count(actor);
         Turn::Recorded {
             stamp,
             reply: shown.reply,
@@ -202,7 +208,19 @@ impl<J: Naming + Placing> Locks<J, WorldActor<J>> {
     }
 }
 
+// Whether there may be more to read at an actor that has done this work: all does that but a message that only acknowledges.
+fn may_give_text(work: &Work) -> bool {
+    match &work.with {
+        With::Packet(packet) => match &packet.body {
+            Body::Il(message) => message.kind != IlKind::Ack,
+            Body::Udp(_) => true,
+        },
+        _ => true,
+    }
+}
+
 // Takes the room for an entry of the caller and for what it may owe. Where there is none, the turn is this one.
+#[inline(always)]
 fn lacks_room<J: Naming + Placing>(
     bearer: &Bearer<J>,
     duties: &mut Duties,
@@ -214,7 +232,7 @@ fn lacks_room<J: Naming + Placing>(
     ensures none { IsNone result → HasRoom bearer.entry.now.caller bearer.entry.now.pass
         × (13 ≤ duties.new.room) × (0 < touched.new.room) }
     ensures some { IfSome result (λ t. (now : ℕ) (a : Name) (work : AnyWork) (cites : Option ℕ)
-        → Turned J.world bearer.entry.now.caller now a work cites bearer.entry.now.pass duties.old.list t
+        → Turned J.tasks J.world bearer.entry.now.caller now a work cites bearer.entry.now.pass duties.old.list t
         bearer.entry.now.pass duties.new.list) }
 {
     if bearer.pass.room(bearer.caller) == 0 {

@@ -15,19 +15,30 @@ use Rattle.net_base.specs.declared.history.With.{With}
 use Rattle.net_base.specs.declared.history.Work.{Work}
 use Rattle.net_base.specs.declared.reply.Reply.{Reply}
 use Rattle.net_base.specs.declared.reply.Reply.TheVariants as reply
+use Rattle.net_base.specs.declared.address.Proto.{Proto}
 use Rattle.net_base.specs.declared.world.HostSpec.{HostSpec}
 use Rattle.net_base.specs.declared.world.MediumSpec.{MediumSpec}
+use Rattle.net_base.specs.declared.world.Version.{Version}
 use Rattle.net_base.specs.declared.world.World.{World}
 use Rattle.net_base.specs.ActorStep.{Step, replies, when}
-use Rattle.net_base.specs.Actors.{Actor, IsDesk, IsConv, IsDir, IsMedium, IsPlain, actor_step, has_actor, step_as, table_step}
+use Rattle.net_base.specs.Actors.{Actor, IsDesk, actor_step, has_actor, step_as}
 use Rattle.net_base.specs.Cs.{cs_list}
 use Rattle.net_base.specs.Desk.{Desk, cs_reply, desk_after, desk_replies, desk_reply, desk_step}
+use Rattle.net_base.specs.Conversation.{Conv}
+use Rattle.net_base.specs.Directory.{Dir}
+use Rattle.net_base.specs.Medium.{Medium}
 use Rattle.net_base.specs.Legal.{IsLegal, MayFollow, Shown, Shows}
-use Rattle.net_base.specs.Net.{Net, after, net_after, step_of, stepped_to, work_of, with_of}
+use Rattle.net_base.specs.Net.{Net, after, net_after, step_of, stepped_to, work_of}
 use Rattle.net_base.specs.Stamped.{same_actor}
 use Rattle.net_base.specs.Versions.{database_of}
 use Rattle.net_model.specs.Headline.{AnswersCs, last_version, version_in, version_told}
 use Rattle.history_laws.proofs.Histories.{after_push, by_entries, legal_take, next_other, next_same, same_actor_is}
+use Rattle.table_laws.specs.ActorRows.{ActorRow, AtClock, AtConv, AtDesk, AtDir, AtMedium, DeskRow, MediumRow, Refuses, Tells}
+use Rattle.table_laws.specs.ConvRows.{ConvRow}
+use Rattle.table_laws.specs.ConvRows as conv_row
+use Rattle.table_laws.specs.DirRows.{DirRow}
+use Rattle.table_laws.specs.DirRows as dir_row
+use Rattle.table_laws.proofs.Shared.{shown_reply}
 
 -- The version that a desk told last.
 
@@ -113,78 +124,50 @@ abbrev version_of : Actor → ℕ
 version_of (IsDesk d) = d.version
 version_of _ = 0
 
--- where a table has an answer to a query, it is a desk's, of this version
-abbrev IsDesks : World → List ℕ → ℕ → ActorName → Option (Step Actor) → Type 0
-IsDesks w query v a None = Unit {0}
-IsDesks w query v a (Some s) =
-    (n : ℕ) × (host : HostSpec) × (slice_get w.hosts n ≡ Some host) × (a ≡ name.Desk n) × (s.outcome.reply ≡ cs_reply (cs_list (database_of w.dbs v) host.name host.nets query))
+-- a reply to a query is a desk's, of this version
+abbrev IsDesks : World → List ℕ → ℕ → ActorName → Reply → Type 0
+IsDesks w query v a r =
+    (n : ℕ) × (host : HostSpec) × (slice_get w.hosts n ≡ Some host) × (a ≡ name.Desk n) × (r ≡ cs_reply (cs_list (database_of w.dbs v) host.name host.nets query))
 
-at_host : (w : World) (query : List ℕ) (n now : ℕ) (d : Desk) (o : Option HostSpec) → slice_get w.hosts n ≡ o
-    → IsDesks w query d.version (name.Desk n) (option_and_then (λ (host : HostSpec). step_as IsDesk (desk_step w.dbs host (event.Cs query) now d)) o)
-at_host w query n now d None is = tt
-at_host w query n now d (Some host) is = (n, host, is, refl, refl)
+by_desk : (dbs : List Version) (host : HostSpec) (now : ℕ) (d : Desk) (query : List ℕ) (r : Reply) → DeskRow dbs host now d (event.Cs query) r
+    → r ≡ cs_reply (cs_list (database_of dbs d.version) host.name host.nets query)
+by_desk dbs host now d query r (Tells is) = sym (ap cs_reply is)
+by_desk dbs host now d query r (Refuses is) = sym (ap cs_reply is)
 
-at_medium : (w : World) (query : List ℕ) (v : ℕ) (a : ActorName) (o : Option MediumSpec) (step : MediumSpec → Option (Step Actor)) → ((m : MediumSpec) → step m ≡ None)
-    → IsDesks w query v a (option_and_then step o)
-at_medium w query v a None step none = tt
-at_medium w query v a (Some m) step none = rw (none m) tt
+-- no other table has a row for a query
+no_dir : (w : World) (h : ℕ) (p : Proto) (d : Dir) (query : List ℕ) (gift : With) (s : Step Dir) → DirRow w h p d (event.Cs query) gift s → ⊥
+no_dir w h p d query gift s (dir_row.Stale names at other) = none-some _ names
 
-by_table : (w : World) (query : List ℕ) (gift : With) (now : ℕ) (a : ActorName) (state : Actor)
-    → IsDesks w query (version_of state) a (table_step w a state now (record { event = event.Cs query; with = gift }))
-by_table w query gift now (name.Desk n) (IsDesk d) = at_host w query n now d (slice_get w.hosts n) refl
-by_table w query gift now (name.Dir h p) (IsDir d) = tt
-by_table w query gift now (name.Conv h p n) (IsConv c) = tt
-by_table w query gift now (name.Medium m) (IsMedium s) = at_medium w query 0 (name.Medium m) (slice_get w.media m) _ (λ spec. refl)
-by_table w query gift now name.Clock IsPlain = tt
-by_table w query gift now (name.Desk n) IsPlain = tt
-by_table w query gift now (name.Desk n) (IsDir d) = tt
-by_table w query gift now (name.Desk n) (IsConv c) = tt
-by_table w query gift now (name.Desk n) (IsMedium m) = tt
-by_table w query gift now (name.Dir h p) (IsDesk d) = tt
-by_table w query gift now (name.Dir h p) IsPlain = tt
-by_table w query gift now (name.Dir h p) (IsConv c) = tt
-by_table w query gift now (name.Dir h p) (IsMedium m) = tt
-by_table w query gift now (name.Conv h p n) (IsDesk d) = tt
-by_table w query gift now (name.Conv h p n) IsPlain = tt
-by_table w query gift now (name.Conv h p n) (IsDir d) = tt
-by_table w query gift now (name.Conv h p n) (IsMedium m) = tt
-by_table w query gift now (name.Medium m) (IsDesk d) = tt
-by_table w query gift now (name.Medium m) IsPlain = tt
-by_table w query gift now (name.Medium m) (IsDir d) = tt
-by_table w query gift now (name.Medium m) (IsConv c) = tt
-by_table w query gift now name.Clock (IsDesk d) = tt
-by_table w query gift now name.Clock (IsDir d) = tt
-by_table w query gift now name.Clock (IsConv c) = tt
-by_table w query gift now name.Clock (IsMedium m) = tt
+no_conv : (slot now : ℕ) (c : Conv) (query : List ℕ) (gift : With) (s : Step Conv) → ConvRow slot now c (event.Cs query) gift s → ⊥
+no_conv slot now c query gift s (conv_row.Stale names old) = none-some _ names
 
-by_actor : (w : World) (query : List ℕ) (v : ℕ) (a : ActorName) (b : Bool) (o : Option (Step Actor)) → IsDesks w query v a o → IsDesks w query v a (when b o)
-by_actor w query v a true o desk = desk
-by_actor w query v a false o desk = tt
+no_medium : (spec : MediumSpec) (seed : ℕ) (m : Medium) (query : List ℕ) (gift : With) (s : Step Medium) → MediumRow spec seed m (event.Cs query) gift s → ⊥
+no_medium spec seed m query gift s row = elim row [ ]
 
-shown : (w : World) (past : List Entry) (query : List ℕ) (v : ℕ) (x : Entry) (o : Option (Step Actor)) → IsDesks w query v x.actor o
-    → ((n : ℕ) → x.actor ≡ name.Desk n → v ≡ last_version past (name.Desk n))
-    → IsSome (option_map (λ (s : Step Actor). s.outcome) o) → Shows (option_map (λ (s : Step Actor). s.outcome) o) x → AnswersCs w past x query
-shown w past query v x None desk version ready shows = absurd (false≢true ready)
-shown w past query v x (Some s) desk version ready shows =
-    record {
-      number = desk.0;
-      host = desk.1;
-      host_is = desk.2;
-      actor_is = desk.3;
-      reply_is =
-          ap (λ (z : Shown). z.reply) shows
-          ∙ (desk.4 ∙ ap (λ (n : ℕ). cs_reply (cs_list (database_of w.dbs n) desk.1.name desk.1.nets query)) (version desk.0 desk.3));
-    }
+by_row : (w : World) (now : ℕ) (a : ActorName) (s : Actor) (e : Event) (query : List ℕ) (gift : With) (t : Step Actor) → e ≡ event.Cs query → ActorRow w now a s e gift t
+    → IsDesks w query (version_of s) a t.outcome.reply
+by_row w now a s e query gift t is (AtDesk {h = h} {host = host} {d = d} {r = r} there row) =
+    (h, host, there, refl, by_desk w.dbs host now d query r (subst (λ (x : Event). DeskRow w.dbs host now d x r) is row))
+by_row w now a s e query gift t is (AtDir {h = h} {p = p} {d = d} {s = x} row) = absurd (no_dir w h p d query gift x (subst (λ (y : Event). DirRow w h p d y gift x) is row))
+by_row w now a s e query gift t is (AtConv {n = n} {c = c} {s = x} row) = absurd (no_conv n now c query gift x (subst (λ (y : Event). ConvRow n now c y gift x) is row))
+by_row w now a s e query gift t is (AtMedium {spec = spec} {m = m} {s = x} there row) =
+    absurd (no_medium spec w.seed m query gift x (subst (λ (y : Event). MediumRow spec w.seed m y gift x) is row))
+by_row w now a s e query gift t is AtClock = absurd (cc is)
 
 pub answers_cs : (w : World) (h : List Entry) (k : ℕ) (x : Entry) (query : List ℕ) → IsLegal w h → slice_get h k ≡ Some x → x.event ≡ event.Cs query → AnswersCs w (take k h) x query
 answers_cs w h k x query legal stands is =
     let may = legal k x stands in
     let net = after w (take k h) in
-    let gift = with_of (net.owed x.caller) in
     let state = net.actors x.actor in
-    let desk : IsDesks w query (version_of state) x.actor (step_of w net x) =
-    subst (λ (e : Event). IsDesks w query (version_of state) x.actor (actor_step w x.actor state net.moment (record { event = e; with = gift }))) (sym is)
-    (by_actor w query (version_of state) x.actor (has_actor w x.actor) _ (by_table w query gift net.moment x.actor state)) in
-    shown w (take k h) query (version_of state) x (step_of w net x) desk
-    (λ n at. ap (λ (a : ActorName). version_of (net.actors a)) at ∙ ap version_of (desk_of w n (take k h) (legal_take w h k legal)))
-    may.is_ready may.answers
+    let desk : IsDesks w query (version_of state) x.actor x.reply =
+    shown_reply w net x (IsDesks w query (version_of state) x.actor) may.is_ready may.answers
+    (λ t row. by_row w net.moment x.actor state x.event query (work_of net x).with t is row) in
+    let version : version_of state ≡ last_version (take k h) (name.Desk desk.0) =
+    ap (λ (a : ActorName). version_of (net.actors a)) desk.3 ∙ ap version_of (desk_of w desk.0 (take k h) (legal_take w h k legal)) in
+    record {
+      number = desk.0;
+      host = desk.1;
+      host_is = desk.2;
+      actor_is = desk.3;
+      reply_is = desk.4 ∙ ap (λ (n : ℕ). cs_reply (cs_list (database_of w.dbs n) desk.1.name desk.1.nets query)) version;
+    }

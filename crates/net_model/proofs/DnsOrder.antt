@@ -31,7 +31,7 @@ use Rattle.net_base.specs.Exports.{Own, and_then, asks, by_text, closes_each, do
 use Rattle.net_base.specs.Imports.{attach_message, clunk_message, is_open, is_version, is_whole, longest_text, open_message, opens_remote, read_message, sends, sends_by, sends_for, sends_once, version_message, walk_message, write_message}
 use Rattle.net_base.specs.Legal.{IsAsked, IsLegal, MayFollow, asked_by, cites_of}
 use Rattle.net_base.specs.Net.{owed}
-use Rattle.net_base.specs.Next.{finished_by, next, own_replies, zone_of}
+use Rattle.net_base.specs.Next.{finished_by, next, own_entries, own_replies, zone_of}
 use Rattle.net_base.specs.NinepReading.{read_t}
 use Rattle.net_base.specs.Paths.{reads, walk, writes}
 use Rattle.net_base.specs.Remotes.{free_fid, is_remote, is_remote_path, remote_of}
@@ -44,7 +44,7 @@ use Rattle.net_base.specs.Steps.{Ask, Names, Fid, Play, Asks, Ends, Position, St
 use Rattle.net_base.specs.Versions.{Tuples}
 use Rattle.history_laws.proofs.Histories.{legal_take}
 use Rattle.net_model.specs.DnsOrder.{AnswersQuestions, AnswersRead}
-use Rattle.import_law.specs.Order.{Begins, IsPlayed, StandInOrder, own_entries}
+use Rattle.import_law.specs.Order.{Begins, IsPlayed, StandInOrder}
 use Rattle.import_law.specs.Scripted.{scripted}
 use Rattle.import_law.proofs.Plays.{begins_asks, goes_on, replies}
 use Rattle.import_law.proofs.Stood.{asks_next}

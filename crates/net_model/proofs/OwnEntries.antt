@@ -9,9 +9,9 @@ use Rattle.net_base.specs.Calm.{owes}
 use Rattle.net_base.specs.Callers.{IsScript, caller_of}
 use Rattle.net_base.specs.Legal.{IsLegal}
 use Rattle.net_base.specs.Net.{after}
-use Rattle.net_base.specs.Next.{answered, finished_by, own_replies, zone_of}
+use Rattle.net_base.specs.Next.{answered, finished_by, own_entries, own_replies, zone_of}
 use Rattle.net_base.specs.Scripts.{at_first}
-use Rattle.import_law.specs.Order.{StandInOrder, own_entries}
+use Rattle.import_law.specs.Order.{StandInOrder}
 use Rattle.import_law.specs.Scripted.{scripted}
 use Rattle.import_law.proofs.Plays.{replies, stood_take}
 use Rattle.import_law.proofs.Stood.{HasStood, finished, stood}

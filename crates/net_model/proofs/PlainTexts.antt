@@ -7,21 +7,15 @@ use Rattle.std.proofs.lemmas.Bool.Decides.{nat_tests}
 use Rattle.std.proofs.lemmas.List.Folds.{list_all-append}
 use Rattle.net_base.specs.declared.address.Proto.{Proto}
 use Rattle.net_base.specs.declared.address.Proto.TheVariants as proto
-use Rattle.net_base.specs.declared.event.Event.{Event}
-use Rattle.net_base.specs.declared.event.Event.TheVariants as event
-use Rattle.net_base.specs.declared.names.Mode.{Mode}
 use Rattle.net_base.specs.declared.names.Node.{Node}
 use Rattle.net_base.specs.declared.names.Node.TheVariants as node
 use Rattle.net_base.specs.Ndb.{NdbPair}
 use Rattle.net_base.specs.declared.reply.Reply.{Reply}
 use Rattle.net_base.specs.declared.reply.Reply.TheVariants as reply
-use Rattle.net_base.specs.declared.world.HostSpec.{HostSpec}
-use Rattle.net_base.specs.declared.world.Version.{Version}
 use Rattle.net_base.specs.Addresses.{address_text}
 use Rattle.net_base.specs.Cs.{CsAnswer, Query, proto_name, nets_of, host_words, is_any, address_texts, host_addresses, ports_of, cs_line, lines_of, refused_where_empty, answer_query, answer_read, read_query}
-use Rattle.net_base.specs.Desk.{Desk, cs_reply, ls_reply, open_refusal, desk_reply, clock_reply}
-use Rattle.net_base.specs.Paths.{walk, may_open, names}
-use Rattle.net_base.specs.Versions.{database_of}
+use Rattle.net_base.specs.Desk.{cs_reply}
+use Rattle.net_base.specs.Paths.{names}
 use Rattle.net_base.specs.World.{is_text}
 use Rattle.net_model.proofs.CsLaws.{any_text}
 use Rattle.history_laws.proofs.Ordered.{Each, each_any, each_append, each_map, each_flat_map}
@@ -111,7 +105,8 @@ query_texts db me nets query =
     (refused_or 4 (flat_map (ports_of db query.service) (nets_of nets query.net)) _
     (each_flat_map IsText (lines_of db query.service found) (λ net. lines_text db query.service net found (texts_are db me query.host (is_any query.host) refl)) (nets_of nets query.net)))))
 
-cs_texts : (db : List (List (List NdbPair))) (me : List ℕ) (nets : List Proto) (query : Option Query) → ListsTexts (cs_reply (answer_read db me nets query))
+-- what cs answers lists texts
+pub cs_texts : (db : List (List (List NdbPair))) (me : List ℕ) (nets : List Proto) (query : Option Query) → ListsTexts (cs_reply (answer_read db me nets query))
 cs_texts db me nets None = tt
 cs_texts db me nets (Some query) = query_texts db me nets query
 
@@ -120,26 +115,3 @@ names_text node.Root taken = (refl, (refl, (refl, tt)))
 names_text (node.Proto p) taken = (refl, numbers_text taken)
 names_text (node.Dir p n) taken = (refl, (refl, (refl, (refl, (refl, (refl, (refl, tt)))))))
 names_text _ taken = tt
-
--- The desk and the clock.
-
-ls_texts : (path : List ℕ) → ListsTexts (ls_reply path)
-ls_texts path = cond_both (bytes_eq path (codes "/net")) _ _ (λ (r : Reply). ListsTexts r) (λ _. names_text node.Root []) (λ _. tt)
-
-refusal_texts : (n : Option Node) (mode : Mode) → IfSome (open_refusal n mode) (λ r. ListsTexts r)
-refusal_texts None mode = tt
-refusal_texts (Some n) mode = cond_both (may_open n mode) _ _ (λ (o : Option Reply). IfSome o (λ r. ListsTexts r)) (λ _. tt) (λ _. tt)
-
-pub desk_texts : (dbs : List Version) (host : HostSpec) (e : Event) (now : ℕ) (d : Desk) → IfSome (desk_reply dbs host e now d) (λ r. ListsTexts r)
-desk_texts dbs host (event.Cs query) now d = cs_texts (database_of dbs d.version) host.name host.nets (read_query query)
-desk_texts dbs host (event.LsPath path) now d = ls_texts path
-desk_texts dbs host (event.OpenPath path mode) now d = refusal_texts (walk path) mode
-desk_texts dbs host (event.Use called) now d = tt
-desk_texts dbs host (event.Misuse called) now d = tt
-desk_texts dbs host (event.Until moment) now d = cond_both (nat_le moment now) _ _ (λ (o : Option Reply). IfSome o (λ r. ListsTexts r)) (λ _. tt) (λ _. tt)
-desk_texts dbs host event.Refresh now d = tt
-desk_texts dbs host _ now d = tt
-
-pub clock_texts : (e : Event) → IfSome (clock_reply e) (λ r. ListsTexts r)
-clock_texts (event.Move moment) = tt
-clock_texts _ = tt

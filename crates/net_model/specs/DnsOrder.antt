@@ -7,10 +7,9 @@ use Rattle.net_base.specs.declared.world.Step.{Step}
 use Rattle.net_base.specs.declared.world.Step.TheVariants as step
 use Rattle.net_base.specs.declared.world.World.{World}
 use Rattle.net_base.specs.DomainAnswers.{dns_answer}
-use Rattle.net_base.specs.Next.{standing, zone_of}
+use Rattle.net_base.specs.Next.{own_entries, standing, zone_of}
 use Rattle.net_base.specs.Steps.{bytes_in}
 use Rattle.net_base.specs.Versions.{Tuples}
-use Rattle.import_law.specs.Order.{own_entries}
 
 -- the last of these entries is a read of at most 8,192 bytes at the writer's conversation, and this text is the database's answer to
 -- what it read

@@ -11,10 +11,10 @@ use Rattle.net_base.specs.declared.world.World.{World}
 use Rattle.net_base.specs.Calm.{owes}
 use Rattle.net_base.specs.Duties.{Duty}
 use Rattle.net_base.specs.Net.{after, owed}
-use Rattle.net_base.specs.Next.{answered, finished_by, own_replies, zone_of}
+use Rattle.net_base.specs.Next.{answered, finished_by, own_entries, own_replies, zone_of}
 use Rattle.net_base.specs.Stamped.{In}
 use Rattle.net_base.specs.Scripts.{at_first}
-use Rattle.import_law.specs.Order.{StandInOrder, own_entries}
+use Rattle.import_law.specs.Order.{StandInOrder}
 use Rattle.import_law.specs.Scripted.{scripted}
 
 -- the entries of steps of which a caller owes nothing: what it owes is of the step of its last own entry

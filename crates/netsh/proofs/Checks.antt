@@ -4,10 +4,11 @@ use Rattle.net_base.specs.declared.world.World.{World}
 use Rattle.net_model.specs.Answers.{Answer, all_kept, rule_broken}
 use Rattle.net_model.specs.Words.{Check}
 use Rattle.world_text.specs.WorldText.{world_reading}
-use Rattle.commands.specs.Built.{is_over, IsAnswer, IsFirstBad, IsGiven, IsJudged}
+use Rattle.commands.specs.Built.{asking, IsAnswer, IsFirstBad, IsJudged}
 use Rattle.checked_input.specs.Input.{bad_world, no_history, parts_of, Handed, IsBadFrom, IsBadHanded, IsBadHistory, Parts}
 use Rattle.commands.specs.Checked.{BreaksOne, IsChecked, KeepsAll}
-use Rattle.netsh.proofs.Endings.{told_of}
+use Rattle.command_line.specs.Asking.{IsGiven, is_over}
+use Rattle.command_line.proofs.BadLines.{given_good, told_of}
 
 none_some : (bad : ℕ × ℕ) → None ≡ Some bad → ⊥
 none_some bad h = cc
@@ -29,11 +30,11 @@ parts_handed input None are told = no_world_handed input (bad_world (world_readi
 parts_handed input (Some parts) are told = world_handed input parts are (world_reading parts.world) refl told
 
 pub handed_in : (input : List ℕ) → IsFirstBad Check input None → Handed input
-handed_in input good = by (is_over Check input) refl
+handed_in input good = by (is_over asking Check input) refl
   where
-    by : (over : Bool) → is_over Check input ≡ over → Handed input
-    by true is = absurd (none_some (0, 9) (told_of Check input true is None good))
-    by false is = parts_handed input (parts_of input) refl (told_of Check input false is None good)
+    by : (over : Bool) → is_over asking Check input ≡ over → Handed input
+    by true is = absurd (none_some (0, 9) (told_of _ asking Check input true is None good))
+    by false is = parts_handed input (parts_of input) refl (told_of _ asking Check input false is None good)
 
 -- the status of an answer that is this one
 status_is : (answer other : Answer) (n : ℕ) → answer ≡ other → answer.status ≡ n → other.status ≡ n
@@ -59,7 +60,7 @@ module _ (input : List ℕ) (answer : Answer) where
   pub judges : (n : ℕ) → (n ≡ 2 → ⊥) → IsAnswer Check input answer → answer.status ≡ n → IsFirstBad Check input None × IsJudged input answer
   judges n no_two is has = by is.found is.first is.given
     where
-      by : (found : Option (ℕ × ℕ)) → IsFirstBad Check input found → IsGiven found Check input answer → IsFirstBad Check input None × IsJudged input answer
+      by : (found : Option (ℕ × ℕ)) → IsFirstBad Check input found → IsGiven asking found Check input answer → IsFirstBad Check input None × IsJudged input answer
       by None good given = (good, given)
       by (Some bad) told given = absurd (no_two (sym has ∙ ap (λ (a : Answer). a.status) given))
 
@@ -69,16 +70,8 @@ module _ (input : List ℕ) (answer : Answer) where
   pub checked_5 : IsAnswer Check input answer → answer.status ≡ 5 → (handed : Handed input) → BreaksOne handed.world handed.history handed.told
   checked_5 is five handed = breaks_5 handed ((judges 5 (λ e. omega (arith, e)) is five).1 handed) five
 
-  -- one to an input without a bad line is judged
-  pub judged : IsAnswer Check input answer → IsFirstBad Check input None → IsJudged input answer
-  judged is good = by is.found (is.only None good) is.given
-    where
-      by : (found : Option (ℕ × ℕ)) → None ≡ found → IsGiven found Check input answer → IsJudged input answer
-      by None same given = given
-      by (Some bad) same given = absurd (none_some bad same)
-
   pub kept_so : IsAnswer Check input answer → IsFirstBad Check input None → (handed : Handed input) → KeepsAll handed.world handed.history handed.told → answer.status ≡ 0
-  kept_so is good handed keeps = ap (λ (a : Answer). a.status) ((judged is good handed).kept keeps)
+  kept_so is good handed keeps = ap (λ (a : Answer). a.status) ((given_good _ asking Check input answer is good handed).kept keeps)
 
   pub broken_so : IsAnswer Check input answer → IsFirstBad Check input None → (handed : Handed input) → BreaksOne handed.world handed.history handed.told → answer.status ≡ 5
-  broken_so is good handed (stamp, rule, broken) = ap (λ (a : Answer). a.status) ((judged is good handed).broken stamp rule broken)
+  broken_so is good handed (stamp, rule, broken) = ap (λ (a : Answer). a.status) ((given_good _ asking Check input answer is good handed).broken stamp rule broken)

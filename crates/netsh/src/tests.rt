@@ -81,21 +81,7 @@ open c /net/udp/clone\n\
 write c connect 135.104.9.6!5000 7\n\
 open d /net/udp/0/data\n\
 read d 8192\n\
-ndb\n\
-# local network\n\
-ipnet=astro ip=135.104.0.0 ipmask=255.255.0.0\n\
-\tauth=bootes\n\
-ipnet=astro9 ip=135.104.9.0 ipmask=255.255.255.0\n\
-\tauth=helix\n\
-sys=anna ip=135.104.9.6\n\
-\tdom=anna.example.com\n\
-sys=helix dom=helix.example.com\n\
-\tip=10.0.0.31\n\
-\tip=135.104.9.31\n\
-sys=bootes\n\
-\tip=135.104.50.2\n\
-il=9fs port=17008\n\
-udp=echo port=7\n";
+ndb\n";
 
 /// What its run prints.
 const DATAGRAM_RUN: &str = "0 0 0 dir.0.udp - reserve = slot 0 1\n\
@@ -270,8 +256,7 @@ fn beginning(alloc: Global, len: usize) -> Result<SureSource, AllocError> {
     Ok(SureSource::new(Octets::from_vec(bytes)))
 }
 
-/// Whether a beginning runs as the whole world does where it has the word `ndb`, since no name is looked for in the
-/// database, and is refused otherwise.
+/// Whether a beginning runs as the whole world does where it has the word `ndb`, and is refused otherwise.
 fn is_begun<R: Threads + Wait + Sync>(
     rt: &R,
     alloc: Global,
@@ -281,8 +266,8 @@ fn is_begun<R: Threads + Wait + Sync>(
     let mut source = beginning(alloc, len)?;
     let mut sink = sink_of(alloc, &[])?;
     let status = netsh(rt, alloc, words, &mut source, &mut sink, &OpenGate);
-    let behind = LOCAL.len().saturating_add(1);
-    if len.saturating_add(behind) < DATAGRAM.len() {
+    // the newline behind that word may be missing
+    if len.saturating_add(1) < DATAGRAM.len() {
         return Ok(status == 2 && sink.held().starts_with(b"! line "));
     }
     Ok(status == 0 && sink.held() == DATAGRAM_RUN.as_bytes())

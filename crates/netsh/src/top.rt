@@ -1,5 +1,5 @@
 //! The top call: words and an input in, a status and a text out.
-ghost use Rattle.std.specs.Prelude.{◌≡◌, ◌≢◌, ◌<◌, ◌≤◌, ◌↔◌, ◌⊎◌, ◌+◌, ℕ, map, string_bytes, length, IsNone, IfNone, IfSome, IfOk, IsTrue, Some, None, Err, false};
+ghost use Rattle.std.specs.Prelude.{◌≡◌, ◌≢◌, ◌<◌, ◌≤◌, ◌↔◌, ◌⊎◌, ◌+◌, ℕ, map, string_bytes, length, IsNone, IfNone, IfSome, IfOk, IsTrue, Some, None, false};
 ghost use Rattle.net_model.specs.Words.{Big as AnyBig, Command as AnyCommand, Export as AnyExport, Run as AnyRun, command_of, reads, words_wait};
 ghost use Rattle.command_line.specs.Calls.{Intake, IsUnread};
 ghost use Rattle.netsh.specs.Ends.{Causes, Ends, EndsWell, HasGood, IsAnswered, most_reads};
@@ -8,10 +8,10 @@ ghost use Rattle.commands.specs.Built.{IsAnswer};
 ghost use Rattle.netsh.specs.Commands.{question_read};
 
 use crate::command::{Command, Question, has_input, read_words};
-use command_line::tell;
+use command_line::{Answer, tell_answer, tell_usage};
 use commands::{
-    Answer, READ_FAULT, TOO_LONG, USAGE, big, check, cs, dns, export_over, make, query_beside,
-    query_tuples, run_over, translate, values_are_answers,
+    big, check, cs, dns, export_over, make, query_beside, query_tuples, run_over, translate,
+    values_are_answers,
 };
 use outside::{Gate, Sink, Source, SureSink, SureSource, TakeError, read_to_end};
 use std::alloc::{AllocError, Global};
@@ -23,29 +23,6 @@ const INPUT_LIMIT: usize = 4194304;
 
 /// The most bytes of an input that has a run's output in it, 64 MiB.
 const HISTORY_LIMIT: usize = 67108864;
-
-/// Tells why there is no answer to a command and its input. One over the limit is answered as a bad one.
-fn tell_error<K: Sink>(sink: &mut K, error: TakeError) -> u8
-    ensures { (asked : AnyCommand) (intake : Intake) → IsAnswered asked intake (Err error) → Ends (Some asked) result intake
-        (record { held = K.held sink.old; holds = K.held sink.new; before = K.faults sink.old; after = K.faults sink.new }) }
-{
-    match error {
-        TakeError::TooLarge => tell(sink, 2, TOO_LONG.as_bytes()),
-        TakeError::Failed => tell(sink, 6, READ_FAULT.as_bytes()),
-        TakeError::Memory => 8,
-    }
-}
-
-/// Tells what became of a command and its input.
-fn tell_answer<K: Sink>(sink: &mut K, answered: Result<Answer, TakeError>) -> u8
-    ensures { (asked : AnyCommand) (intake : Intake) → IsAnswered asked intake answered → Ends (Some asked) result intake
-        (record { held = K.held sink.old; holds = K.held sink.new; before = K.faults sink.old; after = K.faults sink.new }) }
-{
-    match answered {
-        Ok(answer) => tell(sink, answer.status(), answer.text()),
-        Err(error) => tell_error(sink, error),
-    }
-}
 
 /// The answer to a command that never waits and to its input, if it has one, which is within the limit.
 fn answer_over(alloc: Global, question: Question<'_>, input: &[u8]) -> Result<Answer, AllocError>
@@ -182,7 +159,7 @@ fn ask_words<S: Source, K: Sink>(
         Some(Command::Run(workers)) => Asked::Run(workers),
         Some(Command::Big(messages)) => Asked::Big(messages),
         Some(Command::Export(workers)) => Asked::Export(workers),
-        None => Asked::Answered(tell(sink, 1, USAGE.as_bytes())),
+        None => Asked::Answered(tell_usage(sink)),
     }
 }
 

@@ -42,19 +42,8 @@ accept e c\n\
 read e 8192\n\
 write e owt\n\
 ndb\n\
-ipnet=astro ip=135.104.0.0 ipmask=255.255.0.0\n\
-\tauth=bootes\n\
-ipnet=astro9 ip=135.104.9.0 ipmask=255.255.255.0\n\
-\tauth=helix\n\
-sys=anna ip=135.104.9.6\n\
-\tdom=anna.example.com\n\
-sys=helix dom=helix.example.com\n\
-\tip=10.0.0.31\n\
-\tip=135.104.9.31\n\
-sys=bootes\n\
-\tip=135.104.50.2\n\
-il=9fs port=17008\n\
-udp=echo port=7\n";
+sys=helix ip=135.104.9.31\n\
+il=9fs port=17008\n";
 
 /// The summary of their run, whatever the order.
 const SUMMARY: &str = "steps 18 of 18\nmessages 4 4\nbytes 12 12\nend done 10\n";

@@ -1,5 +1,5 @@
 -- What is answered to an input, from what is told of it.
-use Rattle.std.proofs.Common.{◌≡◌, ℕ, ◌≤◌, false, List, length, Option, Some, None, sym, ◌∙◌, ap, subst, inl, inr}
+use Rattle.std.proofs.Common.{◌≡◌, ℕ, ◌≤◌, List, length, Option, Some, None, sym, ◌∙◌, ap, subst, inl, inr}
 use Rattle.net_base.specs.declared.history.Entry.{Entry}
 use Rattle.net_base.specs.declared.world.World.{World}
 use Rattle.net_base.specs.Legal.{IsFault, IsLegal, IsTimed, Rule, rule_number}
@@ -8,9 +8,10 @@ use Rattle.netcheck.specs.Judged.{HasFault}
 use Rattle.checked_input.specs.Told.{HandsIn, IsFirst, Refuses}
 use Rattle.checked_input.specs.declared.fault.InputError.TheVariants as error
 use Rattle.net_base.specs.NdbBundle.{bad_line}
-use Rattle.netview.specs.Views.{input_limit, view, whole, IsAnswer, IsGiven, IsShown}
+use Rattle.netview.specs.Views.{asking, input_limit, view, whole, IsAnswer, IsShown}
 use Rattle.netview.specs.Words.{Lint, Show, View}
-use Rattle.netview.proofs.Endings.{told_by, told_of, within_limit}
+use Rattle.command_line.specs.Asking.{IsGiven}
+use Rattle.command_line.proofs.BadLines.{answer_within, within_limit}
 
 -- a history with a fault isn't both legal and timed, and has no other fault
 abbrev pub NotLegal : Type 0
@@ -40,18 +41,14 @@ module _ (asked : View) (input : List ℕ) (w : World) (h : List Entry) (answer 
 -- an answer to an input within the limit, of which no line is bad
 answer_good : (asked : View) (input : List ℕ) (w : World) (h : List Entry) (told : Option (List ℕ)) (answer : Answer) → length input ≤ input_limit (Show asked)
     → HandsIn input w h told → IsShown asked input w h answer → IsAnswer (Show asked) input answer
-answer_good asked input w h told answer fits hands shown = record {
-  found = None;
-  first = told_by (Show asked) input false (within_limit (Show asked) input fits) None hands.good.is;
-  only = λ other is. hands.good.only other (told_of (Show asked) input false (within_limit (Show asked) input fits) other is);
-  given = (
-    hands.handed,
-    λ handed.
-        let same = hands.only handed in
-        subst (λ (v : World). IsShown asked input v handed.history answer) (sym same.0)
-        (subst (λ (k : List Entry). IsShown asked input w k answer) (sym same.1) shown),
-  );
-}
+answer_good asked input w h told answer fits hands shown =
+    answer_within _ asking (Show asked) input answer None (within_limit _ asking (Show asked) input fits) hands.good.is hands.good.only (
+      hands.handed,
+      λ handed.
+          let same = hands.only handed in
+          subst (λ (v : World). IsShown asked input v handed.history answer) (sym same.0)
+          (subst (λ (k : List Entry). IsShown asked input w k answer) (sym same.1) shown),
+    )
 
 pub answers_view : (asked : View) (input : List ℕ) (w : World) (h : List Entry) (told : Option (List ℕ)) (answer : Answer) → NotLegal
     → length input ≤ input_limit (Show asked) → HandsIn input w h told → IsLegal w h → IsTimed w h → answer ≡ view asked input w h → IsAnswer (Show asked) input answer
@@ -61,12 +58,8 @@ answers_view asked input w h told answer not_legal fits hands legal timed is =
 pub answers_bad : (asked : View) (input : List ℕ) (line cause : ℕ) (answer : Answer) → length input ≤ input_limit (Show asked)
     → IsFirst input (Some (line, cause))
     → answer ≡ bad_input line cause → IsAnswer (Show asked) input answer
-answers_bad asked input line cause answer fits first is = record {
-  found = Some (line, cause);
-  first = told_by (Show asked) input false (within_limit (Show asked) input fits) (Some (line, cause)) first.is;
-  only = λ other told. first.only other (told_of (Show asked) input false (within_limit (Show asked) input fits) other told);
-  given = is;
-}
+answers_bad asked input line cause answer fits first is =
+    answer_within _ asking (Show asked) input answer (Some (line, cause)) (within_limit _ asking (Show asked) input fits) first.is first.only is
 
 pub answers_fault : (asked : View) (input : List ℕ) (stamp rule : ℕ) (answer : Answer) → NotLegal → OneFault → length input ≤ input_limit (Show asked)
     → Refuses input (error.Fault stamp rule) → answer ≡ rule_broken stamp rule → IsAnswer (Show asked) input answer
@@ -77,14 +70,10 @@ answers_fault asked input stamp rule answer not_legal one fits (w, h, told, hand
 
 -- one that is read has no bad line, and one that is refused is told of by its bad line
 bundle_told : (input : List ℕ) (found : Option (ℕ × ℕ)) (answer : Answer) → length input ≤ input_limit Lint → bad_line input ≡ found
-    → IsGiven found Lint input answer
+    → IsGiven asking found Lint input answer
     → IsAnswer Lint input answer
-bundle_told input found answer fits is given = record {
-  found = found;
-  first = told_by Lint input false (within_limit Lint input fits) found (sym is);
-  only = λ other told. told_of Lint input false (within_limit Lint input fits) other told ∙ is;
-  given = given;
-}
+bundle_told input found answer fits is given =
+    answer_within _ asking Lint input answer found (within_limit _ asking Lint input fits) (sym is) (λ other told. told ∙ is) given
 
 pub answers_notes : (input notes : List ℕ) (answer : Answer) → length input ≤ input_limit Lint → bad_line input ≡ None → answer ≡ whole notes
     → IsAnswer Lint input answer

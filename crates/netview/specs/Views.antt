@@ -1,15 +1,18 @@
 -- What a command answers to its input.
+--     asking        what is asked of the program: its bad lines, and what is found in a good input
 --     IsFirstBad    the first bad line of an input
 --     view          what is shown of an input with a world and a legal and timed history of it
 --     IsAnswer      an answer to a command and its input
 -- Of a bundle nothing is said of what is noted, but that its bad lines are told.
-use Rattle.std.specs.Prelude.{◌≡◌, ℕ, ◌⊎◌, Bool, true, false, List, [], ◌∷◌, length, nat_lt, bytes_eq, codes, Option, Some, None, if◌then◌else◌}
+use Rattle.std.specs.Prelude.{◌≡◌, ℕ, ◌⊎◌, true, List, [], ◌∷◌, bytes_eq, Option, Some, None, if◌then◌else◌}
 use Rattle.net_base.specs.declared.history.Entry.{Entry}
 use Rattle.net_base.specs.declared.world.MediumSpec.{MediumSpec}
 use Rattle.net_base.specs.declared.world.World.{World}
 use Rattle.net_base.specs.Legal.{IsLegal, IsTimed}
 use Rattle.netcheck.specs.Judged.{HasFault}
-use Rattle.net_model.specs.Answers.{Answer, bad_input, ended, rule_broken}
+use Rattle.command_line.specs.Asking as calls
+use Rattle.command_line.specs.Asking.{Asking}
+use Rattle.net_model.specs.Answers.{Answer, lines_answer, rule_broken}
 use Rattle.checked_input.specs.Input.{Handed, IsBadHanded, parts_of}
 use Rattle.history_words.specs.HistoryWords.{history_words}
 use Rattle.net_capture.specs.Capture.{capture}
@@ -26,21 +29,10 @@ abbrev pub input_limit : Command → ℕ
 input_limit (Show asked) = 67108864
 input_limit Lint = 4194304
 
-abbrev pub is_over : Command → List ℕ → Bool
-is_over asked input = nat_lt (input_limit asked) (length input)
-
 -- the first bad line of an input within the limit, and its least cause, if a line is bad
 abbrev pub IsBadLine : Command → List ℕ → Option (ℕ × ℕ) → Type 0
 IsBadLine (Show asked) input found = IsBadHanded (parts_of input) input found
 IsBadLine Lint input found = found ≡ bad_line input
-
--- the same of any input: one over the limit has cause 9 at line 0
-abbrev pub IsBadOf : Bool → Command → List ℕ → Option (ℕ × ℕ) → Type 0
-IsBadOf true asked input found = found ≡ Some (0, 9)
-IsBadOf false asked input found = IsBadLine asked input found
-
-abbrev pub IsFirstBad : Command → List ℕ → Option (ℕ × ℕ) → Type 0
-IsFirstBad asked input found = IsBadOf (is_over asked input) asked input found
 
 -- Views.
 
@@ -50,7 +42,7 @@ whole text = record { status = 0; text = text }
 
 -- the world has no medium of the name
 abbrev pub no_medium : Answer
-no_medium = record { status = 5; text = ended (codes "! no answer") }
+no_medium = lines_answer []
 
 -- the number of the medium with a name, if there is one
 abbrev pub medium_named : List ℕ → List MediumSpec → Option ℕ
@@ -89,15 +81,14 @@ abbrev pub IsGood : Command → List ℕ → Answer → Type 0
 IsGood (Show asked) input answer = Handed input × IsShownOf asked input answer
 IsGood Lint input answer = (notes : List ℕ) × (answer ≡ whole notes)
 
--- an answer to an input with this first bad line, or without one
-abbrev pub IsGiven : Option (ℕ × ℕ) → Command → List ℕ → Answer → Type 0
-IsGiven None asked input answer = IsGood asked input answer
-IsGiven (Some bad) asked input answer = answer ≡ bad_input bad.0 bad.1
+-- what is asked of the program
+abbrev pub asking : Asking Command
+asking = record { reads = λ asked. true; limit = input_limit; IsBadLine = IsBadLine; IsFound = IsGood }
+
+-- the first bad line of any input
+abbrev pub IsFirstBad : Command → List ℕ → Option (ℕ × ℕ) → Type 0
+IsFirstBad asked input found = calls.IsFirstBad asking asked input found
 
 -- an answer to a command and its input
-pub record IsAnswer (asked : Command) (input : List ℕ) (answer : Answer) : Type 0 where
-  pub found : Option (ℕ × ℕ)
-  pub first : IsFirstBad asked input found
-  -- and no other line is the first bad one
-  pub only : (other : Option (ℕ × ℕ)) → IsFirstBad asked input other → other ≡ found
-  pub given : IsGiven found asked input answer
+abbrev pub IsAnswer : Command → List ℕ → Answer → Type 0
+IsAnswer asked input answer = calls.IsAnswer asking asked input answer

@@ -1,7 +1,6 @@
 //! A run of a world for people: as a capture, a picture, steps and words; and notes on a database.
 #![tactic(auto)]
 
-mod answer;
 mod command;
 mod notes;
 mod top;

@@ -3,8 +3,8 @@ ghost use Rattle.std.specs.Prelude.{◌≤◌, IfOk, length};
 ghost use Rattle.netview.specs.Views.{IsAnswer, input_limit};
 ghost use Rattle.netview.specs.Words.{Lint};
 
-use crate::answer::Answer;
 use bundle_lint::{LintError, lint};
+use command_line::Answer;
 use std::alloc::{AllocError, Global};
 
 /// The notes on a bundle, or its first bad line.

@@ -1,16 +1,14 @@
 //! The top call: words and an input in, a status and a text out.
-ghost use Rattle.std.specs.Prelude.{◌≡◌, ◌≢◌, ◌≤◌, ◌+◌, IfOk, length, map, string_bytes, Err, None, Some};
+ghost use Rattle.std.specs.Prelude.{◌≡◌, ◌≢◌, ◌≤◌, ◌+◌, IfOk, length, map, string_bytes, None, Some};
 ghost use Rattle.netview.specs.Commands.{command_read};
-ghost use Rattle.command_line.specs.Calls.{Intake};
 ghost use Rattle.netview.specs.Ends.{Causes, Ends, IsAnswered, most_reads};
 ghost use Rattle.netview.specs.Views.{IsAnswer, input_limit};
-ghost use Rattle.netview.specs.Words.{Command as AnyCommand, command_of};
+ghost use Rattle.netview.specs.Words.{command_of};
 
-use crate::answer::{Answer, READ_FAULT, TOO_LONG, USAGE};
 use crate::command::{Command, read_words};
 use crate::notes::notes_over;
 use crate::view::view_over;
-use command_line::tell;
+use command_line::{Answer, tell_answer, tell_usage};
 use outside::{Sink, Source, SureSink, SureSource, TakeError, read_to_end};
 use std::alloc::{AllocError, Global};
 
@@ -19,29 +17,6 @@ const HISTORY_LIMIT: usize = 67108864;
 
 /// The most bytes of a bundle, 4 MiB.
 const BUNDLE_LIMIT: usize = 4194304;
-
-/// Tells why there is no answer to a command and its input. One over the limit is answered as a bad one.
-fn tell_error<K: Sink>(sink: &mut K, error: TakeError) -> u8
-    ensures { (asked : AnyCommand) (intake : Intake) → IsAnswered asked intake (Err error) → Ends (Some asked) result intake
-        (record { held = K.held sink.old; holds = K.held sink.new; before = K.faults sink.old; after = K.faults sink.new }) }
-{
-    match error {
-        TakeError::TooLarge => tell(sink, 2, TOO_LONG.as_bytes()),
-        TakeError::Failed => tell(sink, 6, READ_FAULT.as_bytes()),
-        TakeError::Memory => 8,
-    }
-}
-
-/// Tells what became of a command and its input.
-fn tell_answer<K: Sink>(sink: &mut K, answered: Result<Answer, TakeError>) -> u8
-    ensures { (asked : AnyCommand) (intake : Intake) → IsAnswered asked intake answered → Ends (Some asked) result intake
-        (record { held = K.held sink.old; holds = K.held sink.new; before = K.faults sink.old; after = K.faults sink.new }) }
-{
-    match answered {
-        Ok(answer) => tell(sink, answer.status(), answer.text()),
-        Err(error) => tell_error(sink, error),
-    }
-}
 
 /// The answer to a command and its input, which is within the limit.
 fn answer_over(alloc: Global, command: Command<'_>, input: &[u8]) -> Result<Answer, AllocError>
@@ -95,7 +70,7 @@ pub fn netview<S: Source, K: Sink>(
 {
     match read_words(words) {
         Some(command) => tell_answer(sink, read_and_answer(alloc, command, source)),
-        None => tell(sink, 1, USAGE.as_bytes()),
+        None => tell_usage(sink),
     }
 }
 

@@ -6,9 +6,9 @@ ghost use Rattle.netview.specs.Commands.{view_read};
 ghost use Rattle.netview.specs.Views.{IsAnswer, input_limit, medium_named, view};
 ghost use Rattle.netview.specs.Words.{Show};
 
-use crate::answer::Answer;
 use crate::command::View;
 use checked_input::{CheckedInput, InputError, check_input};
+use command_line::Answer;
 use history_laws::a_fault_is_not_legal;
 use history_words::words_of;
 use net_base::{History, World};
@@ -56,7 +56,7 @@ fn show(
         View::Capture => Ok(Answer::whole(capture_of(alloc, world, history, None)?)),
         View::CaptureOf(name) => match medium_named(world, name) {
             Some(medium) => Ok(Answer::whole(capture_of(alloc, world, history, Some(medium))?)),
-            None => Answer::no_medium(alloc),
+            None => Answer::nothing(alloc),
         },
         View::Chart => Ok(Answer::whole(chart_of(alloc, world, history)?)),
         View::ChartOfTalks => Ok(Answer::whole(chart_of_talks(alloc, world, history)?)),

@@ -16,7 +16,7 @@ pub use fault::NinepError;
 pub use law::{a_request_is_read, an_answer_is_read, one_spelling};
 pub use net_base::{Qid, Qids, Rmsg, Tmsg};
 pub use put_answer::encode_r;
-pub use put_request::encode_t;
+pub use put_request::{encode_t, tag_of};
 pub use read_answer::decode_r;
 pub use read_request::decode_t;
 pub use spelled::{answer_in, request_in};

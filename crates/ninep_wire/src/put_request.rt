@@ -140,7 +140,8 @@ fn type_of(message: &Tmsg) -> u8
     }
 }
 
-fn tag_of(message: &Tmsg) -> u16
+/// The tag of a message.
+pub fn tag_of(message: &Tmsg) -> u16
     ensures { result ≡ t_tag message.now }
 {
     match message {

@@ -13,6 +13,7 @@ use Rattle.net_base.specs.Actors.{Actor}
 use Rattle.net_base.specs.Legal.{IsInTime}
 use Rattle.net_base.specs.Net.{Net, after, moment, moment_after, net_after, step_of}
 use Rattle.net_base.specs.Next.{by, finished_by, own_replies, zone_of}
+use Rattle.net_base.specs.Tasks.{nobody}
 use Rattle.duties.specs.WaysOf.{AreWaysOfWorld}
 use Rattle.net_actors.specs.Together.{AreActors}
 use Rattle.script_player.specs.Players.{IsAt}
@@ -62,7 +63,7 @@ pub caller_stays : (w : World) (h : List Entry) (c : ℕ) (k : Caller) (x : Entr
 caller_stays w h c k x other is = record {
   stands = record {
     role_is = role_stays w h (h ++ x ∷ []) c k.role k.before still.recorded is.stands.role_is;
-    next_is = is.stands.next_is ∙ sym still.comes_next;
+    next_is = is.stands.next_is ∙ sym (still.comes_next nobody);
     own = is.stands.own;
   };
   owes = is.owes ∙ sym still.owes;

@@ -1,9 +1,7 @@
 -- What a step leaves of the moment at which a conversation is due.
 use Rattle.std.proofs.Common.{◌≡◌, ℕ, ◌≤◌, ◌==◌, Bool, true, false, Option, Some, None, ◌⊎◌, inl, inr, refl, sym, ap, subst, ◌∙◌, arith}
-use Rattle.std.specs.Option.{option_map, option_and_then}
-use Rattle.std.specs.Prelude.{IfSome, slice_get}
+use Rattle.std.specs.Prelude.{IfSome}
 use Rattle.std.proofs.lemmas.Bool.{cond_both, eq-eqb}
-use Rattle.std.proofs.lemmas.Option.{none-some, same_Some}
 use Rattle.net_base.specs.declared.timer.Timers.{Timers}
 use Rattle.net_base.specs.declared.actor.ActorName.{ActorName}
 use Rattle.net_base.specs.declared.actor.ActorName.TheVariants as name
@@ -13,18 +11,14 @@ use Rattle.net_base.specs.declared.event.Event.{Event}
 use Rattle.net_base.specs.declared.event.Event.TheVariants as event
 use Rattle.net_base.specs.declared.history.With.{With}
 use Rattle.net_base.specs.declared.history.Work.{Work}
-use Rattle.net_base.specs.declared.reply.Reply.{Reply}
-use Rattle.net_base.specs.declared.world.HostSpec.{HostSpec}
-use Rattle.net_base.specs.declared.world.MediumSpec.{MediumSpec}
 use Rattle.net_base.specs.declared.world.World.{World}
-use Rattle.net_base.specs.ActorStep.{Step, when}
-use Rattle.net_base.specs.Actors.{Actor, IsDesk, IsDir, IsConv, IsMedium, IsPlain, actor_step, step_as, has_actor, plain_step, opening_actor, opening_core}
+use Rattle.net_base.specs.ActorStep.{Step}
+use Rattle.net_base.specs.Actors.{Actor, IsDesk, IsDir, IsConv, IsMedium, IsPlain, actor_step, has_actor, opening_actor, opening_core, table_step}
 use Rattle.net_base.specs.Conversation.{Conv, Core, Il, Udp, conv_step, ticked}
-use Rattle.net_base.specs.Desk.{Desk, desk_step, clock_reply}
-use Rattle.net_base.specs.Directory.{dir_step}
 use Rattle.net_base.specs.Duties.{due_of, due_of_core, generation_of}
 use Rattle.net_base.specs.IlEnd.{End, Turn}
-use Rattle.net_base.specs.Medium.{Medium, medium_step}
+use Rattle.table_laws.specs.ActorRows.{ActorRow, AtDesk, AtDir, AtConv, AtMedium, AtClock, seen_as}
+use Rattle.table_laws.proofs.Shared.{map_some, mapped, table_rows}
 use Rattle.prefix_law.proofs.ConvMoves.{Act, Rest, Arrival, Writing, Reading, Hanging, Ticking, Move, Stay, Begin, Join, Come, Listen, of_end, moves}
 use Rattle.prefix_law.proofs.Deeds.{both_ways}
 use Rattle.prefix_law.proofs.OtherSteps.{IsUdp, udp_steps}
@@ -86,17 +80,13 @@ moved now c e ev gift s t (Listen opens) = record {
   due = inl (ap due_of_core opens.core_is, opens.generation_is);
 }
 
-each_some : {S : Type 0} (o : Option S) (P Q : S → Type 0) → ((s : S) → P s → Q s) → IfSome o P → IfSome o Q
-each_some None P Q f p = tt
-each_some (Some s) P Q f p = f s p
-
 udp_later : (now : ℕ) (c d : Conv) (k : Core) → d.core ≡ k → IsUdp k → ConvLater now c d
 udp_later now c d (Il e) is udp = absurd udp
 udp_later now c d (Udp e) is udp = record { timed = timed_as d (Udp e) d.limit is refl tt; due = inr (beyond_as now d (Udp e) is tt) }
 
 conv_later : (slot : ℕ) (ev : Event) (gift : With) (now : ℕ) (c : Conv) (k : Core) → Timed k c.limit → IfSome (conv_step slot ev gift now (record c { core = k })) (λ (s : Step Conv). ConvLater now (record c { core = k }) s.state)
-conv_later slot ev gift now c (Il e) t = each_some _ _ _ (λ (s : Step Conv) move. moved now c e ev gift s t move) (moves slot ev gift now c e t.0)
-conv_later slot ev gift now c (Udp e) t = each_some _ _ _ (λ (s : Step Conv) udp. udp_later now (record c { core = Udp e }) s.state s.state.core refl udp.0) (udp_steps slot ev gift now c e)
+conv_later slot ev gift now c (Il e) t = map_some _ _ _ (moves slot ev gift now c e t.0) (λ (s : Step Conv) move. moved now c e ev gift s t move)
+conv_later slot ev gift now c (Udp e) t = map_some _ _ _ (udp_steps slot ev gift now c e) (λ (s : Step Conv) udp. udp_later now (record c { core = Udp e }) s.state s.state.core refl udp.0)
 
 -- a tick of the conversation's own generation
 tick_waits : (slot g : ℕ) (gift : With) (now : ℕ) (c : Conv) (k : Core) → Timed k c.limit → g ≡ c.generation → IfSome (conv_step slot (event.Tick g) gift now (record c { core = k })) (λ (s : Step Conv). Beyond now (due_of_core s.state.core))
@@ -119,70 +109,36 @@ pub record ActorLater (now : ℕ) (b after : Actor) : Type 0 where
   pub timed : TimedActor after
   pub due : ((due_of after ≡ due_of b) × (generation_of after ≡ generation_of b)) ⊎ Beyond now (due_of after)
 
--- a step of a table, as a step of an actor
-as_step : {S : Type 0} (make : S → Actor) (has : Bool) (o : Option (Step S)) (s : Step Actor) (P : S → Type 0) → IfSome o (λ (t : Step S). P t.state) → when has (step_as make o) ≡ Some s → (t : S) × (P t) × (s.state ≡ make t)
-as_step make false o s P f is = absurd (none-some s is)
-as_step make true None s P f is = absurd (none-some s is)
-as_step make true (Some t) s P f is = (t.state, f, ap (λ (r : Step Actor). r.state) (sym (same_Some _ s is)))
-
-never : (has : Bool) (s : Step Actor) → when has None ≡ Some s → ⊥
-never true s is = none-some s is
-never false s is = none-some s is
+-- no conversation waits
+abbrev IsOther : ActorName → Actor → Type 0
+IsOther (name.Conv h p n) (IsConv c) = ⊥
+IsOther _ _ = Unit {0}
 
 not_conv : (now : ℕ) (b after : Actor) → TimedActor after → due_of after ≡ None → ActorLater now b after
 not_conv now b after t none = record { timed = t; due = inr (subst (λ (o : Option ℕ). Beyond now o) (sym none) tt) }
 
-any_some : {S : Type 0} (o : Option S) → IfSome o (λ (s : S). Unit {0})
-any_some None = tt
-any_some (Some s) = tt
+other_later : (w : World) (now : ℕ) (a : ActorName) (b : Actor) (e : Event) (gift : With) (s : Step Actor) → IsOther a b → ActorRow w now a b e gift s → ActorLater now b s.state
+other_later w now a b e gift s other (AtConv row) = absurd other
+other_later w now a b e gift s other (AtDesk {d = d} there row) = not_conv now (IsDesk d) _ tt refl
+other_later w now a b e gift s other (AtDir {d = d} row) = not_conv now (IsDir d) _ tt refl
+other_later w now a b e gift s other (AtMedium {m = m} there row) = not_conv now (IsMedium m) _ tt refl
+other_later w now a b e gift s other AtClock = not_conv now IsPlain IsPlain tt refl
 
-plain_later : (now : ℕ) (b : Actor) (has : Bool) (o : Option Reply) (s : Step Actor) → when has (option_map plain_step o) ≡ Some s → ActorLater now b s.state
-plain_later now b false o s is = absurd (none-some s is)
-plain_later now b true None s is = absurd (none-some s is)
-plain_later now b true (Some r) s is = subst (λ (t : Step Actor). ActorLater now b t.state) (same_Some _ s is) (not_conv now b IsPlain tt refl)
+table_later : (w : World) (a : ActorName) (b : Actor) (now : ℕ) (work : Work) → TimedActor b → IfSome (table_step w a b now work) (λ (s : Step Actor). ActorLater now b s.state)
+table_later w (name.Conv h p n) (IsConv c) now work t =
+    mapped (seen_as IsConv) (conv_step n work.event work.with now c) _ _ (conv_later n work.event work.with now c c.core t) (λ s x. record { timed = x.timed; due = x.due })
+table_later w a b now work t =
+    map_some (table_step w a b now work) _ _ (table_rows w now a b work) (λ s row. other_later w now a b work.event work.with s tt row)
 
-desk_later : (w : World) (h : ℕ) (work : Work) (now : ℕ) (d : Desk) (has : Bool) (found : Option HostSpec) (s : Step Actor) → when has (option_and_then (λ (host : HostSpec). step_as IsDesk (desk_step w.dbs host work.event now d)) found) ≡ Some s → ActorLater now (IsDesk d) s.state
-desk_later w h work now d has None s is = absurd (never has s is)
-desk_later w h work now d has (Some host) s is =
-    let t = as_step IsDesk has (desk_step w.dbs host work.event now d) s (λ (x : Desk). Unit {0}) (any_some _) is in
-    subst (λ (x : Actor). ActorLater now (IsDesk d) x) (sym t.2) (not_conv now (IsDesk d) (IsDesk t.0) tt refl)
-
-medium_later : (w : World) (work : Work) (now : ℕ) (m : Medium) (has : Bool) (found : Option MediumSpec) (s : Step Actor) → when has (option_and_then (λ (spec : MediumSpec). step_as IsMedium (medium_step spec w.seed work.event work.with m)) found) ≡ Some s → ActorLater now (IsMedium m) s.state
-medium_later w work now m has None s is = absurd (never has s is)
-medium_later w work now m has (Some spec) s is =
-    let t = as_step IsMedium has (medium_step spec w.seed work.event work.with m) s (λ (x : Medium). Unit {0}) (any_some _) is in
-    subst (λ (x : Actor). ActorLater now (IsMedium m) x) (sym t.2) (not_conv now (IsMedium m) (IsMedium t.0) tt refl)
+-- what holds of each step of its table holds of an actor's step
+of_step : (w : World) (a : ActorName) (b : Actor) (now : ℕ) (work : Work) (s : Step Actor) (P : Step Actor → Type 0) → IfSome (table_step w a b now work) P
+    → actor_step w a b now work ≡ Some s → P s
+of_step w a b now work s P all is =
+    subst (λ (o : Option (Step Actor)). IfSome o P) is
+    (cond_both (has_actor w a) (table_step w a b now work) None (λ (o : Option (Step Actor)). IfSome o P) (λ _. all) (λ _. tt))
 
 pub actor_later : (w : World) (a : ActorName) (b : Actor) (now : ℕ) (work : Work) (s : Step Actor) → TimedActor b → actor_step w a b now work ≡ Some s → ActorLater now b s.state
-actor_later w (name.Conv h p n) (IsConv c) now work s t is =
-    let u = as_step IsConv (has_actor w (name.Conv h p n)) (conv_step n work.event work.with now c) s (λ (d : Conv). ConvLater now c d) (conv_later n work.event work.with now c c.core t) is in
-    subst (λ (x : Actor). ActorLater now (IsConv c) x) (sym u.2) (record { timed = u.1.timed; due = u.1.due })
-actor_later w (name.Conv h p n) (IsDir d) now work s t is = absurd (never (has_actor w (name.Conv h p n)) s is)
-actor_later w (name.Conv h p n) (IsMedium m) now work s t is = absurd (never (has_actor w (name.Conv h p n)) s is)
-actor_later w (name.Conv h p n) (IsDesk d) now work s t is = absurd (never (has_actor w (name.Conv h p n)) s is)
-actor_later w (name.Conv h p n) IsPlain now work s t is = absurd (never (has_actor w (name.Conv h p n)) s is)
-actor_later w (name.Dir h p) (IsDir d) now work s t is =
-    let u = as_step IsDir (has_actor w (name.Dir h p)) (dir_step w h p work.event work.with d) s (λ x. Unit {0}) (any_some _) is in
-    subst (λ (x : Actor). ActorLater now (IsDir d) x) (sym u.2) (not_conv now (IsDir d) (IsDir u.0) tt refl)
-actor_later w (name.Dir h p) (IsConv c) now work s t is = absurd (never (has_actor w (name.Dir h p)) s is)
-actor_later w (name.Dir h p) (IsMedium m) now work s t is = absurd (never (has_actor w (name.Dir h p)) s is)
-actor_later w (name.Dir h p) (IsDesk d) now work s t is = absurd (never (has_actor w (name.Dir h p)) s is)
-actor_later w (name.Dir h p) IsPlain now work s t is = absurd (never (has_actor w (name.Dir h p)) s is)
-actor_later w (name.Medium m) (IsMedium x) now work s t is = medium_later w work now x (has_actor w (name.Medium m)) (slice_get w.media m) s is
-actor_later w (name.Medium m) (IsConv c) now work s t is = absurd (never (has_actor w (name.Medium m)) s is)
-actor_later w (name.Medium m) (IsDir d) now work s t is = absurd (never (has_actor w (name.Medium m)) s is)
-actor_later w (name.Medium m) (IsDesk d) now work s t is = absurd (never (has_actor w (name.Medium m)) s is)
-actor_later w (name.Medium m) IsPlain now work s t is = absurd (never (has_actor w (name.Medium m)) s is)
-actor_later w (name.Desk h) (IsDesk d) now work s t is = desk_later w h work now d (has_actor w (name.Desk h)) (slice_get w.hosts h) s is
-actor_later w (name.Desk h) IsPlain now work s t is = absurd (never (has_actor w (name.Desk h)) s is)
-actor_later w (name.Desk h) (IsConv c) now work s t is = absurd (never (has_actor w (name.Desk h)) s is)
-actor_later w (name.Desk h) (IsDir d) now work s t is = absurd (never (has_actor w (name.Desk h)) s is)
-actor_later w (name.Desk h) (IsMedium x) now work s t is = absurd (never (has_actor w (name.Desk h)) s is)
-actor_later w name.Clock IsPlain now work s t is = plain_later now IsPlain (has_actor w name.Clock) (clock_reply work.event) s is
-actor_later w name.Clock (IsDesk d) now work s t is = absurd (never (has_actor w name.Clock) s is)
-actor_later w name.Clock (IsConv c) now work s t is = absurd (never (has_actor w name.Clock) s is)
-actor_later w name.Clock (IsDir d) now work s t is = absurd (never (has_actor w name.Clock) s is)
-actor_later w name.Clock (IsMedium x) now work s t is = absurd (never (has_actor w name.Clock) s is)
+actor_later w a b now work s t is = of_step w a b now work s (λ (u : Step Actor). ActorLater now b u.state) (table_later w a b now work t) is
 
 abbrev pub IsConvName : ActorName → Type 0
 IsConvName (name.Conv h p n) = Unit {0}
@@ -190,11 +146,14 @@ IsConvName _ = ⊥
 
 -- a tick at a conversation, of its own generation
 pub tick_later : (w : World) (a : ActorName) (b : Actor) (now : ℕ) (with : With) (g : ℕ) (s : Step Actor) → IsConvName a → TimedActor b → g ≡ generation_of b → actor_step w a b now (record { event = event.Tick g; with = with }) ≡ Some s → Beyond now (due_of s.state)
-tick_later w (name.Conv h p n) (IsConv c) now with g s conv t mine is =
-    let u = as_step IsConv (has_actor w (name.Conv h p n)) (conv_step n (event.Tick g) with now c) s (λ (d : Conv). Beyond now (due_of_core d.core)) (tick_waits n g with now c c.core t mine) is in
-    subst (λ (x : Actor). Beyond now (due_of x)) (sym u.2) u.1
-tick_later w (name.Conv h p n) _ now with g s conv t mine is = absurd (never (has_actor w (name.Conv h p n)) s is)
-tick_later w _ b now with g s conv t mine is = absurd conv
+tick_later w a b now with g s conv t mine is =
+    of_step w a b now (record { event = event.Tick g; with = with }) s (λ (u : Step Actor). Beyond now (due_of u.state)) (by a b conv t mine) is
+  where
+    by : (a : ActorName) (b : Actor) → IsConvName a → TimedActor b → g ≡ generation_of b
+        → IfSome (table_step w a b now (record { event = event.Tick g; with = with })) (λ (u : Step Actor). Beyond now (due_of u.state))
+    by (name.Conv h p n) (IsConv c) conv t mine = mapped (seen_as IsConv) (conv_step n (event.Tick g) with now c) _ _ (tick_waits n g with now c c.core t mine) (λ u x. x)
+    by (name.Conv h p n) _ conv t mine = tt
+    by _ b conv t mine = absurd conv
 
 core_timed : (timers : Timers) (p : Proto) → Timed (opening_core timers p) 0
 core_timed timers proto.Il = (omega arith, tt)

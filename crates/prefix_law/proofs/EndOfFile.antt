@@ -12,9 +12,10 @@ use Rattle.net_base.specs.declared.history.Entry.{Entry}
 use Rattle.net_base.specs.declared.reply.Reply.{Reply}
 use Rattle.net_base.specs.declared.reply.Reply.TheVariants as reply
 use Rattle.net_base.specs.declared.world.World.{World}
-use Rattle.net_base.specs.Legal.{IsLegal, MayFollow}
+use Rattle.net_base.specs.Legal.{IsLegalBy, MayFollowBy}
 use Rattle.net_base.specs.Mirror.{mirror}
 use Rattle.net_base.specs.Net.{after, work_of}
+use Rattle.net_base.specs.Tasks.{Tasks}
 use Rattle.net_base.specs.World.{IsWorld}
 use Rattle.net_base.specs.Written.{read_by, joined, IsRead, HasClosed}
 use Rattle.prefix_law.proofs.Accounts.{AtEnd, HasEmpty, no_empty, joined-append}
@@ -45,7 +46,7 @@ empty_before o h k some =
 pub record Reads (h : List Entry) (o : Owner) (k : ℕ) : Type 0 where
   pub entry : Entry
   pub stands : take (suc k) h ≡ take k h ++ entry ∷ []
-  pub may : (w : World) → IsLegal w h → MayFollow w (take k h) entry
+  pub may : (ts : Tasks) (w : World) → IsLegalBy ts w h → MayFollowBy ts w (take k h) entry
   pub here : read_here o entry.actor entry.event entry.reply ≡ [] ∷ []
 
 read_of_nothing : (o : Owner) (count : ℕ) (x : Entry) → x.actor ≡ actor.Conv o.host proto.Il o.slot → x.event ≡ event.Read o.generation count → x.reply ≡ reply.Bytes [] → read_here o x.actor x.event x.reply ≡ [] ∷ []
@@ -62,7 +63,7 @@ reads_nothing h o k count r =
     record {
       entry = r.entry;
       stands = next.2 ∙ ap (λ (x : Entry). take k h ++ x ∷ []) same;
-      may = λ w legal. legal k r.entry r.stands;
+      may = λ ts w legal. legal k r.entry r.stands;
       here = read_of_nothing o count r.entry r.actor_is r.event_is r.reply_is;
     }
 
@@ -83,7 +84,7 @@ module _ (w : World) (world : IsWorld w) where
   abbrev OwnerStays : List Entry → Type 0
   OwnerStays h = (k : ℕ) (p : Pair) (o : Owner) → (trace w (take k h)).owner p ≡ Some o → (trace w h).owner p ≡ Some o
 
-  owner_more : (h : List Entry) (x : Entry) → IsLegal w h → MayFollow w h x → OwnerStays h → OwnerStays (h ++ x ∷ [])
+  owner_more : {ts : Tasks} (h : List Entry) (x : Entry) → IsLegalBy ts w h → MayFollowBy ts w h x → OwnerStays h → OwnerStays (h ++ x ∷ [])
   owner_more h x legal may before k p o owns =
       elim (cases_lt (length h) k) [
         | inl more ↦ subst (λ (xs : List Entry). (trace w xs).owner p ≡ Some o) (take_all k (h ++ x ∷ []) (omega (arith, more, length_push h x))) owns
@@ -93,7 +94,7 @@ module _ (w : World) (world : IsWorld w) where
             ap (λ (t : Trace). t.owner p) d.trace_is ∙ d.leaves.later.owner_stays p o was
       ]
 
-  owner_stays : (h : List Entry) → IsLegal w h → OwnerStays h
+  owner_stays : {ts : Tasks} (h : List Entry) → IsLegalBy ts w h → OwnerStays h
   owner_stays h legal = by_entries w OwnerStays (λ k p o owns. subst (λ (xs : List Entry). (trace w xs).owner p ≡ Some o) (take_all k [] (omega arith)) owns) owner_more h legal
 
   -- Nothing is read after a read of nothing.
@@ -101,7 +102,7 @@ module _ (w : World) (world : IsWorld w) where
   abbrev NothingMore : List Entry → Type 0
   NothingMore h = (k : ℕ) (p : Pair) (o : Owner) → (trace w h).owner p ≡ Some o → HasEmpty (reads o (take k h)) → joined (reads o (take k h)) ≡ joined (reads o h)
 
-  nothing_next : (h : List Entry) (x : Entry) → IsLegal w h → MayFollow w h x → NothingMore h → NothingMore (h ++ x ∷ [])
+  nothing_next : {ts : Tasks} (h : List Entry) (x : Entry) → IsLegalBy ts w h → MayFollowBy ts w h x → NothingMore h → NothingMore (h ++ x ∷ [])
   nothing_next h x legal may before k p o owns some =
       elim (cases_lt (length h) k) [
         | inl more ↦ ap (λ (xs : List Entry). joined (reads o xs)) (take_all k (h ++ x ∷ []) (omega (arith, more, length_push h x)))
@@ -123,12 +124,12 @@ module _ (w : World) (world : IsWorld w) where
           before k p o old.0 was ∙ sym now
       quiet was (inr new) = absurd (no_empty (reads o h) ((kept_at w world h legal).books.none o new.0).1 (empty_before o h k was))
 
-  nothing_more : (h : List Entry) → IsLegal w h → NothingMore h
+  nothing_more : {ts : Tasks} (h : List Entry) → IsLegalBy ts w h → NothingMore h
   nothing_more h legal = by_entries w NothingMore (λ k p o is. absurd (none-some o is)) nothing_next h legal
 
   -- Where the entry k reads nothing at the conversation o, which has the pair p.
 
-  module _ (h : List Entry) (legal : IsLegal w h) (o : Owner) (p : Pair) (owns : (trace w h).owner p ≡ Some o) (k : ℕ) (r : Reads h o k) where
+  module _ {ts : Tasks} (h : List Entry) (legal : IsLegalBy ts w h) (o : Owner) (p : Pair) (owns : (trace w h).owner p ≡ Some o) (k : ℕ) (r : Reads h o k) where
     pub empty_read : HasEmpty (reads o h)
     empty_read = empty_before o h (suc k) (empty_here h o k r)
 
@@ -145,11 +146,11 @@ module _ (w : World) (world : IsWorld w) where
     abbrev before : List Entry
     before = take k h
 
-    legal_before : IsLegal w before
+    legal_before : IsLegalBy ts w before
     legal_before = legal_take w h k legal
 
     d : Happened w before r.entry
-    d = happened w world before r.entry legal_before (r.may w legal)
+    d = happened w world before r.entry legal_before (r.may ts w legal)
 
     kept : Kept w (length before) (after w before) (trace w before) before
     kept = kept_at w world before legal_before

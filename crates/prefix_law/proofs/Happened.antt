@@ -9,9 +9,9 @@ use Rattle.net_base.specs.ActorStep.{Step}
 use Rattle.net_base.specs.Actors.{Actor}
 use Rattle.net_base.specs.Callers.{caller_of}
 use Rattle.net_base.specs.Headers.{header}
-use Rattle.net_base.specs.Legal.{IsLegal, MayFollow, Shows, Shown}
+use Rattle.net_base.specs.Legal.{IsLegalBy, MayFollowBy, Shows, Shown}
 use Rattle.net_base.specs.Net.{after, step_of, work_of, net_after, with_of}
-use Rattle.net_base.specs.Next.{next as next_ask}
+use Rattle.net_base.specs.Tasks.{Tasks}
 use Rattle.net_base.specs.World.{IsWorld}
 use Rattle.net_base.specs.Written.{Given, gave, given_in}
 use Rattle.net_base.specs.declared.reply.Reply.{Reply}
@@ -34,10 +34,10 @@ pub record Happened (w : World) (h : List Entry) (x : Entry) : Type 0 where
   pub leaves : Next w (length h) (after w h).actors (length (after w h).past) (trace w h) (actor_trace x.actor step.state (work_of (after w h) x) step.outcome (trace w h)) x.actor (work_of (after w h) x) step
 
 module _ (w : World) (world : IsWorld w) where
-  pub kept_at : (h : List Entry) → IsLegal w h → Kept w (length h) (after w h) (trace w h) h
+  pub kept_at : {ts : Tasks} (h : List Entry) → IsLegalBy ts w h → Kept w (length h) (after w h) (trace w h) h
   kept_at h legal = all_kept w (places w world) h legal (legal_short w world h legal)
 
-  pub happened : (h : List Entry) (x : Entry) → IsLegal w h → MayFollow w h x → Happened w h x
+  pub happened : {ts : Tasks} (h : List Entry) (x : Entry) → IsLegalBy ts w h → MayFollowBy ts w h x → Happened w h x
   happened h x legal may = go (step_of w (after w h) x) refl leaves may.is_ready may.answers
     where
       few : length h < 2 ^ 31
@@ -49,7 +49,7 @@ module _ (w : World) (world : IsWorld w) where
       leaves : IfSome (step_of w (after w h) x) (λ s. Next w (length h) (after w h).actors (length (after w h).past) (trace w h) (actor_trace x.actor s.state (work_of (after w h) x) s.outcome (trace w h)) x.actor (work_of (after w h) x) s)
       leaves =
           next w (places w world) (length h) few (after w h) (trace w h) kept.fine x.event (with_of ((after w h).owed x.caller)) x.actor
-          (work_fine w (trace w h) x ((after w h).owed x.caller) (caller_of w x.caller) (next_ask w h x.caller) (kept.fine.owed x.caller) may.is_asked)
+          (work_fine w (trace w h) x ((after w h).owed x.caller) (caller_of w x.caller) _ (kept.fine.owed x.caller) may.is_asked)
 
       go : (o : Option (Step Actor)) → step_of w (after w h) x ≡ o
           → IfSome o (λ s. Next w (length h) (after w h).actors (length (after w h).past) (trace w h) (actor_trace x.actor s.state (work_of (after w h) x) s.outcome (trace w h)) x.actor (work_of (after w h) x) s)
@@ -66,7 +66,7 @@ module _ (w : World) (world : IsWorld w) where
       }
 
   -- who was given a pair has it
-  pub linked : (h : List Entry) → IsLegal w h → Linked (trace w h) (given_in w h)
+  pub linked : {ts : Tasks} (h : List Entry) → IsLegalBy ts w h → Linked (trace w h) (given_in w h)
   linked h legal =
       by_entries w (λ (k : List Entry). Linked (trace w k) (given_in w k))
       (record { on = λ g there il. absurd there; back = λ p o is. absurd (nobody p o is) })

@@ -9,11 +9,12 @@ use Rattle.net_base.specs.declared.address.Proto.{Proto}
 use Rattle.net_base.specs.declared.address.Proto.TheVariants as proto
 use Rattle.net_base.specs.declared.history.Entry.{Entry}
 use Rattle.net_base.specs.declared.world.World.{World}
-use Rattle.net_base.specs.Legal.{IsLegal}
+use Rattle.net_base.specs.Legal.{IsLegalBy}
 use Rattle.net_base.specs.Mirror.{mirror}
 use Rattle.net_base.specs.Routes.{has_address}
 use Rattle.net_base.specs.Same.{same_pair}
 use Rattle.net_base.specs.Stamped.{In, same_actor, same_proto}
+use Rattle.net_base.specs.Tasks.{Tasks}
 use Rattle.net_base.specs.World.{IsWorld}
 use Rattle.net_base.specs.Written.{Conversation, Given, actor_of, given_in, holder, pair_of, peer, same_conversation}
 use Rattle.prefix_law.proofs.Deeds.{both_ways}
@@ -57,7 +58,7 @@ proto_itself proto.Udp = refl
 
 -- Over a legal history.
 
-module _ (w : World) (world : HasPlaces w) (h : List Entry) (legal : IsLegal w h) where
+module _ {ts : Tasks} (w : World) (world : HasPlaces w) (h : List Entry) (legal : IsLegalBy ts w h) where
   pub kept : Kept w h
   kept = all_kept w world h legal
 
@@ -119,19 +120,19 @@ module _ (w : World) (world : HasPlaces w) (h : List Entry) (legal : IsLegal w h
           let other = holder_known e.proto (mirror p) f same in
           peer_is f e (mirror p) other.1 (sym other.0) (pair_known e p at)
 
-pub one_holder : (w : World) (h : List Entry) → IsWorld w → IsLegal w h → (i j : ℕ) (f g : Given) → slice_get (given_in w h) i ≡ Some f → slice_get (given_in w h) j ≡ Some g → f.to.proto ≡ g.to.proto → f.pair ≡ g.pair → i ≡ j
+pub one_holder : {ts : Tasks} (w : World) (h : List Entry) → IsWorld w → IsLegalBy ts w h → (i j : ℕ) (f g : Given) → slice_get (given_in w h) i ≡ Some f → slice_get (given_in w h) j ≡ Some g → f.to.proto ≡ g.to.proto → f.pair ≡ g.pair → i ≡ j
 one_holder w h world legal = one_place w (places w world) h legal
 
-pub one_gift : (w : World) (h : List Entry) → IsWorld w → IsLegal w h → (i j : ℕ) (f g : Given) → slice_get (given_in w h) i ≡ Some f → slice_get (given_in w h) j ≡ Some g → f.to ≡ g.to → i ≡ j
+pub one_gift : {ts : Tasks} (w : World) (h : List Entry) → IsWorld w → IsLegalBy ts w h → (i j : ℕ) (f g : Given) → slice_get (given_in w h) i ≡ Some f → slice_get (given_in w h) j ≡ Some g → f.to ≡ g.to → i ≡ j
 one_gift w h world legal = one_pair w (places w world) h legal
 
-pub mutual_peers : (w : World) (h : List Entry) (e f : Conversation) → IsWorld w → IsLegal w h → peer w h e ≡ Some f → peer w h f ≡ Some e
+pub mutual_peers : {ts : Tasks} (w : World) (h : List Entry) (e f : Conversation) → IsWorld w → IsLegalBy ts w h → peer w h e ≡ Some f → peer w h f ≡ Some e
 mutual_peers w h e f world legal is = peer_back w (places w world) h legal e f is
 
-pub holds_it : (w : World) (h : List Entry) (k : ℕ) (g : Given) → IsWorld w → IsLegal w h → slice_get (given_in w h) k ≡ Some g → holder w h g.to.proto g.pair ≡ Some g.to
+pub holds_it : {ts : Tasks} (w : World) (h : List Entry) (k : ℕ) (g : Given) → IsWorld w → IsLegalBy ts w h → slice_get (given_in w h) k ≡ Some g → holder w h g.to.proto g.pair ≡ Some g.to
 holds_it w h k g world legal is = holder_is w (places w world) h legal g.to g.pair (in_of_get (given_in w h) k g is)
 
-pub is_peer : (w : World) (h : List Entry) (e : Conversation) (pair : Pair) (k : ℕ) (g : Given) → IsWorld w → IsLegal w h → pair_of w h e ≡ Some pair → slice_get (given_in w h) k ≡ Some g → g.to.proto ≡ e.proto → g.pair ≡ mirror pair → peer w h e ≡ Some g.to
+pub is_peer : {ts : Tasks} (w : World) (h : List Entry) (e : Conversation) (pair : Pair) (k : ℕ) (g : Given) → IsWorld w → IsLegalBy ts w h → pair_of w h e ≡ Some pair → slice_get (given_in w h) k ≡ Some g → g.to.proto ≡ e.proto → g.pair ≡ mirror pair → peer w h e ≡ Some g.to
 is_peer w h e pair k g world legal has is protos mirrored =
     let there = places w world in
     peer_is w there h legal e g.to pair (pair_known w there h legal e pair has) protos

@@ -8,10 +8,11 @@ use Rattle.net_base.specs.declared.address.Proto.TheVariants as proto
 use Rattle.net_base.specs.declared.history.Entry.{Entry}
 use Rattle.net_base.specs.declared.world.World.{World}
 use Rattle.net_base.specs.IlEnd.{End}
-use Rattle.net_base.specs.Legal.{IsLegal}
+use Rattle.net_base.specs.Legal.{IsLegalBy}
 use Rattle.net_base.specs.Mirror.{mirror}
 use Rattle.net_base.specs.Net.{after}
 use Rattle.net_base.specs.Networks.{is_filled}
+use Rattle.net_base.specs.Tasks.{Tasks}
 use Rattle.prefix_law.specs.PrefixLaw.{InOrder, HaveRoom, IsEndOfFile, IsPrefix}
 use Rattle.net_base.specs.World.{IsWorld}
 use Rattle.net_base.specs.Written.{Conversation, HasClosed, IsRead, peer, writes, reads, joined, stood}
@@ -58,7 +59,7 @@ given_all taken cut got all none = rw (none, take_all taken got (omega (arith, a
 pub conv_of_is : (e : Conversation) → e.proto ≡ proto.Il → conv_of (owner_in e) ≡ e
 conv_of_is e il = ap (λ (p : Proto). record { host = e.host; proto = p; slot = e.slot; generation = e.generation }) (sym il)
 
-pub in_order : (w : World) (h : List Entry) (e f : Conversation) → IsWorld w → IsLegal w h → e.proto ≡ proto.Il → peer w h e ≡ Some f → InOrder w h e f
+pub in_order : {ts : Tasks} (w : World) (h : List Entry) (e f : Conversation) → IsWorld w → IsLegalBy ts w h → e.proto ≡ proto.Il → peer w h e ≡ Some f → InOrder w h e f
 in_order w h e f world legal il is = record {
   bytes = bytes;
   messages = messages;

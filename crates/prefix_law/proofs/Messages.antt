@@ -9,9 +9,10 @@ use Rattle.net_base.specs.declared.history.Entry.{Entry}
 use Rattle.net_base.specs.declared.reply.Reply.{Reply}
 use Rattle.net_base.specs.declared.reply.Reply.TheVariants as reply
 use Rattle.net_base.specs.declared.world.World.{World}
-use Rattle.net_base.specs.Legal.{IsLegal, MayFollow}
+use Rattle.net_base.specs.Legal.{IsLegalBy, MayFollowBy}
 use Rattle.net_base.specs.Net.{after, work_of}
 use Rattle.net_base.specs.Networks.{is_filled}
+use Rattle.net_base.specs.Tasks.{Tasks}
 use Rattle.net_base.specs.World.{IsWorld}
 use Rattle.net_base.specs.Written.{Conversation, IsRead}
 use Rattle.prefix_law.specs.PrefixLaw.{HaveRoom}
@@ -60,7 +61,7 @@ GivenWhole t h =
     → ((t.side p).end.read_offset ≡ 0) × (take (t.side p).end.read_count (t.side p).end.got ≡ filter is_filled (reads o h))
 
 module _ (w : World) (world : IsWorld w) where
-  more : (h : List Entry) (x : Entry) → IsLegal w h → MayFollow w h x → GivenWhole (trace w h) h → GivenWhole (trace w (h ++ x ∷ [])) (h ++ x ∷ [])
+  more : {ts : Tasks} (h : List Entry) (x : Entry) → IsLegalBy ts w h → MayFollowBy ts w h x → GivenWhole (trace w h) h → GivenWhole (trace w (h ++ x ∷ [])) (h ++ x ∷ [])
   more h x legal may before = λ p o owns room.
       subst (λ (s : Side). (s.end.read_offset ≡ 0) × (take s.end.read_count s.end.got ≡ filter is_filled (reads o (h ++ x ∷ [])))) (sym (ap (λ (t : Trace). t.side p) d.trace_is))
       (whole p o room (booked.had p o (sym (ap (λ (t : Trace). t.owner p) d.trace_is) ∙ owns)))
@@ -95,5 +96,5 @@ module _ (w : World) (world : IsWorld w) where
             ap (λ (s : Side). take s.end.read_count s.end.got) new.1 ∙ sym (ap (filter is_filled) none),
           )
 
-  pub given_whole : (h : List Entry) → IsLegal w h → GivenWhole (trace w h) h
+  pub given_whole : {ts : Tasks} (h : List Entry) → IsLegalBy ts w h → GivenWhole (trace w h) h
   given_whole h legal = by_entries w (λ (k : List Entry). GivenWhole (trace w k) k) (λ p o is. absurd (none-some o is)) more h legal

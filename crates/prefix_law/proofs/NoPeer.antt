@@ -9,9 +9,10 @@ use Rattle.net_base.specs.declared.address.Proto.TheVariants as proto
 use Rattle.net_base.specs.declared.history.Entry.{Entry}
 use Rattle.net_base.specs.declared.world.World.{World}
 use Rattle.net_base.specs.IlEnd.{End}
-use Rattle.net_base.specs.Legal.{IsLegal}
+use Rattle.net_base.specs.Legal.{IsLegalBy}
 use Rattle.net_base.specs.Mirror.{mirror}
 use Rattle.net_base.specs.Net.{after}
+use Rattle.net_base.specs.Tasks.{Tasks}
 use Rattle.net_base.specs.World.{IsWorld}
 use Rattle.net_base.specs.Written.{Conversation, given_in, holder, pair_of, peer, joined, stood}
 use Rattle.prefix_law.specs.PrefixLaw.{Alone}
@@ -41,7 +42,7 @@ no_texts ((b ∷ bs) ∷ xs) bytes filled = absurd (cc bytes)
 nothing_given : (taken cut : ℕ) (got : List (List ℕ)) → got ≡ [] → given_out taken cut got ≡ []
 nothing_given taken cut got none = rw (none, take_all {A = List ℕ} taken [] (omega arith), take_all {A = ℕ} cut [] (omega arith)) refl
 
-pub alone : (w : World) (h : List Entry) (e : Conversation) → IsWorld w → IsLegal w h → e.proto ≡ proto.Il → peer w h e ≡ None → Alone w h e
+pub alone : {ts : Tasks} (w : World) (h : List Entry) (e : Conversation) → IsWorld w → IsLegalBy ts w h → e.proto ≡ proto.Il → peer w h e ≡ None → Alone w h e
 alone w h e world legal il is =
     subst (λ (x : Conversation). Alone w h x) e_is (go (pair_of w h e) refl is)
   where

@@ -11,9 +11,10 @@ use Rattle.net_base.specs.declared.packet.Body.TheVariants as body
 use Rattle.net_base.specs.declared.world.World.{World}
 use Rattle.net_base.specs.Conversation.{Conv, packet_of}
 use Rattle.net_base.specs.Headers.{header}
-use Rattle.net_base.specs.Legal.{IsLegal, MayFollow}
+use Rattle.net_base.specs.Legal.{IsLegalBy, MayFollowBy}
 use Rattle.net_base.specs.Mirror.{mirror}
 use Rattle.net_base.specs.Net.{after, work_of}
+use Rattle.net_base.specs.Tasks.{Tasks}
 use Rattle.net_base.specs.World.{IsWorld}
 use Rattle.net_base.specs.Written.{HasClosed}
 use Rattle.prefix_law.proofs.Books.{conv_of}
@@ -45,14 +46,14 @@ emitted_pushed h x o q m e = record { k = e.k; entry = e.entry; by = e.by; stand
 
 module _ (w : World) (world : IsWorld w) where
   -- who has said something has the pair
-  speaker : (h : List Entry) → IsLegal w h → (q : Pair) (m : IlMsg) → IsIn m ((trace w h).side q).out → (o : Owner) × ((trace w h).owner q ≡ Some o)
+  speaker : {ts : Tasks} (h : List Entry) → IsLegalBy ts w h → (q : Pair) (m : IlMsg) → IsIn m ((trace w h).side q).out → (o : Owner) × ((trace w h).owner q ≡ Some o)
   speaker h legal q m there = go ((trace w h).owner q) refl
     where
       go : (found : Option Owner) → (trace w h).owner q ≡ found → (o : Owner) × ((trace w h).owner q ≡ Some o)
       go (Some o) is = (o, is)
       go None is = absurd (subst (λ (s : Side). IsIn m s.out) ((kept_at w world h legal).fine.owned.untouched q is) there)
 
-  more : (h : List Entry) (x : Entry) → IsLegal w h → MayFollow w h x → Said (trace w h) h → Said (trace w (h ++ x ∷ [])) (h ++ x ∷ [])
+  more : {ts : Tasks} (h : List Entry) (x : Entry) → IsLegalBy ts w h → MayFollowBy ts w h x → Said (trace w h) h → Said (trace w (h ++ x ∷ [])) (h ++ x ∷ [])
   more h x legal may before = subst (λ (u : Trace). Said u (h ++ x ∷ [])) (sym d.trace_is) (record { emitted = emitted; closed_by_peer = closed_by_peer })
     where
       t : Trace
@@ -84,7 +85,7 @@ module _ (w : World) (world : IsWorld w) where
       closed_by_peer : (q : Pair) → (u.side q).end.closed_by_peer ≡ true → HeardClose u q
       closed_by_peer q is = elim (d.leaves.closed_by_peer q is) [ inl old ↦ later q (before.closed_by_peer q old) | inr heard ↦ later q heard ]
 
-  pub all_said : (h : List Entry) → IsLegal w h → Said (trace w h) h
+  pub all_said : {ts : Tasks} (h : List Entry) → IsLegalBy ts w h → Said (trace w h) h
   all_said h legal =
       by_entries w (λ (k : List Entry). Said (trace w k) k) (record { emitted = λ q o m is. absurd (none-some o is); closed_by_peer = λ q is. absurd (unmarked is) }) more h legal
     where
@@ -92,7 +93,7 @@ module _ (w : World) (world : IsWorld w) where
       unmarked is = cc is
 
   -- the other end of a closed_by_peer one is a conversation's, which has closed
-  pub closed_by : (h : List Entry) → IsLegal w h → (q : Pair) → ((trace w h).side q).end.closed_by_peer ≡ true → (o : Owner) × ((trace w h).owner (mirror q) ≡ Some o) × HasClosed w h (conv_of o)
+  pub closed_by : {ts : Tasks} (h : List Entry) → IsLegalBy ts w h → (q : Pair) → ((trace w h).side q).end.closed_by_peer ≡ true → (o : Owner) × ((trace w h).owner (mirror q) ≡ Some o) × HasClosed w h (conv_of o)
   closed_by h legal q is =
       let said = all_said h legal in
       let heard = said.closed_by_peer q is in

@@ -12,9 +12,10 @@ use Rattle.net_base.specs.declared.world.World.{World}
 use Rattle.net_base.specs.Actors.{Actor, IsDesk, IsConv, IsDir, IsMedium, IsPlain}
 use Rattle.net_base.specs.Conversation.{Conv, Core, Il, Udp, Stage, Unused, Listening, Connected}
 use Rattle.net_base.specs.IlEnd.{End, fresh_end}
-use Rattle.net_base.specs.Legal.{IsLegal, MayFollow}
+use Rattle.net_base.specs.Legal.{IsLegalBy, MayFollowBy}
 use Rattle.net_base.specs.Net.{Net, opening_net, next_net, net_of, after, work_of}
 use Rattle.net_base.specs.Stamped.{same_actor}
+use Rattle.net_base.specs.Tasks.{Tasks}
 use Rattle.net_base.specs.World.{IsWorld}
 use Rattle.net_base.specs.Written.{Conversation, actor_of, end_in, shown_in, stood_from, stood}
 use Rattle.prefix_law.proofs.Books.{conv_of, EntryAccount, NoEntry}
@@ -121,7 +122,7 @@ module _ (w : World) (world : IsWorld w) where
   abbrev last : List Entry → Owner → End
   last h o = stood w h (conv_of o)
 
-  more : (h : List Entry) (x : Entry) → IsLegal w h → MayFollow w h x → Stood (trace w h) (last h) → Stood (trace w (h ++ x ∷ [])) (last (h ++ x ∷ []))
+  more : {ts : Tasks} (h : List Entry) (x : Entry) → IsLegalBy ts w h → MayFollowBy ts w h x → Stood (trace w h) (last h) → Stood (trace w (h ++ x ∷ [])) (last (h ++ x ∷ []))
   more h x legal may s = record { had = had; none = none }
     where
       h' : List Entry
@@ -170,7 +171,7 @@ module _ (w : World) (world : IsWorld w) where
           (λ c is gen. bare_end (trace w h') kept.fine.owned.unique o c (fine o c is) gen alone (last h o))
           (λ not. s.none o (d.leaves.booked.none o (λ p is. alone p (ap (λ (t : Trace). t.owner p) d.trace_is ∙ is))).0))
 
-  pub all_stood : (h : List Entry) → IsLegal w h → Stood (trace w h) (last h)
+  pub all_stood : {ts : Tasks} (h : List Entry) → IsLegalBy ts w h → Stood (trace w h) (last h)
   all_stood h legal =
       by_entries w (λ (k : List Entry). Stood (trace w k) (last k))
       (record { had = λ p o is. absurd (none-some o is); none = λ o alone. record { sent_is = refl; got_is = refl; acked_is = refl } })

@@ -1,7 +1,7 @@
 -- What a conversation with a UDP end has, and what a step of it reads and sends.
-use Rattle.std.proofs.Common.{◌≡◌, ℕ, zero, suc, ◌+◌, ◌==◌, ◌&&◌, nat_lt, Bool, true, false, cond, List, [], ◌∷◌, ◌++◌, length, take, drop, Option, Some, None, refl, sym, subst}
+use Rattle.std.proofs.Common.{◌≡◌, ℕ, ◌++◌, List, [], ◌∷◌, length, take, drop, Option, Some, None, refl, sym, subst}
 use Rattle.std.specs.Prelude.{IfSome}
-use Rattle.std.proofs.lemmas.Bool.{cond_both, eqb-true}
+use Rattle.std.proofs.lemmas.Bool.{cond_both}
 use Rattle.net_base.specs.declared.actor.ActorName.{ActorName}
 use Rattle.net_base.specs.declared.actor.ActorName.TheVariants as actor
 use Rattle.net_base.specs.declared.address.Pair.{Pair}
@@ -9,18 +9,19 @@ use Rattle.net_base.specs.declared.address.Proto.TheVariants as proto
 use Rattle.net_base.specs.declared.event.Event.{Event}
 use Rattle.net_base.specs.declared.event.Event.TheVariants as event
 use Rattle.net_base.specs.declared.history.With.{With}
-use Rattle.net_base.specs.declared.history.With.TheVariants as given
 use Rattle.net_base.specs.declared.packet.Body.{Body}
 use Rattle.net_base.specs.declared.packet.Body.TheVariants as body
 use Rattle.net_base.specs.declared.packet.Packet.{Packet}
 use Rattle.net_base.specs.declared.reply.Reply.{Reply}
 use Rattle.net_base.specs.declared.reply.Reply.TheVariants as reply
 use Rattle.net_base.specs.ActorStep.{Step}
-use Rattle.net_base.specs.ControlWords as control
-use Rattle.net_base.specs.Conversation.{Core, Il, Udp, Stage, Unused, Listening, Connected, Conv, answers, in_generation, raises, may_bear, may_connect, has_protocol, joined, brought_forth, listens, binds, taken_in, is_closed_name, udp_read, read_at, write_at, closed, opened, listed, refused_control, bad_control, conv_step}
+use Rattle.net_base.specs.Conversation.{Core, Il, Udp, Stage, Connected, Conv, leaves, conv_step}
 use Rattle.net_base.specs.Mirror.{mirror}
-use Rattle.net_base.specs.UdpEnd.{UdpEnd, is_hung_up, udp_state_name, takes_datagram}
+use Rattle.net_base.specs.UdpEnd.{UdpEnd, datagram_comes, datagram_read, takes_datagram}
 use Rattle.net_base.specs.Written.{Given}
+use Rattle.table_laws.specs.ConvRows.{ConvRow}
+use Rattle.table_laws.specs.ConvRows as row
+use Rattle.table_laws.proofs.Shared.{conv_rows, map_some}
 use Rattle.prefix_law.proofs.UdpDuties.{given_to, EmittedAs, GiftFine}
 
 -- a text for the conversation was written at the one with the mirror of its pair
@@ -84,157 +85,97 @@ module _ (K : Given → Type 0) (W : Pair → List ℕ → Type 0) (h n : ℕ) w
     pub sent : SentIf K (actor.Conv h proto.Udp n) ev s.outcome.reply s.outcome.emit
     pub read : ReadFine K W (actor.Conv h proto.Udp n) ev s.outcome.reply
 
-  abbrev UdpSteps : Event → Option (Step Conv) → Type 0
-  UdpSteps ev step = IfSome step (λ s. UdpStep ev s)
-
   abbrev of_udp : Conv → UdpEnd → Conv
   of_udp c e = record c { core = Udp e }
 
   abbrev Fine : Conv → UdpEnd → Type 0
   Fine c e = AtStage K h n c.generation c.pair c.stage × EachCame K W h n c.generation e.unread
 
-  steps_if : (ev : Event) (b : Bool) (x y : Option (Step Conv)) → (b ≡ true → UdpSteps ev x) → (b ≡ false → UdpSteps ev y) → UdpSteps ev (cond b x y)
-  steps_if ev b x y f g = cond_both b x y (λ z. UdpSteps ev z) f g
-
   -- a stale answer gives no bytes
   stale_read : (ev : Event) → ReadFine K W (actor.Conv h proto.Udp n) ev reply.Stale
   stale_read (event.Read g count) = tt
   stale_read _ = tt
 
-  stale : (c : Conv) (e : UdpEnd) (ev : Event) → Fine c e → UdpStep ev (answers (of_udp c e) reply.Stale)
-  stale c e ev f = record { fine = f; sent = tt; read = stale_read ev }
-
-  own : (g : ℕ) (c : Conv) (e : UdpEnd) (ev : Event) (step : Option (Step Conv)) → Fine c e → (g ≡ c.generation → UdpSteps ev step) → UdpSteps ev (in_generation g (of_udp c e) step)
-  own g c e ev step f then =
-      steps_if ev (g == c.generation) _ _ (λ is. then (eqb-true g c.generation is)) (λ _. steps_if ev (nat_lt g c.generation) _ _ (λ _. stale c e ev f) (λ _. tt))
-
-  raised : (g : ℕ) (c : Conv) (e : UdpEnd) (ev : Event) (step : Option (Step Conv)) → Fine c e → UdpSteps ev step → UdpSteps ev (raises g (of_udp c e) step)
-  raised g c e ev step f then =
-      steps_if ev (g == c.generation + 1) _ _ (λ _. then) (λ _. steps_if ev (nat_lt g c.generation) _ _ (λ _. stale c e ev f) (λ _. tt))
-
-  born : (now g start limit : ℕ) (p : Packet) (b : Body) (c : Conv) (e : UdpEnd) → K (given_to h proto.Udp n g (record { local = p.dst; remote = p.src })) → EmittedAs W (record { local = p.src; remote = p.dst }) b
-      → UdpSteps (event.Born g) (brought_forth (Udp e) now g start limit p b (of_udp c e))
-  born now g start limit p (body.Il m) c e has emitted = tt
-  born now g start limit p (body.Udp text) c e has emitted = record {
-    fine = (has, (record { pair = record { local = p.dst; remote = p.src }; has = has; written = emitted }, tt));
-    sent = tt;
-    read = tt;
-  }
-
-  joins : (s : Stage) (now g : ℕ) (pair : Pair) (start limit : ℕ) (c : Conv) (e : UdpEnd) → Fine c e → K (given_to h proto.Udp n c.generation pair) → UdpStep (event.Connect g) (joined s (Udp e) now pair start limit (of_udp c e))
-  joins Unused now g pair start limit c e f has = record { fine = (has, f.1); sent = tt; read = tt }
-  joins Listening now g pair start limit c e f has = record { fine = f; sent = tt; read = tt }
-  joins Connected now g pair start limit c e f has = record { fine = f; sent = tt; read = tt }
-
-  opens : (s : Stage) (g ip port : ℕ) (c : Conv) (e : UdpEnd) → Fine c e → UdpStep (event.Announced g) (listens s ip port (of_udp c e))
-  opens Unused g ip port c e f = record { fine = (tt, f.1); sent = tt; read = tt }
-  opens Listening g ip port c e f = record { fine = f; sent = tt; read = tt }
-  opens Connected g ip port c e f = record { fine = f; sent = tt; read = tt }
-
-  shows : (s : Stage) (g port : ℕ) (c : Conv) (e : UdpEnd) → c.stage ≡ s → Fine c e → UdpStep (event.Bound g) (binds s port (of_udp c e))
-  shows Unused g port c e is f = record {
-    fine = (subst (λ (x : Stage). AtStage K h n c.generation (record c.pair { local = record c.pair.local { port = port } }) x) (sym is) tt, f.1);
-    sent = tt;
-    read = tt;
-  }
-  shows Listening g port c e is f = record { fine = f; sent = tt; read = tt }
-  shows Connected g port c e is f = record { fine = f; sent = tt; read = tt }
-
-  files : (many : ℕ) (ev : Event) (c : Conv) (e : UdpEnd) → ((r : Reply) → ReadFine K W (actor.Conv h proto.Udp n) ev r) → Fine c e → UdpStep ev (opened many (of_udp c e)) × UdpStep ev (listed many (of_udp c e))
-  files zero ev c e none f = (record { fine = f; sent = tt; read = none _ }, record { fine = f; sent = tt; read = none _ })
-  files (suc many) ev c e none f = (record { fine = f; sent = tt; read = none _ }, record { fine = f; sent = tt; read = none _ })
-
-  controls : (found : Option ℕ) (g : ℕ) (text : List ℕ) (c : Conv) (e : UdpEnd) → Fine c e → UdpSteps (event.Ctl g text) (bad_control found g (of_udp c e))
-  controls None g text c e f = own g c e (event.Ctl g text) _ f (λ _. tt)
-  controls (Some i) g text c e f = own g c e (event.Ctl g text) _ f (λ _. record { fine = f; sent = tt; read = tt })
-
-  -- the first datagram is read
-  takes_first : (unread : List (List ℕ)) (g count : ℕ) (c : Conv) (e : UdpEnd) → e.unread ≡ unread → g ≡ c.generation → Fine c e → UdpSteps (event.Read g count) (udp_read unread count e (of_udp c e))
-  takes_first [] g count c e is mine f = steps_if (event.Read g count) (is_hung_up e.state) _ _ (λ _. record { fine = f; sent = tt; read = tt }) (λ _. tt)
-  takes_first (text ∷ texts) g count c e is mine f =
-      let each : EachCame K W h n c.generation (text ∷ texts) = subst (λ (xs : List (List ℕ)). EachCame K W h n c.generation xs) is f.1 in
-      record {
-        fine = (f.0, subst (λ (xs : List (List ℕ)). EachCame K W h n c.generation (drop 1 xs)) (sym is) each.1);
-        sent = tt;
-        read = record { text = text; came = subst (λ (i : ℕ). Came K W h n i text) (sym mine) each.0; bytes_is = refl };
-      }
-
-  reads_at : (s : Stage) (g count : ℕ) (c : Conv) (e : UdpEnd) → g ≡ c.generation → Fine c e → UdpSteps (event.Read g count) (read_at s (Udp e) count (of_udp c e))
-  reads_at Unused g count c e mine f = record { fine = f; sent = tt; read = tt }
-  reads_at Listening g count c e mine f = record { fine = f; sent = tt; read = tt }
-  reads_at Connected g count c e mine f = takes_first e.unread g count c e refl mine f
-
-  writes_at : (s : Stage) (g now : ℕ) (text : List ℕ) (c : Conv) (e : UdpEnd) → c.stage ≡ s → g ≡ c.generation → Fine c e → UdpSteps (event.Write g text) (write_at s (Udp e) now text (of_udp c e))
-  writes_at Unused g now text c e is mine f = record { fine = f; sent = tt; read = tt }
-  writes_at Listening g now text c e is mine f = record { fine = f; sent = tt; read = tt }
-  writes_at Connected g now text c e is mine f =
-      steps_if (event.Write g text) (length text == 0) _ _ (λ _. record { fine = f; sent = tt; read = tt })
-      (λ _. steps_if (event.Write g text) (nat_lt c.limit (length text)) _ _ (λ _. record { fine = f; sent = tt; read = tt })
-      (λ _. cond_both (is_closed_name (udp_state_name e.state)) _ _ (λ (s : Step Conv). UdpStep (event.Write g text) s) (λ _. record { fine = f; sent = tt; read = tt })
-      (λ _. record {
-        fine = f;
-        sent = record {
-          host = h;
-          slot = n;
-          generation = g;
-          count = length text;
-          actor_is = refl;
-          event_is = refl;
-          reply_is = refl;
-          has = subst (λ (i : ℕ). K (given_to h proto.Udp n i c.pair)) (sym mine) (subst (λ (s : Stage). AtStage K h n c.generation c.pair s) is f.0);
-        };
-        read = tt;
-      })))
-
-  closes : (many now g : ℕ) (c : Conv) (e : UdpEnd) → Fine c e → UdpStep (event.Close g) (closed many now (of_udp c e))
-  closes zero now g c e f = record { fine = f; sent = tt; read = tt }
-  closes (suc zero) now g c e f = record { fine = f; sent = tt; read = tt }
-  closes (suc (suc many)) now g c e f = record { fine = f; sent = tt; read = tt }
-
   each_push : (g : ℕ) (texts : List (List ℕ)) (text : List ℕ) → EachCame K W h n g texts → Came K W h n g text → EachCame K W h n g (texts ++ text ∷ [])
   each_push g [] text each came = (came, tt)
   each_push g (x ∷ texts) text each came = (each.0, each_push g texts text each.1 came)
 
-  -- a datagram comes
-  comes : (b : Body) (now g : ℕ) (p : Packet) (c : Conv) (e : UdpEnd) → g ≡ c.generation → Fine c e → K (given_to h proto.Udp n g (record { local = p.dst; remote = p.src })) → EmittedAs W (record { local = p.src; remote = p.dst }) b
-      → UdpSteps (event.ArriveAt g) (taken_in (Udp e) b now (of_udp c e))
-  comes (body.Il m) now g p c e mine f has emitted = tt
-  comes (body.Udp text) now g p c e mine f has emitted =
-      let came : Came K W h n c.generation text = record { pair = record { local = p.dst; remote = p.src }; has = subst (λ (i : ℕ). K (given_to h proto.Udp n i (record { local = p.dst; remote = p.src }))) mine has; written = emitted } in
-      record {
-        fine = (
-          f.0,
-          cond_both (takes_datagram e.state (length e.unread)) (record e { unread = e.unread ++ text ∷ [] }) e (λ (x : UdpEnd). EachCame K W h n c.generation x.unread)
-              (λ _. each_push c.generation e.unread text f.1 came)
-              (λ _. f.1),
-        );
-        sent = tt;
-        read = tt;
-      }
+  module _ (c : Conv) (e : UdpEnd) (f : Fine c e) where
+    -- what came at the end of a row
+    at_end : (x : UdpEnd) → ◌≡◌ {A = Core} (Udp e) (Udp x) → EachCame K W h n c.generation x.unread
+    at_end x is = let same : e ≡ x = cc is in subst (λ (y : UdpEnd). EachCame K W h n c.generation y.unread) same f.1
+
+    -- the first datagram is read
+    takes_first : (gift : With) (count : ℕ) (x : UdpEnd) (text : List ℕ) (texts : List (List ℕ)) → ◌≡◌ {A = Core} (Udp e) (Udp x) → x.unread ≡ text ∷ texts
+        → UdpStep (event.Read c.generation count)
+        (leaves (of_udp c e) (reply.Bytes (take count text)) (record (of_udp c e) { core = Udp (datagram_read x) }) None)
+    takes_first gift count x text texts is are =
+        let each : EachCame K W h n c.generation (text ∷ texts) = subst (λ (xs : List (List ℕ)). EachCame K W h n c.generation xs) are (at_end x is) in
+        record {
+          fine = (f.0, subst (λ (xs : List (List ℕ)). EachCame K W h n c.generation (drop 1 xs)) (sym are) each.1);
+          sent = tt;
+          read = record { text = text; came = each.0; bytes_is = refl };
+        }
+
+    -- a datagram comes
+    came_to : (p : Packet) (x : UdpEnd) (text : List ℕ) → ◌≡◌ {A = Core} (Udp e) (Udp x) → p.body ≡ body.Udp text
+        → K (given_to h proto.Udp n c.generation (record { local = p.dst; remote = p.src })) → EmittedAs W (record { local = p.src; remote = p.dst }) p.body
+        → EachCame K W h n c.generation (datagram_comes text x).unread
+    came_to p x text is said has emitted =
+        let written : EmittedAs W (record { local = p.src; remote = p.dst }) (body.Udp text) = subst (EmittedAs W (record { local = p.src; remote = p.dst })) said emitted in
+        cond_both (takes_datagram x.state (length x.unread)) (record x { unread = x.unread ++ text ∷ [] }) x (λ (y : UdpEnd). EachCame K W h n c.generation y.unread)
+        (λ _. each_push c.generation x.unread text (at_end x is) (record { pair = record { local = p.dst; remote = p.src }; has = has; written = written }))
+        (λ _. at_end x is)
+
+    row_steps : (now : ℕ) (ev : Event) (gift : With) (s : Step Conv) → GiftFine K W h proto.Udp n ev gift → ConvRow n now (of_udp c e) ev gift s → UdpStep ev s
+    row_steps now ev gift s got (row.Stale names old) = record { fine = f; sent = tt; read = stale_read ev }
+    row_steps now ev gift s got row.Begins = record { fine = (tt, tt); sent = tt; read = tt }
+    row_steps now ev gift s got (row.BornUdp {p = p} k said may) = record {
+      fine = (got.0, (record { pair = record { local = p.dst; remote = p.src }; has = got.0; written = subst (EmittedAs W (record { local = p.src; remote = p.dst })) said got.1 }, tt));
+      sent = tt;
+      read = tt;
+    }
+    row_steps now ev gift s got (row.JoinsUdp {e = x} at k may) = record { fine = (got, at_end x k); sent = tt; read = tt }
+    row_steps now ev gift s got (row.Listens at) = record { fine = (tt, f.1); sent = tt; read = tt }
+    row_steps now ev gift s got (row.Binds {port = port} at) = record {
+      fine = (subst (λ (x : Stage). AtStage K h n c.generation (record c.pair { local = record c.pair.local { port = port } }) x) (sym at) tt, f.1);
+      sent = tt;
+      read = tt;
+    }
+    row_steps now ev gift s got (row.ReadsUdp {count = count} {e = x} {text = text} {texts = texts} some at k are) = takes_first gift count x text texts k are
+    row_steps now ev gift s got (row.ReadsEnd some at k none ended) = absurd (cc k)
+    row_steps now ev gift s got (row.WritesUdp {text = text} some fits at k) = record {
+      fine = f;
+      sent = record {
+        host = h;
+        slot = n;
+        generation = c.generation;
+        count = length text;
+        actor_is = refl;
+        event_is = refl;
+        reply_is = refl;
+        has = subst (λ (x : Stage). AtStage K h n c.generation c.pair x) at f.0;
+      };
+      read = tt;
+    }
+    row_steps now ev gift s got (row.HangsUdp {e = x} k) = record { fine = (f.0, at_end x k); sent = tt; read = tt }
+    row_steps now ev gift s got (row.LeavesUdp {e = x} k) = record { fine = (f.0, at_end x k); sent = tt; read = tt }
+    row_steps now ev gift s got (row.ClosesUdp {e = x} last k) = record { fine = (f.0, at_end x k); sent = tt; read = tt }
+    row_steps now ev gift s got (row.ArrivesUdp {p = p} {e = x} {text = text} k said takes) = record { fine = (f.0, came_to p x text k said got.0 got.1); sent = tt; read = tt }
+    row_steps now ev gift s got (row.ArrivesNot {p = p} {e = x} {text = text} k said takes) = record { fine = (f.0, came_to p x text k said got.0 got.1); sent = tt; read = tt }
+    row_steps now ev gift s got (row.BornIl k said sync may) = absurd (cc k)
+    row_steps now ev gift s got (row.JoinsIl at k may) = absurd (cc k)
+    row_steps now ev gift s got (row.ReadsIl some at k there) = absurd (cc k)
+    row_steps now ev gift s got (row.WritesIl some fits at k stands) = absurd (cc k)
+    row_steps now ev gift s got (row.HangsIl k) = absurd (cc k)
+    row_steps now ev gift s got (row.LeavesIl k) = absurd (cc k)
+    row_steps now ev gift s got (row.ClosesIl last k) = absurd (cc k)
+    row_steps now ev gift s got (row.ArrivesIl k said) = absurd (cc k)
+    row_steps now ev gift s got (row.TicksIl k) = absurd (cc k)
+    row_steps now ev gift s got (row.TicksEarly k) = absurd (cc k)
+    row_steps now ev gift s got _ = record { fine = f; sent = tt; read = tt }
 
   -- every step
-  pub udp_steps : (slot : ℕ) (ev : Event) (gift : With) (now : ℕ) (c : Conv) (e : UdpEnd) → Fine c e → GiftFine K W h proto.Udp n ev gift → UdpSteps ev (conv_step slot ev gift now (of_udp c e))
-  udp_steps slot (event.Begin g) gift now c e f got = raised g c e (event.Begin g) _ f (record { fine = (tt, tt); sent = tt; read = tt })
-  udp_steps slot (event.Born g) (given.Birth p start limit) now c e f got =
-      steps_if (event.Born g) (may_bear (Udp e) p.body && may_connect (Udp e) start limit) _ _ (λ _. raised g c e (event.Born g) _ f (born now g start limit p p.body c e got.0 got.1)) (λ _. tt)
-  udp_steps slot (event.Claim g) gift now c e f got = own g c e (event.Claim g) _ f (λ _. record { fine = f; sent = tt; read = tt })
-  udp_steps slot (event.Connect g) (given.Grant pair start limit) now c e f got =
-      steps_if (event.Connect g) (may_connect (Udp e) start limit) _ _
-      (λ _. own g c e (event.Connect g) _ f (λ mine. joins c.stage now g pair start limit c e f (subst (λ (i : ℕ). K (given_to h proto.Udp n i pair)) mine got))) (λ _. tt)
-  udp_steps slot (event.Announced g) (given.Key ip port) now c e f got = own g c e (event.Announced g) _ f (λ _. opens c.stage g ip port c e f)
-  udp_steps slot (event.Bound g) (given.Key ip port) now c e f got = own g c e (event.Bound g) _ f (λ _. shows c.stage g port c e refl f)
-  udp_steps slot (event.Await g) gift now c e f got = own g c e (event.Await g) _ f (λ _. record { fine = f; sent = tt; read = tt })
-  udp_steps slot (event.Open file mode) gift now c e f got = (files c.opens (event.Open file mode) c e (λ r. tt) f).0
-  udp_steps slot (event.File g file count) gift now c e f got = own g c e (event.File g file count) _ f (λ _. record { fine = f; sent = tt; read = tt })
-  udp_steps slot (event.Read g count) gift now c e f got = steps_if (event.Read g count) (nat_lt 0 count) _ _ (λ _. own g c e (event.Read g count) _ f (λ mine. reads_at c.stage g count c e mine f)) (λ _. tt)
-  udp_steps slot (event.Write g text) gift now c e f got = own g c e (event.Write g text) _ f (λ mine. writes_at c.stage g now text c e refl mine f)
-  udp_steps slot (event.Hangup g) gift now c e f got = own g c e (event.Hangup g) _ f (λ _. record { fine = f; sent = tt; read = tt })
-  udp_steps slot (event.Ttl g i) gift now c e f got = own g c e (event.Ttl g i) _ f (λ _. record { fine = f; sent = tt; read = tt })
-  udp_steps slot (event.Tos g i) gift now c e f got = own g c e (event.Tos g i) _ f (λ _. record { fine = f; sent = tt; read = tt })
-  udp_steps slot (event.Ctl g text) gift now c e f got = controls (refused_control (control.read text)) g text c e f
-  udp_steps slot (event.Close g) gift now c e f got = own g c e (event.Close g) _ f (λ _. closes c.opens now g c e f)
-  udp_steps slot (event.ArriveAt g) (given.Packet p) now c e f got =
-      steps_if (event.ArriveAt g) (has_protocol (Udp e) p.body) _ _ (λ _. own g c e (event.ArriveAt g) _ f (λ mine. comes p.body now g p c e mine f got.0 got.1)) (λ _. tt)
-  udp_steps slot (event.Tick g) gift now c e f got = own g c e (event.Tick g) _ f (λ _. record { fine = f; sent = tt; read = tt })
-  udp_steps slot event.Ls gift now c e f got = (files c.opens event.Ls c e (λ r. tt) f).1
-  udp_steps slot _ _ now c e f got = tt
+  pub udp_steps : (ev : Event) (gift : With) (now : ℕ) (c : Conv) (e : UdpEnd) → Fine c e → GiftFine K W h proto.Udp n ev gift
+      → IfSome (conv_step n ev gift now (of_udp c e)) (λ s. UdpStep ev s)
+  udp_steps ev gift now c e f got = map_some (conv_step n ev gift now (of_udp c e)) _ _ (conv_rows n now (of_udp c e) ev gift) (λ s row. row_steps c e f now ev gift s got row)

@@ -12,9 +12,10 @@ use Rattle.net_base.specs.declared.history.Entry.{Entry}
 use Rattle.net_base.specs.declared.reply.Reply.{Reply}
 use Rattle.net_base.specs.declared.reply.Reply.TheVariants as reply
 use Rattle.net_base.specs.declared.world.World.{World}
-use Rattle.net_base.specs.Legal.{IsLegal}
+use Rattle.net_base.specs.Legal.{IsLegalBy}
 use Rattle.net_base.specs.Net.{Net, opening_net, next_net, net_of, work_of}
 use Rattle.net_base.specs.Stamped.{In}
+use Rattle.net_base.specs.Tasks.{Tasks}
 use Rattle.net_base.specs.World.{IsWorld}
 use Rattle.net_base.specs.Written.{Conversation, Given, IsRead, gives, given_from, given_in}
 use Rattle.prefix_law.specs.PrefixLaw.{WasWritten}
@@ -38,7 +39,7 @@ known_later w h k g there =
     subst (λ (xs : List Entry). In g (given_in w xs)) (take-append-drop k h)
     (subst (λ (gs : List Given). In g gs) (sym (given_append w (opening_net w) (take k h) (drop k h))) (in_more g (given_in w (take k h)) _ there))
 
-module _ (w : World) (world : HasPlaces w) (h : List Entry) (legal : IsLegal w h) where
+module _ {ts : Tasks} (w : World) (world : HasPlaces w) (h : List Entry) (legal : IsLegalBy ts w h) where
   -- the datagram that was read, in the beginning before the read
   first_of : (e : Conversation) (k count : ℕ) (text : List ℕ) → e.proto ≡ proto.Udp → IsRead h e k count text → FirstOf (Known w (take k h)) (Wrote w (take k h)) e.host e.slot e.generation count text
   first_of e k count text udp r =
@@ -76,5 +77,5 @@ module _ (w : World) (world : HasPlaces w) (h : List Entry) (legal : IsLegal w h
         text_is = f.bytes_is;
       }
 
-pub was_written : (w : World) (h : List Entry) (e : Conversation) (k count : ℕ) (text : List ℕ) → IsWorld w → IsLegal w h → e.proto ≡ proto.Udp → IsRead h e k count text → WasWritten w h e k count text
+pub was_written : {ts : Tasks} (w : World) (h : List Entry) (e : Conversation) (k count : ℕ) (text : List ℕ) → IsWorld w → IsLegalBy ts w h → e.proto ≡ proto.Udp → IsRead h e k count text → WasWritten w h e k count text
 was_written w h e k count text world legal udp r = was_written_in w (places w world) h legal e k count text udp r

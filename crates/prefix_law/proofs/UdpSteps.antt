@@ -26,6 +26,8 @@ use Rattle.net_base.specs.Duties.{follow_up}
 use Rattle.net_base.specs.IlEnd.{End}
 use Rattle.net_base.specs.Medium.{medium_step}
 use Rattle.net_base.specs.Written.{Given, gave}
+use Rattle.table_laws.specs.ActorRows.{seen_as}
+use Rattle.table_laws.proofs.Shared.{mapped}
 use Rattle.prefix_law.proofs.ConvMoves.{of_end, moves, Move, Stay, Begin, Join, Come, Listen, Emits}
 use Rattle.prefix_law.proofs.Copies.{OfMedium, medium_leaves, medium_more}
 use Rattle.prefix_law.proofs.Trace.{HasPlaces}
@@ -89,14 +91,6 @@ pub record Next (w : World) (K : Given → Type 0) (W : Pair → List ℕ → Ty
   pub follow : EachDuty w (with_new (gave a ev gift s.outcome.reply) K) W (follow_up a stamp ev gift s.outcome.reply)
   pub read : ReadFine K W a ev s.outcome.reply
 
--- the step of one kind of actors, as a step of any
-abbrev seen_as : {S : Type 0} → (S → Actor) → Step S → Step Actor
-seen_as actor s = record { state = actor s.state; outcome = s.outcome }
-
-seen_if : {S T : Type 0} (f : S → T) (o : Option S) (P : S → Type 0) (Q : T → Type 0) → IfSome o P → ((s : S) → P s → Q (f s)) → IfSome (option_map f o) Q
-seen_if f None P Q h g = h
-seen_if f (Some x) P Q h g = g x h
-
 module _ (w : World) (world : HasPlaces w) (K : Given → Type 0) (W : Pair → List ℕ → Type 0) (stamp now : ℕ) (ev : Event) (gift : With) where
   abbrev Leaves : ActorName → Step Actor → Type 0
   Leaves a s = Next w K W stamp a ev gift s
@@ -133,7 +127,7 @@ module _ (w : World) (world : HasPlaces w) (K : Given → Type 0) (W : Pair → 
       by_core (Udp e) is f = absurd f
       by_core (Il e) is f =
           subst (λ (d : Conv). LeavesIf (actor.Conv h proto.Il n) (IsConv d)) (ap (λ (x : Core). record c { core = x }) (sym is))
-          (seen_if (seen_as IsConv) (conv_step n ev gift now (of_end c e)) _ _ (moves n ev gift now c e f) (λ s move. il_moved h n c e s f move))
+          (mapped (seen_as IsConv) (conv_step n ev gift now (of_end c e)) _ _ (moves n ev gift now c e f) (λ s move. il_moved h n c e s f move))
   il_next h n _ fine = absurd fine
 
   -- A UDP conversation.
@@ -145,7 +139,7 @@ module _ (w : World) (world : HasPlaces w) (K : Given → Type 0) (W : Pair → 
       by_core (Il e) is f = absurd f
       by_core (Udp e) is f =
           subst (λ (d : Conv). LeavesIf (actor.Conv h proto.Udp n) (IsConv d)) (ap (λ (x : Core). record c { core = x }) (sym is))
-          (seen_if (seen_as IsConv) (conv_step n ev gift now (record c { core = Udp e })) _ _ (udp_steps K W h n n ev gift now c e f got)
+          (mapped (seen_as IsConv) (conv_step n ev gift now (record c { core = Udp e })) _ _ (udp_steps K W h n ev gift now c e f got)
           (λ s step. record { fine = step.fine; new = tt; sent = step.sent; taken = tt; follow = conv_follow w K W h proto.Udp n stamp ev gift s.outcome.reply; read = step.read }))
   udp_next h n _ fine got = absurd fine
 
@@ -153,7 +147,7 @@ module _ (w : World) (world : HasPlaces w) (K : Given → Type 0) (W : Pair → 
 
   dir_next : (h : ℕ) (p : Proto) (a : Actor) → StateFine K W (actor.Dir h p) a → WithFine w K W (actor.Dir h p) ev gift → LeavesIf (actor.Dir h p) a
   dir_next h p (IsDir d) fine got =
-      seen_if (seen_as IsDir) (dir_step w h p ev gift d) _ _ (dir_steps w world K W h p stamp ev gift d fine got)
+      mapped (seen_as IsDir) (dir_step w h p ev gift d) _ _ (dir_steps w world K W h p stamp ev gift d fine got)
       (λ s step. record { fine = step.fine; new = step.new; sent = step.sent; taken = tt; follow = step.follow; read = tt })
   dir_next h p _ fine got = absurd fine
 
@@ -163,7 +157,7 @@ module _ (w : World) (world : HasPlaces w) (K : Given → Type 0) (W : Pair → 
       by_spec : (found : Option MediumSpec) → IfSome (option_and_then (λ (spec : MediumSpec). option_map (seen_as IsMedium) (medium_step spec w.seed ev gift x)) found) (λ s. Leaves (actor.Medium m) s)
       by_spec None = tt
       by_spec (Some spec) =
-          seen_if (seen_as IsMedium) (medium_step spec w.seed ev gift x) _ _ (medium_leaves (Emitted W) spec w.seed ev gift x fine got)
+          mapped (seen_as IsMedium) (medium_step spec w.seed ev gift x) _ _ (medium_leaves (Emitted W) spec w.seed ev gift x fine got)
           (λ s step. record { fine = step.fine; new = tt; sent = subst (λ (o : Option Packet). SentIf K (actor.Medium m) ev s.outcome.reply o) (sym step.emits_none) tt; taken = step.taken; follow = tt; read = tt })
   medium_next m _ fine got = absurd fine
 

@@ -21,11 +21,11 @@ use Rattle.net_base.specs.Actors.{Actor, slot_count, opening_actor}
 use Rattle.net_base.specs.Callers.{caller_of}
 use Rattle.net_base.specs.Directory.{Slot, free_slot}
 use Rattle.net_base.specs.Duties.{Duty, duties}
-use Rattle.net_base.specs.Legal.{IsLegal, MayFollow, Shows, Shown}
+use Rattle.net_base.specs.Legal.{IsLegalBy, MayFollowBy, Shows, Shown}
 use Rattle.net_base.specs.Net.{Net, after, state, owed, step_of, work_of, net_after, actors_after, owed_after}
-use Rattle.net_base.specs.Next.{next as next_ask}
 use Rattle.net_base.specs.Routes.{has_address}
 use Rattle.net_base.specs.Stamped.{In, same_actor}
+use Rattle.net_base.specs.Tasks.{Tasks}
 use Rattle.net_base.specs.Written.{Conversation, Given, gave, given_in, IsWrite}
 use Rattle.prefix_law.proofs.Deeds.{both_ways}
 use Rattle.history_laws.proofs.DirPairs.{in_more, in_last}
@@ -107,7 +107,7 @@ pub record Took (w : World) (h : List Entry) (x : Entry) : Type 0 where
   pub reply_is : x.reply ≡ step.outcome.reply
   pub leaves : Next w (Known w h) (Wrote w h) (length (after w h).past) x.actor x.event (work_of (after w h) x).with step
 
-module _ (w : World) (world : HasPlaces w) (h : List Entry) (x : Entry) (may : MayFollow w h x) (kept : Kept w h) where
+module _ {ts : Tasks} (w : World) (world : HasPlaces w) (h : List Entry) (x : Entry) (may : MayFollowBy ts w h x) (kept : Kept w h) where
   pub took : Took w h x
   took = go (step_of w (after w h) x) refl leaves may.is_ready may.answers
     where
@@ -117,7 +117,7 @@ module _ (w : World) (world : HasPlaces w) (h : List Entry) (x : Entry) (may : M
       leaves : LeavesIf (step_of w (after w h) x)
       leaves =
           next w world (Known w h) (Wrote w h) (length (after w h).past) (after w h).moment x.event (work_of (after w h) x).with x.actor ((after w h).actors x.actor) (kept.states x.actor)
-          (work_fine w (Known w h) (Wrote w h) x ((after w h).owed x.caller) (caller_of w x.caller) (next_ask w h x.caller) (kept.duties_are x.caller) may.is_asked)
+          (work_fine w (Known w h) (Wrote w h) x ((after w h).owed x.caller) (caller_of w x.caller) _ (kept.duties_are x.caller) may.is_asked)
 
       go : (o : Option (Step Actor)) → step_of w (after w h) x ≡ o → LeavesIf o → IsSome (option_map (λ (s : Step Actor). s.outcome) o) → Shows (option_map (λ (s : Step Actor). s.outcome) o) x → Took w h x
       go None is n ready shows = absurd (both_ways ready refl)
@@ -238,5 +238,5 @@ opening_kept w = record { states = states; duties_are = λ c. tt; placed = λ g 
     states (actor.Medium m) = (tt, tt)
     states actor.Clock = tt
 
-pub all_kept : (w : World) → HasPlaces w → (h : List Entry) → IsLegal w h → Kept w h
+pub all_kept : {ts : Tasks} (w : World) → HasPlaces w → (h : List Entry) → IsLegalBy ts w h → Kept w h
 all_kept w world h legal = by_entries w (λ (k : List Entry). Kept w k) (opening_kept w) (λ k x before may kept. entry_kept w k x kept (took w world k x may kept)) h legal

@@ -33,20 +33,22 @@ use Rattle.net_base.specs.Directory.{Dir, Slot, free_slot, dir_step}
 use Rattle.net_base.specs.Actors.{Actor, IsDesk, IsConv, IsDir, IsMedium, IsPlain, slot_count, has_actor, plain_step, step_as, table_step, actor_step}
 use Rattle.net_base.specs.Desk.{Desk, desk_replies, desk_reply, desk_step, clock_reply}
 use Rattle.net_base.specs.Callers.{Caller, caller_of}
-use Rattle.net_base.specs.Next.{next as next_ask}
 use Rattle.net_base.specs.Steps.{Ask}
 use Rattle.net_base.specs.Duties.{Duty, put_by, emitted_put, follow_up, proto_of, courier_duty, has_come, due_of, generation_of, conversations, tick_at, ticks, release, duties}
 use Rattle.net_base.specs.Net.{Net, opening_net, with_of, work_of, step_of, actors_after, owed_after, net_after, next_net, net_of, after}
-use Rattle.net_base.specs.Legal.{IsLegal, Shows, Shown, IsAsked}
+use Rattle.net_base.specs.Legal.{IsLegalBy, Shows, Shown, IsAsked}
 use Rattle.prefix_law.proofs.Trace.{Owner, Trace, opening_trace, conv_trace, dir_trace, actor_trace, trace_after, next_trace, trace_of, trace, HasPlaces}
 use Rattle.prefix_law.proofs.Deeds.{both_ways, nothing_yet}
 use Rattle.prefix_law.proofs.ConvMoves.{of_end, moves, elsewhere, Move, Stay, Begin, Join, Come, Listen}
 use Rattle.net_base.specs.IlEnd.{End}
+use Rattle.net_base.specs.Tasks.{Tasks}
 use Rattle.net_base.specs.declared.il.IlMsg.{IlMsg}
 use Rattle.prefix_law.proofs.Touch.{IsIn, HeardClose, Utters, Owned, Later, Emitted, EmittedIf, emitted_later, HasEnd, ConvFine, ActorFine, ConvStep}
 use Rattle.prefix_law.proofs.ConvSteps.{GiftFine, owned_more, conv_steps}
 use Rattle.prefix_law.proofs.DirSteps.{WithFine, EachDuty, SlotIsFine, DirIsFine, Addressed, DirStep, all_free}
 use Rattle.prefix_law.proofs.DirRows.{dir_steps}
+use Rattle.table_laws.specs.ActorRows.{seen_as}
+use Rattle.table_laws.proofs.Shared.{map_some}
 use Rattle.prefix_law.proofs.OtherSteps.{IsUdp, harmless_emitted, udp_steps, dir_harmless, udp_dir_follow, conv_follow, MediumFine, TakenIf, medium_grows, medium_steps}
 use Rattle.history_laws.proofs.Histories.{after_push, by_entries}
 use Rattle.prefix_law.proofs.Accounts.{AllSized, AtEnd, given_by, Reading}
@@ -157,17 +159,9 @@ map_if : {S T : Type 0} (f : S → T) (o : Option S) (Q : T → Type 0) → IfSo
 map_if f None Q h = h
 map_if f (Some x) Q h = h
 
-weaker_if : {S : Type 0} (o : Option S) (P Q : S → Type 0) → IfSome o P → ((s : S) → P s → Q s) → IfSome o Q
-weaker_if None P Q h f = h
-weaker_if (Some x) P Q h f = f x h
-
 both_if : {S : Type 0} (o : Option S) (P Q R : S → Type 0) → IfSome o P → IfSome o Q → ((s : S) → P s → Q s → R s) → IfSome o R
 both_if None P Q R h i f = h
 both_if (Some x) P Q R h i f = f x h i
-
--- the step of one kind of actors, as a step of any
-abbrev seen_as : {S : Type 0} → (S → Actor) → Step S → Step Actor
-seen_as actor s = record { state = actor s.state; outcome = s.outcome }
 
 -- where the world doesn't have the actor there is no step
 table_if : {S : Type 0} (b : Bool) (o : Option S) (Q : S → Type 0) → IfSome o Q → IfSome (when b o) Q
@@ -315,7 +309,7 @@ module _ (w : World) (world : HasPlaces w) (k : ℕ) (few : k < 2 ^ 31) (net : N
           subst (λ (d : Conv). IfSome (table_step w (actor.Conv h proto.Udp n) (IsConv d) net.moment (record { event = ev; with = gift })) (λ s. Leaves (actor.Conv h proto.Udp n) t s))
           (ap (λ (x : Core). record c { core = x }) (sym is))
           (map_if (seen_as IsConv) (conv_step n ev gift net.moment (record c { core = Udp e })) _
-          (weaker_if (conv_step n ev gift net.moment (record c { core = Udp e })) _ _ (udp_steps n ev gift net.moment c e)
+          (map_some (conv_step n ev gift net.moment (record c { core = Udp e })) _ _ (udp_steps n ev gift net.moment c e)
           (λ s x. leaves s x.0 (harmless_emitted t s.outcome.emit x.1))))
   udp_next h n _ fine = absurd fine
 
@@ -327,7 +321,7 @@ module _ (w : World) (world : HasPlaces w) (k : ℕ) (few : k < 2 ^ 31) (net : N
       by_spec None = tt
       by_spec (Some spec) =
           map_if (seen_as IsMedium) (medium_step spec w.seed ev gift x) _
-          (weaker_if (medium_step spec w.seed ev gift x) _ _ (medium_steps w t m spec w.seed ev gift x fine gift_fine)
+          (map_some (medium_step spec w.seed ev gift x) _ _ (medium_steps w t m spec w.seed ev gift x fine gift_fine)
           (λ s step. quiet_leaves (actor.Medium m) (seen_as IsMedium s)
           (record {
             convs = f.all.convs;
@@ -355,7 +349,7 @@ module _ (w : World) (world : HasPlaces w) (k : ℕ) (few : k < 2 ^ 31) (net : N
       → IfSome (table_step w (actor.Dir h proto.Udp) a net.moment (record { event = ev; with = gift })) (λ s. Leaves (actor.Dir h proto.Udp) t s)
   udp_dir_next h (IsDir d) =
       map_if (seen_as IsDir) (dir_step w h proto.Udp ev gift d) _
-      (weaker_if (dir_step w h proto.Udp ev gift d) _ _ (dir_harmless w h proto.Udp ev gift d)
+      (map_some (dir_step w h proto.Udp ev gift d) _ _ (dir_harmless w h proto.Udp ev gift d)
       (λ s x. quiet_leaves (actor.Dir h proto.Udp) (seen_as IsDir s)
       (record {
         convs = f.all.convs;
@@ -427,7 +421,7 @@ module _ (w : World) (world : HasPlaces w) (k : ℕ) (few : k < 2 ^ 31) (net : N
       → IfSome (table_step w (actor.Dir h proto.Il) a net.moment (record { event = ev; with = gift })) (λ s. Leaves (actor.Dir h proto.Il) (actor_trace (actor.Dir h proto.Il) s.state (record { event = ev; with = gift }) s.outcome t) s)
   dir_next h (IsDir d) fine gift_fine =
       map_if (seen_as IsDir) (dir_step w h proto.Il ev gift d) _
-      (weaker_if (dir_step w h proto.Il ev gift d) _ _ (dir_steps w world k h (length net.past) t f.owned f.addressed ev gift d fine gift_fine) (λ s step. dir_leaves h s step))
+      (map_some (dir_step w h proto.Il ev gift d) _ _ (dir_steps w world k h (length net.past) t f.owned f.addressed ev gift d fine gift_fine) (λ s step. dir_leaves h s step))
   dir_next h _ fine gift_fine = absurd fine
 
   -- any actor
@@ -595,7 +589,7 @@ trace_push w h x = go (opening_net w) opening_trace h
     go net t [] = refl
     go net t (y ∷ xs) = go (next_net w net y) (next_trace w net y t) xs
 
-pub all_kept : (w : World) → HasPlaces w → (h : List Entry) → IsLegal w h → length h < 2 ^ 31 → Kept w (length h) (after w h) (trace w h) h
+pub all_kept : {ts : Tasks} (w : World) → HasPlaces w → (h : List Entry) → IsLegalBy ts w h → length h < 2 ^ 31 → Kept w (length h) (after w h) (trace w h) h
 all_kept w world h legal few =
     by_entries w (λ xs. length xs < 2 ^ 31 → Kept w (length xs) (after w xs) (trace w xs) xs)
     (λ _. record { fine = opening_fine w; books = record { sent_is = λ p o is. absurd (none-some o is); given_is = λ p o is. absurd (none-some o is); reading = λ p o is. absurd (none-some o is); sized = λ p o is. absurd (none-some o is); ended = λ p o is. absurd (none-some o is); none = λ o alone. (refl, refl) } })
@@ -603,7 +597,7 @@ all_kept w world h legal few =
     let n : length (xs ++ x ∷ []) ≡ length xs + 1 = length_push xs x in
     let before : Kept w (length xs) (after w xs) (trace w xs) xs = f (omega (arith, n)) in
     let step : Kept w (length xs + 1) (next_net w (after w xs) x) (next_trace w (after w xs) x (trace w xs)) (xs ++ x ∷ []) =
-    entry_kept w world (length xs) xs (after w xs) (trace w xs) x (caller_of w x.caller) (next_ask w xs x.caller) (omega (arith, n)) before may.is_asked may.is_ready may.answers in
+    entry_kept w world (length xs) xs (after w xs) (trace w xs) x (caller_of w x.caller) _ (omega (arith, n)) before may.is_asked may.is_ready may.answers in
     subst (λ (i : ℕ). Kept w i (after w (xs ++ x ∷ [])) (trace w (xs ++ x ∷ [])) (xs ++ x ∷ [])) (sym n)
     (subst (λ (net : Net). Kept w (length xs + 1) net (trace w (xs ++ x ∷ [])) (xs ++ x ∷ [])) (sym (after_push w xs x))
     (subst (λ (t : Trace). Kept w (length xs + 1) (next_net w (after w xs) x) t (xs ++ x ∷ [])) (sym (trace_push w xs x)) step)))

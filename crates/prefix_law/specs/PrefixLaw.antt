@@ -1,5 +1,6 @@
 -- What is read was written, in order, whatever media lose, repeat or delay.
-use Rattle.std.specs.Prelude.{ℕ, ◌≡◌, ◌<◌, ◌≤◌, List, [], ◌++◌, length, take, filter, Some}
+use Rattle.std.specs.Prelude.{ℕ, ◌≡◌, ◌<◌, ◌≤◌, List, [], ◌++◌, length, take, filter, None, Some}
+use Rattle.net_base.specs.declared.address.Proto.TheVariants.{Il, Udp}
 use Rattle.net_base.specs.declared.history.Entry.{Entry}
 use Rattle.net_base.specs.declared.world.World.{World}
 use Rattle.net_base.specs.Networks.{is_filled}
@@ -45,3 +46,11 @@ pub record WasWritten (w : World) (h : List Entry) (e : Conversation) (k count :
   pub written : IsWrite h by at datagram
   pub earlier : at < k
   pub text_is : text ≡ take count datagram
+
+-- what holds of every conversation
+pub record KeepsPrefixes (w : World) (h : List Entry) : Type 0 where
+  -- each IL conversation and its peer, and one that has none
+  pub in_order : (e f : Conversation) → e.proto ≡ Il → peer w h e ≡ Some f → InOrder w h e f
+  pub alone : (e : Conversation) → e.proto ≡ Il → peer w h e ≡ None → Alone w h e
+  -- each read at a UDP conversation
+  pub datagrams : (e : Conversation) (k count : ℕ) (text : List ℕ) → e.proto ≡ Udp → IsRead h e k count text → WasWritten w h e k count text

@@ -4,10 +4,11 @@ ghost use Rattle.net_base.specs.declared.event.Event.TheVariants as event;
 ghost use Rattle.net_base.specs.declared.history.Entry.{Entry};
 ghost use Rattle.net_base.specs.declared.world.World.{World};
 ghost use Rattle.net_base.specs.declared.address.Proto.TheVariants.{Il, Udp};
-ghost use Rattle.prefix_law.specs.PrefixLaw.{Alone, InOrder, WasWritten};
+ghost use Rattle.prefix_law.specs.PrefixLaw.{Alone, InOrder, KeepsPrefixes, WasWritten};
 ghost use Rattle.net_base.specs.World.{IsWorld};
 ghost use Rattle.net_base.specs.Written.{Conversation, IsRead, peer};
-ghost use Rattle.net_base.specs.Legal.{IsLegal, IsTimed};
+ghost use Rattle.net_base.specs.Legal.{IsLegal, IsLegalBy, IsTimed};
+ghost use Rattle.net_base.specs.Tasks.{Tasks};
 ghost use Rattle.net_base.specs.Written.{Given, given_in, holder, pair_of};
 ghost use Rattle.net_base.specs.declared.address.Pair.{Pair};
 ghost use Rattle.net_base.specs.Mirror.{mirror};
@@ -17,6 +18,11 @@ pub fn prefix_law()
     ensures alone { (w : World) (h : List Entry) (e : Conversation) → IsWorld w → IsLegal w h → e.proto ≡ Il → peer w h e ≡ None → Alone w h e }
     ensures datagrams { (w : World) (h : List Entry) (e : Conversation) (k count : ℕ) (text : List ℕ) → IsWorld w → IsLegal w h → e.proto ≡ Udp → IsRead h e k count text → WasWritten w h e k count text }
     ensures in_order { (w : World) (h : List Entry) (e f : Conversation) → IsWorld w → IsLegal w h → e.proto ≡ Il → peer w h e ≡ Some f → InOrder w h e f }
+{}
+
+/// The same of histories in which tasks are played in the places of scripts, whatever they ask.
+pub fn tasks_keep_prefixes()
+    ensures { (ts : Tasks) (w : World) (h : List Entry) → IsWorld w → IsLegalBy ts w h → KeepsPrefixes w h }
 {}
 
 /// In a timed legal history the clock's moments rise: each move goes beyond the moment before it, and no entry's moment falls.

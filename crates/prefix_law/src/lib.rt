@@ -3,4 +3,4 @@
 
 mod law;
 
-pub use law::{a_pair_has_one_holder, moments_rise, prefix_law};
+pub use law::{a_pair_has_one_holder, moments_rise, prefix_law, tasks_keep_prefixes};

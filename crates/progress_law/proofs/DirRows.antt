@@ -1,13 +1,12 @@
 -- What a directory's step leaves of its slots, and what its reply owes.
 use Rattle.std.proofs.Common.{◌≡◌, ℕ, ◌+◌, ◌-◌, ◌<◌, ◌≤◌, ◌==◌, ◌⊎◌, min, Bool, true, false, List, [], ◌∷◌, ◌++◌, Option, Some, None, slice_get, slice_set, inl, inr, refl, sym, ap, subst, ◌∙◌, arith}
-use Rattle.std.specs.Prelude.{if◌then◌else◌, unwrap_or}
-use Rattle.std.proofs.lemmas.Bool.{eqb-true, and_parts, true≢false}
+use Rattle.std.specs.Prelude.{IfSome, unwrap_or}
+use Rattle.std.proofs.lemmas.Bool.{and_parts, true≢false}
 use Rattle.std.proofs.lemmas.Bool.Decides.{eqb_tells}
-use Rattle.std.proofs.lemmas.Option.{same_Some, slice_get_within}
+use Rattle.std.proofs.lemmas.Option.{none-some, same_Some, slice_get_within}
 use Rattle.net_base.specs.declared.timer.Timers.TheVariants.{Fixed}
 use Rattle.net_base.specs.declared.actor.ActorName.TheVariants as name
 use Rattle.net_base.specs.declared.actor.Call.{Call}
-use Rattle.net_base.specs.declared.address.Addr.{Addr}
 use Rattle.net_base.specs.declared.address.Pair.{Pair}
 use Rattle.net_base.specs.declared.address.Proto.{Proto}
 use Rattle.net_base.specs.declared.address.Proto.TheVariants as proto
@@ -23,18 +22,18 @@ use Rattle.net_base.specs.declared.packet.Packet.{Packet}
 use Rattle.net_base.specs.declared.reply.Reply.{Reply}
 use Rattle.net_base.specs.declared.reply.Reply.TheVariants as reply
 use Rattle.net_base.specs.declared.world.World.{World}
-use Rattle.net_base.specs.ActorStep.{Step, when}
+use Rattle.net_base.specs.ActorStep.{Step}
 use Rattle.net_base.specs.Actors.{slot_count, opening_core}
 use Rattle.net_base.specs.Conversation.{is_sync, has_protocol, may_bear, may_connect}
 use Rattle.net_base.specs.Directory as directory
-use Rattle.net_base.specs.Directory.{Dir, Slot, Key, dir_step, pair_place, pair_of, in_slot, in_found_slot, first_slot, is_free, reserves, grants, grants_by, grants_pair, announces, binds, gets, listens, listens_at, next_call, withdraws, frees, bears as brings, born_or_not, Taker, taker_of, home_at, refused_or_dropped, arrives_at, is_live_with, match_of, is_of, is_reserved, port_for, start_of, limit_of, limit_to}
-use Rattle.net_base.specs.declared.names.Node.TheVariants as node
+use Rattle.net_base.specs.Directory.{Dir, Slot, dir_step, pair_of, is_free, reserves, withdraws, frees, bears as brings, Taker, home_at, is_live_with, is_of, start_of, limit_of, limit_to}
 use Rattle.net_base.specs.Duties.{Duty, follow_up, close_calls}
-use Rattle.net_base.specs.Paths.{names}
 use Rattle.net_base.specs.Routes.{Way, way}
-use Rattle.net_base.specs.Same.{same_addr}
 use Rattle.history_laws.proofs.Ordered.{Each, each_append}
 use Rattle.history_laws.proofs.Takers.{TakerFound, slot_found, taker_found}
+use Rattle.table_laws.specs.DirRows.{DirRow, pair_by, slot_in}
+use Rattle.table_laws.specs.DirRows as row
+use Rattle.table_laws.proofs.Shared.{dir_rows, map_some}
 use Rattle.progress_law.proofs.Duties.{AreSlots, IsCallIn, IsConvKind, IsBirth, bears, named, generation_in}
 use Rattle.progress_law.proofs.Slots.{Rise, calls_stay, rises, sets, set_generation, other_generation, get_set_other}
 
@@ -72,8 +71,7 @@ abbrev pub Moves : ℕ → Proto → Event → With → Dir → Step Dir → Typ
 Moves h p e with d t = Moved h p d.slots t.state.slots (follow_of h p e with t)
 
 abbrev pub MovesIf : ℕ → Proto → Event → With → Dir → Option (Step Dir) → Type 0
-MovesIf h p e with d None = Unit {0}
-MovesIf h p e with d (Some t) = Moves h p e with d t
+MovesIf h p e with d o = IfSome o (Moves h p e with d)
 
 -- nothing changes, and nothing follows
 still : (h : ℕ) (p : Proto) (slots : List Slot) (follow : ℕ → List Duty) → AreSlots slots → ((s : ℕ) → follow s ≡ []) → Moved h p slots slots follow
@@ -102,24 +100,9 @@ keeps h p slots n s new follow is same calls are fine =
 
 -- The rows.
 
-either : (h : ℕ) (p : Proto) (e : Event) (with : With) (d : Dir) (b : Bool) (t u : Step Dir) → (b ≡ true → Moves h p e with d t) → (b ≡ false → Moves h p e with d u) → Moves h p e with d (if b then t else u)
-either h p e with d true t u one two = one refl
-either h p e with d false t u one two = two refl
-
 -- a refusal owes nothing
 refuses : (h : ℕ) (p : Proto) (e : Event) (with : With) (d : Dir) (r : Reply) → AreSlots d.slots → ((s : ℕ) → follow_up (name.Dir h p) s e with r ≡ []) → Moves h p e with d (directory.dir_answers r d)
 refuses h p e with d r are none = still h p d.slots (λ s. follow_up (name.Dir h p) s e with r) are none
-
--- in a slot that is there
-in_slot_moves : (h : ℕ) (p : Proto) (e : Event) (with : With) (n g : ℕ) (d : Dir) (step : Slot → Step Dir) → AreSlots d.slots → ((s : ℕ) → follow_up (name.Dir h p) s e with reply.Stale ≡ [])
-    → ((s : Slot) → slice_get d.slots n ≡ Some s → s.generation ≡ g → Moves h p e with d (step s)) → MovesIf h p e with d (in_slot n g d step)
-in_slot_moves h p e with n g d step are stale each = by (slice_get d.slots n) refl
-  where
-    by : (o : Option Slot) → slice_get d.slots n ≡ o → MovesIf h p e with d (in_found_slot o g d step)
-    by None is = tt
-    by (Some s) is = either h p e with d (s.generation == g) (step s) (directory.dir_answers reply.Stale d)
-        (λ same. each s is (eqb-true s.generation g same))
-        (λ other. refuses h p e with d reply.Stale are stale)
 
 within_slots : (slots : List Slot) (n : ℕ) (s : Slot) → AreSlots slots → slice_get slots n ≡ Some s → n < slot_count
 within_slots slots n s are is = omega (arith, are.count, slice_get_within slots n s is)
@@ -144,18 +127,13 @@ follows_one h p slots news n s e with are rise within le kind plain = (
   tt,
 )
 
-free_is : (d : Dir) (f : ℕ × Slot) → first_slot is_free 0 d.slots ≡ Some f → slice_get d.slots f.0 ≡ Some f.1
-free_is d f is = (slot_found is_free d.slots f is).0
-
 -- Reserve.
 
 abbrev reserved : Slot → Slot
 reserved f = record directory.free_slot { kind = kind.Reserved; generation = f.generation + 1 }
 
-reserve_moves : (h : ℕ) (p : Proto) (with : With) (d : Dir) (o : Option (ℕ × Slot)) → AreSlots d.slots → first_slot is_free 0 d.slots ≡ o → Moves h p event.Reserve with d (reserves o d)
-reserve_moves h p with d None are is = refuses h p event.Reserve with d reply.NoSlot are (λ s. refl)
-reserve_moves h p with d (Some f) are is =
-    let at : slice_get d.slots f.0 ≡ Some f.1 = free_is d f is in
+reserve_moves : (h : ℕ) (p : Proto) (with : With) (d : Dir) (f : ℕ × Slot) → AreSlots d.slots → slice_get d.slots f.0 ≡ Some f.1 → Moves h p event.Reserve with d (reserves (Some f) d)
+reserve_moves h p with d f are at =
     let le : f.1.generation ≤ f.1.generation + 1 = omega arith in
     let gen : generation_in (slice_set d.slots f.0 (reserved f.1)) f.0 ≡ f.1.generation + 1 = set_generation d.slots f.0 f.1 (reserved f.1) at in
     let was : generation_in d.slots f.0 ≡ f.1.generation = generation_is d.slots f.0 f.1 at in
@@ -202,64 +180,13 @@ keeps_and_follows h p slots n g s new e with is gen same calls are names kind pl
     keeps h p slots n s new _ is same (subst (λ (cs : List Call). Each (IsCallIn slots) cs) (sym calls) (are.calls n s is)) are
     (λ k. follows_one h p slots (slice_set slots n new) n k e with are (rises slots n s new is (omega (arith, same))) (within_slots slots n s are is) (omega (arith, names, gen, generation_is slots n s is)) kind plain)
 
-grant_pair_moves : (w : World) (h : ℕ) (p : Proto) (n g : ℕ) (remote : Addr) (lport : Option ℕ) (s : Slot) (pair : Pair) (mtu : ℕ) (d : Dir) (with : With) (o : Option ℕ) → MayGive w h p d → AreSlots d.slots → slice_get d.slots n ≡ Some s → s.generation ≡ g
-    → Moves h p (event.Grant n g remote lport) with d (grants_pair o (home_at w h p) n s pair mtu d)
-grant_pair_moves w h p n g remote lport s pair mtu d with (Some k) may are is gen = refuses h p (event.Grant n g remote lport) with d (reply.PairUsed k) are (λ k. refl)
-grant_pair_moves w h p n g remote lport s pair mtu d with None may are is gen =
-    keeps_and_follows h p d.slots n g s (record s { kind = kind.Granted; pair = Some pair }) (event.Connect g) (given.Grant pair (start_of (home_at w h p) d) (limit_of p mtu)) is gen refl refl are refl (may (limit_of p mtu) (limit_within p mtu)) refl
-
-grant_by_moves : (w : World) (h : ℕ) (p : Proto) (n g : ℕ) (remote : Addr) (lport : Option ℕ) (s : Slot) (d : Dir) (with : With) (out : Option Way) (port : Option ℕ) → MayGive w h p d → AreSlots d.slots → slice_get d.slots n ≡ Some s → s.generation ≡ g
-    → Moves h p (event.Grant n g remote lport) with d (grants_by out port (home_at w h p) n s remote d)
-grant_by_moves w h p n g remote lport s d with None port may are is gen = refuses h p (event.Grant n g remote lport) with d reply.NoRoute are (λ k. refl)
-grant_by_moves w h p n g remote lport s d with (Some out) None may are is gen = refuses h p (event.Grant n g remote lport) with d reply.NoPort are (λ k. refl)
-grant_by_moves w h p n g remote lport s d with (Some out) (Some port) may are is gen =
-    let pair : Pair = record { local = record { ip = out.source; port = port }; remote = remote } in
-    either h p (event.Grant n g remote lport) with d (same_addr pair.local remote) _ _ (λ same. refuses h p (event.Grant n g remote lport) with d reply.SelfPair are (λ k. refl)) (λ apart. grant_pair_moves w h p n g remote lport s pair out.mtu d with (pair_place pair 1 d.pairs) may are is gen)
-
-grant_moves : (w : World) (h : ℕ) (p : Proto) (n g : ℕ) (remote : Addr) (lport : Option ℕ) (s : Slot) (d : Dir) (with : With) → MayGive w h p d → AreSlots d.slots → slice_get d.slots n ≡ Some s → s.generation ≡ g
-    → Moves h p (event.Grant n g remote lport) with d (grants (home_at w h p) n remote lport d s)
-grant_moves w h p n g remote lport s d with may are is gen =
-    either h p (event.Grant n g remote lport) with d (is_reserved s.kind) _ _ (λ yes. grant_by_moves w h p n g remote lport s d with (way w h remote.ip) (port_for lport s.bound d) may are is gen) (λ no. refuses h p (event.Grant n g remote lport) with d (reply.WrongState s.kind) are (λ k. refl))
-
--- Announce and bind.
-
-announce_moves : (h : ℕ) (p : Proto) (n g : ℕ) (ip port : Option ℕ) (s new : Slot) (ports : List ℕ) (d : Dir) (with : With) (o : Option (ℕ × Slot)) → AreSlots d.slots → slice_get d.slots n ≡ Some s → s.generation ≡ g → new.generation ≡ s.generation → new.calls ≡ s.calls
-    → Moves h p (event.Announce n g ip port) with d (gets o n new ports d)
-announce_moves h p n g ip port s new ports d with (Some f) are is gen same calls = refuses h p (event.Announce n g ip port) with d (reply.PortTaken f.0) are (λ k. refl)
-announce_moves h p n g ip port s new ports d with None are is gen same calls =
-    keeps_and_follows h p d.slots n g s new (event.Announced g) (given.Key (unwrap_or ip 0) (unwrap_or port 0)) is gen same calls are refl tt refl
-
-bind_moves : (h : ℕ) (p : Proto) (n g port : ℕ) (s new : Slot) (ports : List ℕ) (d : Dir) (with : With) (o : Option (ℕ × Slot)) → AreSlots d.slots → slice_get d.slots n ≡ Some s → s.generation ≡ g → new.generation ≡ s.generation → new.calls ≡ s.calls
-    → Moves h p (event.Bind n g port) with d (gets o n new ports d)
-bind_moves h p n g port s new ports d with (Some f) are is gen same calls = refuses h p (event.Bind n g port) with d (reply.PortTaken f.0) are (λ k. refl)
-bind_moves h p n g port s new ports d with None are is gen same calls =
-    keeps_and_follows h p d.slots n g s new (event.Bound g) (given.Key 0 port) is gen same calls are refl tt refl
-
 -- Listen.
 
-listen_moves : (h : ℕ) (p : Proto) (n : ℕ) (s : Slot) (d : Dir) (with : With) (calls : List Call) → AreSlots d.slots → slice_get d.slots n ≡ Some s → Each (IsCallIn d.slots) calls → MovesIf h p (event.Listen n) with d (next_call calls n d s)
-listen_moves h p n s d with [] are is all = tt
-listen_moves h p n s d with (c ∷ calls) are is all =
+listen_moves : (h : ℕ) (p : Proto) (n : ℕ) (s : Slot) (d : Dir) (with : With) (c : Call) (calls : List Call) → AreSlots d.slots → slice_get d.slots n ≡ Some s → Each (IsCallIn d.slots) (c ∷ calls)
+    → Moved h p d.slots (slice_set d.slots n (record s { calls = calls })) (λ k. record { actor = name.Conv h p c.slot; event = event.Claim c.generation; with = given.Nothing; cites = k } ∷ [])
+listen_moves h p n s d with c calls are is all =
     keeps h p d.slots n s (record s { calls = calls }) _ is refl all.1 are
     (λ k. follows_one h p d.slots (slice_set d.slots n (record s { calls = calls })) c.slot k (event.Claim c.generation) given.Nothing are (rises d.slots n s (record s { calls = calls }) is (omega arith)) all.0.0 all.0.1 tt refl)
-
-listen_at_moves : (h : ℕ) (p : Proto) (n : ℕ) (s : Slot) (k : StateName) (d : Dir) (with : With) → AreSlots d.slots → slice_get d.slots n ≡ Some s → MovesIf h p (event.Listen n) with d (listens_at k n d s)
-listen_at_moves h p n s kind.Announced d with are is = listen_moves h p n s d with s.calls are is (are.calls n s is)
-listen_at_moves h p n s kind.Free d with are is = refuses h p (event.Listen n) with d reply.NoFile are (λ k. refl)
-listen_at_moves h p n s kind.Reserved d with are is = refuses h p (event.Listen n) with d (reply.WrongState kind.Reserved) are (λ k. refl)
-listen_at_moves h p n s kind.Granted d with are is = refuses h p (event.Listen n) with d (reply.WrongState kind.Granted) are (λ k. refl)
-listen_at_moves h p n s kind.Withdrawn d with are is = refuses h p (event.Listen n) with d (reply.WrongState kind.Withdrawn) are (λ k. refl)
-listen_at_moves h p n s kind.Closed d with are is = refuses h p (event.Listen n) with d (reply.WrongState kind.Closed) are (λ k. refl)
-listen_at_moves h p n s kind.Syncer d with are is = refuses h p (event.Listen n) with d (reply.WrongState kind.Syncer) are (λ k. refl)
-listen_at_moves h p n s kind.Syncee d with are is = refuses h p (event.Listen n) with d (reply.WrongState kind.Syncee) are (λ k. refl)
-listen_at_moves h p n s kind.Established d with are is = refuses h p (event.Listen n) with d (reply.WrongState kind.Established) are (λ k. refl)
-listen_at_moves h p n s kind.Listening d with are is = refuses h p (event.Listen n) with d (reply.WrongState kind.Listening) are (λ k. refl)
-listen_at_moves h p n s kind.Closing d with are is = refuses h p (event.Listen n) with d (reply.WrongState kind.Closing) are (λ k. refl)
-listen_at_moves h p n s kind.Open d with are is = refuses h p (event.Listen n) with d (reply.WrongState kind.Open) are (λ k. refl)
-
-listens_moves : (h : ℕ) (p : Proto) (n : ℕ) (d : Dir) (with : With) (o : Option Slot) → AreSlots d.slots → slice_get d.slots n ≡ o → MovesIf h p (event.Listen n) with d (listens o n d)
-listens_moves h p n d with None are is = tt
-listens_moves h p n d with (Some s) are is = listen_at_moves h p n s s.kind d with are is
 
 -- Withdraw and release.
 
@@ -268,13 +195,13 @@ close_each h p slots news k [] are rise all = tt
 close_each h p slots news k (c ∷ cs) are rise all =
     ((follows_one h p slots news c.slot k (event.Close c.generation) given.Nothing are rise all.0.0 all.0.1 tt refl).0, close_each h p slots news k cs are rise all.1)
 
-withdraw_moves : (h : ℕ) (p : Proto) (n g : ℕ) (s : Slot) (d : Dir) (with : With) → AreSlots d.slots → slice_get d.slots n ≡ Some s → Moves h p (event.Withdraw n g) with d (withdraws n d s)
-withdraw_moves h p n g s d with are is =
+withdraw_moves : (h : ℕ) (p : Proto) (n : ℕ) (s : Slot) (d : Dir) (with : With) → AreSlots d.slots → slice_get d.slots n ≡ Some s → Moves h p (event.Withdraw n s.generation) with d (withdraws n d s)
+withdraw_moves h p n s d with are is =
     keeps h p d.slots n s (record s { kind = kind.Withdrawn; calls = [] }) _ is refl tt are
     (λ k. close_each h p d.slots (slice_set d.slots n (record s { kind = kind.Withdrawn; calls = [] })) k s.calls are (rises d.slots n s _ is (omega arith)) (are.calls n s is))
 
-release_moves : (h : ℕ) (p : Proto) (n g : ℕ) (s : Slot) (d : Dir) (with : With) → AreSlots d.slots → slice_get d.slots n ≡ Some s → Moves h p (event.Release n g) with d (frees n d s)
-release_moves h p n g s d with are is =
+release_moves : (h : ℕ) (p : Proto) (n : ℕ) (s : Slot) (d : Dir) (with : With) → AreSlots d.slots → slice_get d.slots n ≡ Some s → Moves h p (event.Release n s.generation) with d (frees n d s)
+release_moves h p n s d with are is =
     keeps h p d.slots n s (record directory.free_slot { generation = s.generation }) _ is refl tt are
     (λ k. close_each h p d.slots (slice_set d.slots n (record directory.free_slot { generation = s.generation })) k s.calls are (rises d.slots n s _ is (omega arith)) (are.calls n s is))
 
@@ -297,18 +224,8 @@ not_announced : (s : Slot) → is_free s ≡ true → directory.is_announced s.k
 not_announced s free announces = by s.kind free announces
   where
     by : (k : StateName) → is_free (record s { kind = k }) ≡ true → directory.is_announced k ≡ true → ⊥
-    by kind.Free free announces = true≢false (sym announces)
     by kind.Announced free announces = true≢false (sym free)
-    by kind.Reserved free announces = true≢false (sym announces)
-    by kind.Granted free announces = true≢false (sym announces)
-    by kind.Withdrawn free announces = true≢false (sym announces)
-    by kind.Closed free announces = true≢false (sym announces)
-    by kind.Syncer free announces = true≢false (sym announces)
-    by kind.Syncee free announces = true≢false (sym announces)
-    by kind.Established free announces = true≢false (sym announces)
-    by kind.Listening free announces = true≢false (sym announces)
-    by kind.Closing free announces = true≢false (sym announces)
-    by kind.Open free announces = true≢false (sym announces)
+    by _ free announces = true≢false (sym announces)
 
 bear_moves : (w : World) (h : ℕ) (p : Proto) (packet : Packet) (d : Dir) (t : Taker) → MayGive w h p d → AreSlots d.slots → is_of p packet.body ≡ true → TakerFound (pair_of packet) packet d t
     → Moves h p event.Arrive (given.Packet packet) d (brings (home_at w h p) (pair_of packet) t d)
@@ -358,62 +275,49 @@ bear_moves w h p packet d t may are of found =
       );
     }
 
-refused_moves : (h : ℕ) (p : Proto) (packet : Packet) (b : Body) (d : Dir) → AreSlots d.slots → Moves h p event.Arrive (given.Packet packet) d (refused_or_dropped b packet d)
-refused_moves h p packet (body.Udp t) d are = refuses h p event.Arrive (given.Packet packet) d reply.Dropped are (λ k. refl)
-refused_moves h p packet (body.Il m) d are =
-    either h p event.Arrive (given.Packet packet) d (is_sync m.kind) _ _
-    (λ yes. still h p d.slots (λ s. follow_up (name.Dir h p) s event.Arrive (given.Packet packet) reply.Refused) are (λ k. refl))
-    (λ no. refuses h p event.Arrive (given.Packet packet) d reply.Dropped are (λ k. refl))
-
-born_moves : (w : World) (h : ℕ) (p : Proto) (packet : Packet) (d : Dir) (o : Option Taker) → MayGive w h p d → AreSlots d.slots → is_of p packet.body ≡ true → taker_of (pair_of packet) packet d ≡ o
-    → Moves h p event.Arrive (given.Packet packet) d (born_or_not o (home_at w h p) (pair_of packet) packet d)
-born_moves w h p packet d None may are of is = refused_moves h p packet packet.body d are
-born_moves w h p packet d (Some t) may are of is = bear_moves w h p packet d t may are of (taker_found (pair_of packet) packet d t is)
-
 same_protocol_of : (p : Proto) (b : Body) → is_of p b ≡ true → has_protocol (opening_core Fixed p) b ≡ true
 same_protocol_of proto.Il (body.Il m) of = refl
 same_protocol_of proto.Udp (body.Udp t) of = refl
 same_protocol_of proto.Il (body.Udp t) of = of
 same_protocol_of proto.Udp (body.Il m) of = of
 
-arrive_moves : (w : World) (h : ℕ) (p : Proto) (packet : Packet) (d : Dir) (o : Option (ℕ × Slot)) → MayGive w h p d → AreSlots d.slots → is_of p packet.body ≡ true → first_slot (is_live_with (pair_of packet)) 0 d.slots ≡ o
-    → Moves h p event.Arrive (given.Packet packet) d (arrives_at o (home_at w h p) (pair_of packet) packet d)
-arrive_moves w h p packet d None may are of is = born_moves w h p packet d (taker_of (pair_of packet) packet d) may are of refl
-arrive_moves w h p packet d (Some f) may are of is =
-    let at : slice_get d.slots f.0 ≡ Some f.1 = (slot_found (is_live_with (pair_of packet)) d.slots f is).0 in
-    record {
-      are = are;
-      rise = λ k. omega arith;
-      raised = λ k. inl refl;
-      fine = λ s. follows_one h p d.slots d.slots f.0 s (event.ArriveAt f.1.generation) (given.Packet packet) are (λ k. omega arith) (within_slots d.slots f.0 f.1 are at) (omega (arith, generation_is d.slots f.0 f.1 at)) (same_protocol_of p packet.body of) refl;
-    }
+to_moves : (h : ℕ) (p : Proto) (packet : Packet) (d : Dir) (n : ℕ) (s : Slot) → AreSlots d.slots → is_of p packet.body ≡ true → slice_get d.slots n ≡ Some s
+    → Moves h p event.Arrive (given.Packet packet) d (directory.dir_answers (reply.To n s.generation) d)
+to_moves h p packet d n s are of at = record {
+  are = are;
+  rise = λ k. omega arith;
+  raised = λ k. inl refl;
+  fine = λ k. follows_one h p d.slots d.slots n k (event.ArriveAt s.generation) (given.Packet packet) are (λ j. omega arith) (within_slots d.slots n s are at) (omega (arith, generation_is d.slots n s at)) (same_protocol_of p packet.body of) refl;
+}
 
 -- The table.
 
-when_moves : (h : ℕ) (p : Proto) (e : Event) (with : With) (d : Dir) (b : Bool) (t : Step Dir) → (b ≡ true → Moves h p e with d t) → MovesIf h p e with d (when b (Some t))
-when_moves h p e with d true t one = one refl
-when_moves h p e with d false t one = tt
+-- an older generation owes nothing
+stale_owes : (h : ℕ) (p : Proto) (s : ℕ) (e : Event) (with : With) (n g : ℕ) → slot_in e ≡ Some (n, g) → follow_up (name.Dir h p) s e with reply.Stale ≡ []
+stale_owes h p s event.Arrive with n g names = absurd (none-some _ names)
+stale_owes h p s _ with n g names = refl
+
+row_moves : (w : World) (h : ℕ) (p : Proto) (d : Dir) (e : Event) (with : With) (t : Step Dir) → MayGive w h p d → AreSlots d.slots → DirRow w h p d e with t → Moves h p e with d t
+row_moves w h p d e with t may are (row.Stale {n = n} {g = g} names at other) = refuses h p e with d reply.Stale are (λ s. stale_owes h p s e with n g names)
+row_moves w h p d e with t may are (row.Reserves {n = n} {s = s} found) = reserve_moves h p with d (n, s) are (slot_found is_free d.slots (n, s) found).0
+row_moves w h p d e with t may are (row.Grants {n = n} {remote = remote} {s = s} {out = out} {own = own} at reserved by drawn other new) =
+    let pair = pair_by out own remote in
+    keeps_and_follows h p d.slots n s.generation s (record s { kind = kind.Granted; pair = Some pair }) (event.Connect s.generation)
+    (given.Grant pair (start_of (home_at w h p) d) (limit_of p out.mtu)) at refl refl refl are refl (may (limit_of p out.mtu) (limit_within p out.mtu)) refl
+row_moves w h p d e with t may are (row.Announces {n = n} {ip = ip} {port = port} {s = s} at) =
+    keeps_and_follows h p d.slots n s.generation s (record s { kind = kind.Announced; key = Some (record { ip = ip; port = port }) }) (event.Announced s.generation)
+    (given.Key (unwrap_or ip 0) (unwrap_or port 0)) at refl refl refl are refl tt refl
+row_moves w h p d e with t may are (row.Binds {n = n} {port = port} {s = s} at) =
+    keeps_and_follows h p d.slots n s.generation s (record s { bound = Some port }) (event.Bound s.generation) (given.Key 0 port) at refl refl refl are refl tt refl
+row_moves w h p d e with t may are (row.Listens {n = n} {s = s} {c = c} {calls = calls} at wait) =
+    listen_moves h p n s d with c calls are at (subst (λ (cs : List Call). Each (IsCallIn d.slots) cs) wait (are.calls n s at))
+row_moves w h p d e with t may are (row.Withdraws {n = n} {s = s} at) = withdraw_moves h p n s d with are at
+row_moves w h p d e with t may are (row.Frees {n = n} {s = s} at) = release_moves h p n s d with are at
+row_moves w h p d e with t may are (row.To {packet = packet} {n = n} {s = s} of found) = to_moves h p packet d n s are of (slot_found (is_live_with (pair_of packet)) d.slots (n, s) found).0
+row_moves w h p d e with t may are (row.Bears {packet = packet} {t = taker} of takes) = bear_moves w h p packet d taker may are of (taker_found (pair_of packet) packet d taker takes)
+row_moves w h p d e with t may are (row.Refuses {packet = packet} said sync) =
+    still h p d.slots (λ s. follow_up (name.Dir h p) s event.Arrive (given.Packet packet) reply.Refused) are (λ s. refl)
+row_moves w h p d e with t may are _ = refuses h p e with d t.outcome.reply are (λ s. refl)
 
 pub dir_moves : (w : World) (h : ℕ) (p : Proto) (e : Event) (with : With) (d : Dir) → MayGive w h p d → AreSlots d.slots → MovesIf h p e with d (dir_step w h p e with d)
-dir_moves w h p event.Reserve with d may are = reserve_moves h p with d (first_slot is_free 0 d.slots) are refl
-dir_moves w h p (event.Grant n g remote port) with d may are =
-    in_slot_moves h p (event.Grant n g remote port) with n g d _ are (λ s. refl) (λ s is gen. grant_moves w h p n g remote port s d with may are is gen)
-dir_moves w h p (event.Announce n g ip port) with d may are =
-    in_slot_moves h p (event.Announce n g ip port) with n g d _ are (λ s. refl) (λ s is gen.
-    either h p (event.Announce n g ip port) with d (is_reserved s.kind) _ _
-    (λ yes. announce_moves h p n g ip port s (record s { kind = kind.Announced; key = Some (record { ip = ip; port = port }) }) (directory.ports_with port d.ports) d with (first_slot (directory.is_keyed (record { ip = ip; port = port })) 0 d.slots) are is gen refl refl)
-    (λ no. refuses h p (event.Announce n g ip port) with d (reply.WrongState s.kind) are (λ k. refl)))
-dir_moves w h p (event.Bind n g port) with d may are =
-    in_slot_moves h p (event.Bind n g port) with n g d _ are (λ s. refl) (λ s is gen.
-    either h p (event.Bind n g port) with d (is_reserved s.kind) _ _
-    (λ yes. bind_moves h p n g port s (record s { bound = Some port }) (directory.with_port port d.ports) d with (first_slot (directory.is_bound port) 0 d.slots) are is gen refl refl)
-    (λ no. refuses h p (event.Bind n g port) with d (reply.WrongState s.kind) are (λ k. refl)))
-dir_moves w h p (event.Listen n) with d may are = listens_moves h p n d with (slice_get d.slots n) are refl
-dir_moves w h p (event.Withdraw n g) with d may are =
-    in_slot_moves h p (event.Withdraw n g) with n g d _ are (λ s. refl) (λ s is gen. withdraw_moves h p n g s d with are is)
-dir_moves w h p (event.Release n g) with d may are =
-    in_slot_moves h p (event.Release n g) with n g d _ are (λ s. refl) (λ s is gen. release_moves h p n g s d with are is)
-dir_moves w h p event.Arrive (given.Packet packet) d may are =
-    when_moves h p event.Arrive (given.Packet packet) d (is_of p packet.body) _ (λ of. arrive_moves w h p packet d (first_slot (is_live_with (pair_of packet)) 0 d.slots) may are of refl)
-dir_moves w h p event.Ls with d may are = refuses h p event.Ls with d (reply.Names (names (node.Proto p) (directory.taken_from 0 d.slots))) are (λ k. refl)
-dir_moves w h p _ _ d may are = tt
+dir_moves w h p e with d may are = map_some (dir_step w h p e with d) _ _ (dir_rows w h p d e with) (λ t row. row_moves w h p d e with t may are row)

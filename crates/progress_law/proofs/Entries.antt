@@ -308,7 +308,7 @@ conv_changes w net after c h p n e with t (IsConv v) r is = record {
         let there = here i q m same in
         let unborn : reached net i q m < named d.event = r.steady.unborn c d i q m (subst (In d) (sym owed) (inl refl)) at bear in
         let names : named d.event ≡ named e = ap named asks.1 in
-        let born : u.0.state.generation ≡ named e = birth_done n e with net.moment p v u.0 core (ap bears (sym asks.1) ∙ bear) (omega (arith, unborn, names, there.1)) u.1 in
+        let born : u.0.state.generation ≡ named e = birth_done n e with net.moment v u.0 (ap bears (sym asks.1) ∙ bear) (omega (arith, unborn, names, there.1)) u.1 in
         omega (arith, there.0, born, names)
 
 -- Directories.

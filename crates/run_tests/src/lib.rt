@@ -1,4 +1,4 @@
-//! Tests of runs: legal on any number of workers, and in a fixed order on one; as they are and with one entry changed.
+//! Tests of runs: legal on any number of workers, and in a fixed order on one; as they are and with one entry changed; with tasks of one's own.
 #![tactic(auto)]
 
 #[cfg(test)]
@@ -7,3 +7,5 @@ mod changes;
 mod imports;
 #[cfg(test)]
 mod random_worlds;
+#[cfg(test)]
+mod tasks;

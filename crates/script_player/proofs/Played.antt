@@ -15,10 +15,10 @@ use Rattle.net_base.specs.Versions.{Tuples}
 use Rattle.script_task.specs.Holdings.{Holdings, holdings}
 use Rattle.script_task.specs.declared.effect.Effect.{Effect}
 use Rattle.script_task.specs.declared.effect.Effect.TheVariants.{Opens, Closes, Hears, Keeps}
-use Rattle.script_task.specs.declared.request.Request.{Request}
+use Rattle.net_base.specs.declared.request.Request.{Request}
 use Rattle.script_task.specs.Effects.{effect_of, opened, settles}
 use Rattle.script_task.specs.Fitting.{fits}
-use Rattle.script_task.specs.Requests.{head, planned, settled}
+use Rattle.net_base.specs.Requests.{head, planned, settled}
 use Rattle.script_task.specs.Task.{Heads, follow, fits_play}
 use Rattle.script_task.proofs.Settling.{settles_so}
 use Rattle.step_task.specs.declared.step.StepTask.{StepTask}

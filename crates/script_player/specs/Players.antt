@@ -12,9 +12,9 @@ use Rattle.net_base.specs.Versions.{Tuples}
 use Rattle.script_task.specs.Holdings.{Holdings, holdings}
 use Rattle.script_task.specs.declared.effect.Effect.{Effect}
 use Rattle.script_task.specs.declared.effect.Effect.TheVariants.{Opens}
-use Rattle.script_task.specs.declared.request.Request.{Request}
+use Rattle.net_base.specs.declared.request.Request.{Request}
 use Rattle.script_task.specs.Effects.{effect_of, opened, settles}
-use Rattle.script_task.specs.Requests.{planned}
+use Rattle.net_base.specs.Requests.{planned}
 use Rattle.step_task.specs.declared.step.StepTask.{StepTask}
 use Rattle.dial_lib.specs.Slots.{HaveSlots}
 use Rattle.step_task.specs.StepTasks.{StandsFor, asks, after, after_all, begun, left_by as left_by_task}

@@ -1,16 +1,21 @@
 -- A line for each step of each script: where it stands in the world, whether it was answered, refused, or is waited for.
-use Rattle.std.specs.Prelude.{ℕ, ◌==◌, Bool, true, false, List, [], ◌∷◌, ◌++◌, drop, flat_map, length, Option, Some, None, codes, slice_get, nat_lt, if◌then◌else◌}
+use Rattle.std.specs.Prelude.{ℕ, ◌==◌, ◌&&◌, Bool, true, false, List, [], ◌∷◌, ◌++◌, drop, flat_map, length, Option, Some, None, codes, slice_get, nat_lt, if◌then◌else◌}
 use Rattle.std.specs.List.{enumerate_from, range_with_len}
 use Rattle.std.specs.Option.{option_and_then}
+use Rattle.net_base.specs.declared.event.Event.{Event}
+use Rattle.net_base.specs.declared.event.Event.TheVariants as event
 use Rattle.net_base.specs.declared.history.Entry.{Entry}
 use Rattle.net_base.specs.declared.reply.Reply.{Reply}
 use Rattle.net_base.specs.declared.world.Script.{Script}
+use Rattle.net_base.specs.declared.world.Step.{Step}
+use Rattle.net_base.specs.declared.world.Step.TheVariants as step
 use Rattle.net_base.specs.declared.world.World.{World}
 use Rattle.net_base.specs.Calm.{owes}
+use Rattle.net_base.specs.Imports.{is_open}
 use Rattle.net_base.specs.Net.{after}
 use Rattle.net_base.specs.Next.{next}
 use Rattle.net_base.specs.Numeral.{numeral}
-use Rattle.net_base.specs.Steps.{Ask, is_accepted}
+use Rattle.net_base.specs.Steps.{Ask, bytes_in, is_accepted}
 use Rattle.net_base.specs.Summary.{answered_by}
 use Rattle.net_base.specs.Transcript.{actor_word}
 use Rattle.entry_labels.specs.Labels.{event_label, reply_label}
@@ -38,14 +43,44 @@ abbrev pub told_of : List Entry → Entry → Option ℕ → List ℕ
 told_of h x before =
     if is_accepted x.reply then ended_text x (option_and_then (slice_get h) before) else outcome_text (codes "refused") x.moment x.reply
 
-abbrev pub told_text : List Entry → Option Entry → Option ℕ → List ℕ
-told_text h None before = codes "answered"
-told_text h (Some x) before = told_of h x before
+-- An open of a remote file.
 
--- by the last entries that it recorded itself
-abbrev pub answered_text : List Entry → Option Latest → List ℕ
-answered_text h None = codes "answered"
-answered_text h (Some l) = told_text h (slice_get h l.last) l.before
+abbrev pub is_ropen : Option Step → Bool
+is_ropen (Some (step.Ropen called call path m)) = true
+is_ropen _ = false
+
+-- the type of a 9P message is its fifth byte
+abbrev pub is_open_type : Option ℕ → Bool
+is_open_type None = false
+is_open_type (Some kind) = kind == 112
+
+abbrev pub is_open_request : Event → Bool
+is_open_request (event.Write g text) = is_open_type (slice_get text 4)
+is_open_request _ = false
+
+-- the last message that went out is that of the open, and what came in is its answer
+abbrev pub has_opened : Entry → Option Entry → Bool
+has_opened x None = false
+has_opened x (Some y) = is_open_request y.event && is_open (bytes_in x.reply)
+
+-- it is refused, too, where the events are accepted by which the other host refuses it
+abbrev pub opened_text : Entry → Option Entry → List ℕ
+opened_text x before = outcome_text (if has_opened x before then codes "answered" else codes "refused") x.moment x.reply
+
+-- Any step.
+
+abbrev pub told_by : Bool → List Entry → Entry → Option ℕ → List ℕ
+told_by true h x before = opened_text x (option_and_then (slice_get h) before)
+told_by false h x before = told_of h x before
+
+abbrev pub told_text : Bool → List Entry → Option Entry → Option ℕ → List ℕ
+told_text opens h None before = codes "answered"
+told_text opens h (Some x) before = told_by opens h x before
+
+-- by the last entries that it recorded itself, and by whether it opens a remote file
+abbrev pub answered_text : Bool → List Entry → Option Latest → List ℕ
+answered_text opens h None = codes "answered"
+answered_text opens h (Some l) = told_text opens h (slice_get h l.last) l.before
 
 -- What the step waits for that isn't.
 
@@ -64,7 +99,7 @@ waiting_text false ask = asked_text ask
 abbrev pub state_by : ℕ → World → List Entry → ℕ × Script → ℕ → List ℕ
 state_by answered w h cs n =
     if nat_lt n answered
-    then answered_text h (latest_of (stamps_of w h cs.0 cs.1 n))
+    then answered_text (is_ropen (slice_get cs.1.steps n)) h (latest_of (stamps_of w h cs.0 cs.1 n))
     else (if n == answered then waiting_text (owes (after w h) cs.0) (next w h cs.0) else codes "ahead")
 
 abbrev pub state_text : World → List Entry → ℕ × Script → ℕ → List ℕ

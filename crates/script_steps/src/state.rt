@@ -1,36 +1,17 @@
 //! What became of a step, or what it waits for.
-ghost use Rattle.std.specs.Prelude.{◌≡◌, ◌++◌, Some, OnOk, slice_get};
-ghost use Rattle.net_base.specs.Steps as steps;
+ghost use Rattle.std.specs.Prelude.{◌≡◌, ◌++◌, Some, IfOk, OnOk, option_and_then, option_map, slice_get};
 ghost use Rattle.plain_runner.specs.Turns.{ask_of, asks_of};
 ghost use Rattle.script_steps.specs.Steps as spec;
 
 use crate::recorded::Latest;
 use crate::world_steps::StepLine;
 use entry_labels::{put_actor, put_event, put_reply};
-use net_base::{Entry, Octets, Reply};
+use net_base::{Entry, Event, Octets, Reply, Step};
+use net_import::is_open;
 use plain_runner::Turn;
-use std::alloc::AllocError;
+use script_task::{bytes_in, is_accepted};
+use std::alloc::{AllocError, Global};
 use words::put_decimal;
-
-/// Whether a reply is that of an event which isn't refused.
-fn is_accepted(reply: &Reply) -> bool
-    ensures { result ≡ steps.is_accepted reply.now }
-{
-    match reply {
-        Reply::Slot { .. } => true,
-        Reply::Granted { .. } => true,
-        Reply::Call { .. } => true,
-        Reply::Opened { .. } => true,
-        Reply::Ok => true,
-        Reply::Left => true,
-        Reply::Version { .. } => true,
-        Reply::Bytes { .. } => true,
-        Reply::Count { .. } => true,
-        Reply::Lines { .. } => true,
-        Reply::Names { .. } => true,
-        _ => false,
-    }
-}
 
 fn put_outcome(out: &mut Octets, word: &[u8], moment: u64, reply: &Reply) -> Result<(), AllocError>
     ensures { OnOk result (out.new ≡ out.old ++ spec.outcome_text word.now moment reply.now) }
@@ -73,21 +54,84 @@ fn put_told(
     }
 }
 
+/// Whether a step opens a remote file.
+pub fn is_ropen(steps: &[Step], step: usize) -> bool
+    ensures { result ≡ spec.is_ropen (slice_get steps.now step) }
+{
+    match steps.get(step) {
+        Some(Step::Ropen { .. }) => true,
+        _ => false,
+    }
+}
+
+// Whether an event sends a message of 9P that opens a file. The fifth byte is its type.
+fn is_open_request(event: &Event) -> bool
+    ensures { result ≡ spec.is_open_request event.now }
+{
+    match event {
+        Event::Write { text, .. } => match text.as_slice().get(4) {
+            Some(kind) => *kind == 112,
+            None => false,
+        },
+        _ => false,
+    }
+}
+
+// Whether a remote file was opened, by the last entry of its step and the one before it.
+fn has_opened(alloc: Global, last: &Entry, before: Option<&Entry>) -> Result<bool, AllocError>
+    ensures { IfOk result (λ opened. opened ≡ spec.has_opened last.now (option_map (λ y. y.now) before.entry)) }
+{
+    let Some(before) = before else {
+        return Ok(false);
+    };
+    if !is_open_request(&before.event) {
+        return Ok(false);
+    }
+    is_open(alloc, bytes_in(&last.reply))
+}
+
+fn put_opened(
+    out: &mut Octets,
+    alloc: Global,
+    last: &Entry,
+    before: Option<&Entry>,
+) -> Result<(), AllocError>
+    ensures { OnOk result (out.new ≡ out.old ++ spec.opened_text last.now (option_map (λ y. y.now) before.entry)) }
+{
+    let opened = has_opened(alloc, last, before)?;
+    if opened {
+        put_outcome(out, b"answered", last.moment, &last.reply)
+    } else {
+        put_outcome(out, b"refused", last.moment, &last.reply)
+    }
+}
+
 /// Adds what became of a step, by its last entries.
 pub fn put_answered(
     out: &mut Octets,
+    alloc: Global,
+    opens: bool,
     entries: &[Entry],
     latest: Option<Latest>,
 ) -> Result<(), AllocError>
-    ensures { OnOk result (out.new ≡ out.old ++ spec.answered_text entries.now latest) }
+    ensures { OnOk result (out.new ≡ out.old ++ spec.answered_text opens entries.now latest) }
 {
     let Some(latest) = latest else {
         return out.append(b"answered");
     };
-    match entries.get(latest.last) {
-        Some(last) => put_told(out, entries, last, latest.before),
-        None => out.append(b"answered"),
+    let Some(last) = entries.get(latest.last) else {
+        return out.append(b"answered");
+    };
+    if opens {
+        return put_opened(out, alloc, last, entry_at(entries, latest.before));
     }
+    put_told(out, entries, last, latest.before)
+}
+
+fn entry_at(entries: &[Entry], stamp: Option<usize>) -> Option<&Entry>
+    ensures { option_map (λ x. x.now) result ≡ option_and_then (slice_get entries.now) stamp }
+{
+    entries.get(stamp?)
 }
 
 /// Adds what a step waits for: the next event of its script, unless something is owed.

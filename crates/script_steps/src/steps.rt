@@ -2,19 +2,18 @@
 ghost use Rattle.std.specs.Prelude.{◌≡◌, ◌<◌, ◌++◌, drop, length, Some, slice_get, IfOk, OnOk};
 ghost use Rattle.std.specs.List.{enumerate_from};
 ghost use Rattle.net_base.specs.Legal.{IsLegal, IsTimed};
-ghost use Rattle.net_base.specs.Summary.{answered_by};
 ghost use Rattle.net_base.specs.World.{IsWorld};
 ghost use Rattle.plain_runner.specs.Callers.{IsCaller};
 ghost use Rattle.plain_runner.specs.Followed.{Followed};
 ghost use Rattle.script_steps.specs.Recorded.{AreLatest, latest_at as spec_latest_at};
 ghost use Rattle.script_steps.specs.Steps as spec;
 
-use crate::recorded::{Latest, LatestSteps, StepKey, record_of};
+use crate::recorded::{Latest, LatestSteps, Record, StepKey, record_of};
 use crate::standing::{answered, owes};
-use crate::state::{put_answered, put_place, put_waiting};
+use crate::state::{is_ropen, put_answered, put_place, put_waiting};
 use crate::world_steps::{StepLine, step_lines};
 use net_base::{Entry, History, Octets, Script, World};
-use plain_runner::{Caller, Runner};
+use plain_runner::Caller;
 use std::alloc::{AllocError, Global};
 
 /// The steps of a world's scripts after a history, a line each: the number of its line in the world's text and that of its
@@ -35,43 +34,44 @@ pub fn steps_of(
     let lines = step_lines(alloc, text)?;
     let record = record_of(alloc, world, entries)?;
     let mut out = Octets::new(alloc);
-    put_scripts(
-        &mut out,
-        world,
-        entries,
-        &record.runner,
-        &record.latest,
-        lines.as_slice(),
-    )?;
+    put_scripts(&mut out, alloc, world, entries, &record, lines.as_slice())?;
     Ok(out)
+}
+
+/// A script in a run that followed a history.
+#[derive(Clone, Copy)]
+struct Player<'a> {
+    entries: &'a [Entry],
+    latest: &'a LatestSteps,
+    caller: &'a Caller<'a>,
+    number: u32,
+    script: &'a Script,
 }
 
 fn put_scripts(
     out: &mut Octets,
+    alloc: Global,
     world: &World,
     entries: &[Entry],
-    runner: &Runner<'_>,
-    latest: &LatestSteps,
+    record: &Record<'_>,
     lines: &[StepLine],
 ) -> Result<(), AllocError>
-    requires followed { Followed world.now entries.now runner.now }
-    requires latest { AreLatest world.now entries.now (length entries.now) latest.now.entries }
+    requires followed { Followed world.now entries.now record.now.runner }
+    requires latest { AreLatest world.now entries.now (length entries.now) record.now.latest.entries }
     ensures { OnOk result (out.new ≡ out.old ++ spec.scripts_text world.now entries.now lines.now (enumerate_from 0 world.now.scripts)) }
 {
     let mut left = lines;
     let scripts = world.scripts.as_slice();
     for (number, script) in scripts.iter().enumerate() {
-        let caller = &runner.callers[number];
-        put_script(
-            out,
-            world,
+        let caller = &record.runner.callers[number];
+        let player = Player {
             entries,
+            latest: &record.latest,
             caller,
-            latest,
-            left,
-            number as u32,
+            number: number as u32,
             script,
-        )?;
+        };
+        put_script(out, alloc, world, player, left)?;
         left = behind(left, script.steps.len());
     }
     Ok(())
@@ -90,77 +90,63 @@ fn behind(lines: &[StepLine], count: usize) -> &[StepLine]
 
 fn put_script(
     out: &mut Octets,
+    alloc: Global,
     world: &World,
-    entries: &[Entry],
-    caller: &Caller<'_>,
-    latest: &LatestSteps,
+    player: Player<'_>,
     lines: &[StepLine],
-    number: u32,
-    script: &Script,
 ) -> Result<(), AllocError>
-    requires caller { IsCaller world.now entries.now number caller.now }
-    requires script { slice_get world.now.scripts number ≡ Some script.now }
-    requires latest { AreLatest world.now entries.now (length entries.now) latest.now.entries }
-    ensures { OnOk result (out.new ≡ out.old ++ spec.script_text world.now entries.now lines.now (number, script.now)) }
+    requires caller { IsCaller world.now player.entries.now player.number player.caller.now }
+    requires script { slice_get world.now.scripts player.number ≡ Some player.script.now }
+    requires latest { AreLatest world.now player.entries.now (length player.entries.now) player.latest.now.entries }
+    ensures { OnOk result (out.new ≡ out.old ++ spec.script_text world.now player.entry.entries.now lines.now (player.entry.number, player.entry.script.now)) }
 {
-    let finished = answered(caller);
-    for step in 0..script.steps.len() {
-        put_step(
-            out, world, entries, caller, latest, lines, number, script, finished, step,
-        )?;
+    for step in 0..player.script.steps.len() {
+        put_step(out, alloc, world, player, lines, step)?;
     }
     Ok(())
 }
 
-// The line of a step of a script with so many answered ones.
+// The line of a step of a script.
 fn put_step(
     out: &mut Octets,
+    alloc: Global,
     world: &World,
-    entries: &[Entry],
-    caller: &Caller<'_>,
-    latest: &LatestSteps,
+    player: Player<'_>,
     lines: &[StepLine],
-    number: u32,
-    script: &Script,
-    answered: usize,
     step: usize,
 ) -> Result<(), AllocError>
-    requires caller { IsCaller world.now entries.now number caller.now }
-    requires script { slice_get world.now.scripts number ≡ Some script.now }
-    requires latest { AreLatest world.now entries.now (length entries.now) latest.now.entries }
-    requires answered { answered ≡ answered_by world.now entries.now (number, script.now) }
-    ensures { OnOk result (out.new ≡ out.old ++ spec.step_text world.now entries.now lines.now (number, script.now) step) }
+    requires caller { IsCaller world.now player.entries.now player.number player.caller.now }
+    requires script { slice_get world.now.scripts player.number ≡ Some player.script.now }
+    requires latest { AreLatest world.now player.entries.now (length player.entries.now) player.latest.now.entries }
+    ensures { OnOk result (out.new ≡ out.old ++ spec.step_text world.now player.entry.entries.now lines.now (player.entry.number, player.entry.script.now) step) }
 {
-    put_place(out, lines, step, number)?;
+    put_place(out, lines, step, player.number)?;
     out.append(b": ")?;
-    put_state(
-        out, world, entries, caller, latest, number, script, answered, step,
-    )?;
+    put_state(out, alloc, world, player, step)?;
     out.append(b"\n")
 }
 
-// What became of a step of a script with so many answered ones.
+// What became of a step of a script.
 fn put_state(
     out: &mut Octets,
+    alloc: Global,
     world: &World,
-    entries: &[Entry],
-    caller: &Caller<'_>,
-    latest: &LatestSteps,
-    number: u32,
-    script: &Script,
-    answered: usize,
+    player: Player<'_>,
     step: usize,
 ) -> Result<(), AllocError>
-    requires caller { IsCaller world.now entries.now number caller.now }
-    requires script { slice_get world.now.scripts number ≡ Some script.now }
-    requires latest { AreLatest world.now entries.now (length entries.now) latest.now.entries }
-    ensures { OnOk result (out.new ≡ out.old ++ spec.state_by answered world.now entries.now (number, script.now) step) }
+    requires caller { IsCaller world.now player.entries.now player.number player.caller.now }
+    requires script { slice_get world.now.scripts player.number ≡ Some player.script.now }
+    requires latest { AreLatest world.now player.entries.now (length player.entries.now) player.latest.now.entries }
+    ensures { OnOk result (out.new ≡ out.old ++ spec.state_text world.now player.entry.entries.now (player.entry.number, player.entry.script.now) step) }
 {
-    if step < answered {
-        return put_answered(out, entries, latest_at(latest, (number, step)));
+    let finished = answered(player.caller);
+    if step < finished {
+        let latest = latest_at(player.latest, (player.number, step));
+        let opens = is_ropen(player.script.steps.as_slice(), step);
+        return put_answered(out, alloc, opens, player.entries, latest);
     }
-    if step == answered {
-        return put_waiting(out, owes(caller), &caller.next);
+    if step == finished {
+        return put_waiting(out, owes(player.caller), &player.caller.next);
     }
     out.append(b"ahead")
 }

@@ -11,9 +11,9 @@ use Rattle.net_base.specs.declared.headers.Heard.{Heard}
 use Rattle.net_base.specs.Paths.{walk, reads, writes}
 use Rattle.net_base.specs.Steps as steps
 use Rattle.net_base.specs.Steps.{Names, Fid, Play, Ends, fid_of, is_bound, puts, uses, misuses, on_fid}
-use Rattle.script_task.specs.declared.request.Request.TheVariants as request
+use Rattle.net_base.specs.declared.request.Request.TheVariants as request
 use Rattle.net_base.specs.Asks as asked
-use Rattle.script_task.specs.Requests.{head, planned}
+use Rattle.net_base.specs.Requests.{head, planned}
 
 pub open_is : (h : ℕ) (names : Names) (called path : List ℕ) (m : Mode) → planned h names (request.Open called path m) ≡ Some (asked.opens_path h names called path m)
 open_is h names called path m = by (is_bound names called)

@@ -1,4 +1,3 @@
-pub mod ConvReplies
 pub mod DirReplies
 pub mod Replies
 pub mod Events

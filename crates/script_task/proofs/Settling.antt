@@ -6,11 +6,11 @@ use Rattle.net_base.specs.declared.reply.Reply.{Reply}
 use Rattle.net_base.specs.Paths.{walk}
 use Rattle.net_base.specs.Steps.{Bound, Names, Fid, fid_among, fid_of, is_bound, bind, unbind, without, openable, opened_fid}
 use Rattle.script_task.specs.Holdings.{Holdings, holdings}
-use Rattle.script_task.specs.declared.request.Request.{Request}
-use Rattle.script_task.specs.declared.request.Request.TheVariants as request
+use Rattle.net_base.specs.declared.request.Request.{Request}
+use Rattle.net_base.specs.declared.request.Request.TheVariants as request
 use Rattle.script_task.specs.declared.effect.Effect.TheVariants.{Keeps}
 use Rattle.script_task.specs.Effects.{effect_of, opens_as, closes, opened, settles}
-use Rattle.script_task.specs.Requests.{settled, bound_after}
+use Rattle.net_base.specs.Requests.{settled, bound_after}
 
 without_free : (called : List ℕ) (bound : List Bound) → fid_among called bound ≡ None → without called bound ≡ bound
 without_free called [] free = refl

@@ -12,8 +12,8 @@ use Rattle.net_base.specs.Steps.{Names, Fid, fid_of, is_bound, bind, unbind, hea
 use Rattle.script_task.specs.Holdings.{Holdings, holdings}
 use Rattle.script_task.specs.declared.effect.Effect.{Effect}
 use Rattle.script_task.specs.declared.effect.Effect.TheVariants.{Opens, Closes, Hears, Keeps}
-use Rattle.script_task.specs.declared.request.Request.{Request}
-use Rattle.script_task.specs.declared.request.Request.TheVariants as request
+use Rattle.net_base.specs.declared.request.Request.{Request}
+use Rattle.net_base.specs.declared.request.Request.TheVariants as request
 
 abbrev pub opens_as : List ℕ → Mode → Option Node → Effect
 opens_as called m None = Keeps

@@ -4,8 +4,8 @@ use Rattle.net_base.specs.declared.names.Mode.{Mode}
 use Rattle.net_base.specs.Steps.{Ask}
 use Rattle.script_task.specs.declared.effect.Effect.TheVariants.{Keeps}
 use Rattle.script_task.specs.declared.planned.Planned.{Planned}
-use Rattle.script_task.specs.declared.request.Request.{Request}
-use Rattle.script_task.specs.declared.request.Request.TheVariants as request
+use Rattle.net_base.specs.declared.request.Request.{Request}
+use Rattle.net_base.specs.declared.request.Request.TheVariants as request
 
 -- the event at its actor
 abbrev pub ask_of : Planned → Ask

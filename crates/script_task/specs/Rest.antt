@@ -5,7 +5,7 @@ use Rattle.net_base.specs.declared.world.Script.{Script}
 use Rattle.net_base.specs.Scripts.{at_first, position}
 use Rattle.net_base.specs.Steps.{Play}
 use Rattle.net_base.specs.Versions.{Tuples}
-use Rattle.script_task.specs.Requests.{head}
+use Rattle.net_base.specs.Requests.{head}
 use Rattle.script_task.specs.Task.{follow}
 
 abbrev pub rest : Play → List Reply → Play

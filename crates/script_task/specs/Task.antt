@@ -2,8 +2,8 @@
 use Rattle.std.specs.Prelude.{◌≡◌, ℕ, Bool, true, List, Option, Some, None}
 use Rattle.net_base.specs.declared.reply.Reply.{Reply}
 use Rattle.net_base.specs.Steps.{Ask, Names, Play, Asks, Ends}
-use Rattle.script_task.specs.declared.request.Request.{Request}
-use Rattle.script_task.specs.Requests.{head, planned, settled}
+use Rattle.net_base.specs.declared.request.Request.{Request}
+use Rattle.net_base.specs.Requests.{head, planned, settled}
 use Rattle.script_task.specs.Fitting.{fits}
 
 -- the request is the play's next event, and none is its end with these names

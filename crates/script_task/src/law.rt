@@ -10,10 +10,10 @@ ghost use Rattle.net_base.specs.Legal.{IsLegal};
 ghost use Rattle.net_base.specs.Net.{Play, after, played};
 ghost use Rattle.net_base.specs.declared.reply.Reply.{Reply};
 ghost use Rattle.script_task.specs.Holdings.{Holdings};
-ghost use Rattle.script_task.specs.declared.request.Request.{Request};
+ghost use Rattle.net_base.specs.declared.request.Request.{Request};
 ghost use Rattle.script_task.specs.Effects.{effect_of, opened, settles};
 ghost use Rattle.script_task.specs.Fitting.{fits};
-ghost use Rattle.script_task.specs.Requests.{settled};
+ghost use Rattle.net_base.specs.Requests.{settled};
 
 /// Each entry of a legal history has a reply that fits its event, and so has each step of an actor as it is after any
 /// history, or after any works.

@@ -8,14 +8,13 @@ mod names_after;
 mod paths;
 mod planned;
 mod reply;
-mod request;
 mod task;
 
 pub use effect::Effect;
 pub use law::{effects_settle, replies_fit};
 pub use names::Names;
 pub use names_after::settle;
+pub use net_base::Request;
 pub use planned::{Planned, event_of, plan};
 pub use reply::{bytes_in, is_accepted, is_granted, is_opening};
-pub use request::Request;
 pub use task::Task;

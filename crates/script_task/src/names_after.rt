@@ -5,8 +5,7 @@ ghost use Rattle.script_task.specs.Requests as spec;
 use crate::effect::{bind_free, opened_fid};
 use crate::names::Names;
 use crate::paths::openable;
-use crate::request::Request;
-use net_base::{Mode, Octets, Reply};
+use net_base::{Mode, Octets, Reply, Request};
 use std::alloc::AllocError;
 
 /// The names after the reply to the event of a request. Without memory they are as before.

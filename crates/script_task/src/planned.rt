@@ -6,14 +6,13 @@ ghost use Rattle.net_tree.specs.Bindings.{file_of};
 ghost use Rattle.script_task.specs.Effects as effects;
 ghost use Rattle.net_base.specs.Asks as asked;
 ghost use Rattle.script_task.specs.Planning as spec;
-ghost use Rattle.script_task.specs.Requests as requests;
+ghost use Rattle.net_base.specs.Requests as requests;
 
 use crate::effect::Effect;
 use crate::names::Names;
 use crate::paths::{ls_actor, ls_event, node_of, open_actor, open_event, openable};
-use crate::request::Request;
 use ctl_words::read_ctl;
-use net_base::{ActorName, Ctl, Event, FileName, Heard, Mode, Node, Octets};
+use net_base::{ActorName, Ctl, Event, FileName, Heard, Mode, Node, Octets, Request};
 use net_tree::Fid;
 use std::alloc::AllocError;
 

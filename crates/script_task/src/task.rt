@@ -2,12 +2,11 @@
 ghost use Rattle.std.specs.Prelude.{◌≡◌, ℕ, List, Option, IfOk, OnOk, OnErr, is_none};
 ghost use Rattle.net_base.specs.Steps.{Names as AnyNames, Play};
 ghost use Rattle.net_base.specs.declared.reply.Reply.{Reply};
-ghost use Rattle.script_task.specs.declared.request.Request.{Request};
+ghost use Rattle.net_base.specs.declared.request.Request.{Request};
 ghost use Rattle.script_task.specs.Task.{AsksSo, MovesSo};
 
 use crate::names::Names;
-use crate::request::Request;
-use net_base::Reply;
+use net_base::{Reply, Request};
 use std::alloc::{AllocError, Global};
 
 /// A step that is being played.

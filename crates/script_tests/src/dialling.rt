@@ -1,6 +1,6 @@
 //! Steps along their accepted and their refused replies, and completed addresses.
 use crate::holding::no_names;
-use dial_lib::{Accept, Announce, Dial, Listen, Reject, netmkaddr};
+use dial_lib::{Announce, Beside, Dial, Reject, netmkaddr};
 use net_base::{Addr, FileName, Left, Lines, Mode, Octets, Pair, Proto, Reply, Step};
 use net_tree::Fid;
 use script_task::{Names, Request, Task, settle};
@@ -402,14 +402,14 @@ fn announces(alloc: Global, row: Alone<'_>) -> Result<bool, AllocError> {
 }
 
 fn listens(alloc: Global, row: Alone<'_>) -> Result<bool, AllocError> {
-    let mut task = Listen::new(alloc, row.name, row.other)?;
+    let mut task = Beside::listen(alloc, row.name, row.other)?;
     let met = plays(alloc, &mut task, row.letters, row.wanted);
     drop(task);
     met
 }
 
 fn accepts(alloc: Global, row: Alone<'_>) -> Result<bool, AllocError> {
-    let mut task = Accept::new(alloc, row.name, row.other)?;
+    let mut task = Beside::accept(alloc, row.name, row.other)?;
     let met = plays(alloc, &mut task, row.letters, row.wanted);
     drop(task);
     met

@@ -18,12 +18,12 @@ use Rattle.net_base.specs.Paths.{reads, walk, writes}
 use Rattle.net_base.specs.Steps.{uses, misuses, ends_with, read_event, opens, Ask, Asks, Bound, Ends, Fid, Names, Play, bind, controls, conversation_of, fid_among, fid_of, if_accepted, is_accepted, is_bound, on_fid, open_event, openable, opened_fid, play_of, puts, unbind, without}
 use Rattle.net_base.specs.Server.{Doing, Waits, doing_of, outcome}
 use Rattle.net_base.specs.Session.{State}
-use Rattle.script_task.specs.declared.request.Request.{Request}
+use Rattle.net_base.specs.declared.request.Request.{Request}
 use Rattle.script_task.specs.declared.effect.Effect.{Effect}
 use Rattle.script_task.specs.declared.planned.Planned.{Planned}
 use Rattle.script_task.specs.Effects.{effect_of, opened, settles}
 use Rattle.script_task.specs.Planning.{ask_of}
-use Rattle.script_task.specs.Requests.{bound_after, head, planned, request_play, settled}
+use Rattle.net_base.specs.Requests.{bound_after, head, planned, request_play, settled}
 use Rattle.script_task.specs.Holdings.{Holdings}
 use Rattle.session_answers.specs.Served.{IsServed, Plays, asked, is_grant}
 

@@ -9,8 +9,8 @@ use Rattle.net_base.specs.declared.world.Step.TheVariants as step
 use Rattle.net_base.specs.Next.{own_replies}
 use Rattle.net_base.specs.Steps.{Names, play_of}
 use Rattle.net_base.specs.declared.ninep.Tmsg.{Tmsg}
-use Rattle.script_task.specs.declared.request.Request.{Request}
-use Rattle.script_task.specs.declared.request.Request.TheVariants as request
+use Rattle.net_base.specs.declared.request.Request.{Request}
+use Rattle.net_base.specs.declared.request.Request.TheVariants as request
 use Rattle.session_script.specs.Seen.{seen}
 use Rattle.net_base.specs.SessionScript.{Begins, IsStream, after}
 use Rattle.net_base.specs.Server.{Answered, Doing, Outcome, Waits, answers_to, doing_of, outcome}

@@ -1,7 +1,7 @@
 //! The answers to messages with a step, by the reply to its last event.
 ghost use Rattle.std.specs.Prelude.{◌≡◌, ◌≤◌, false, length, IfOk, OnOk};
 ghost use Rattle.net_base.specs.declared.ninep.Tmsg.TheVariants as t;
-ghost use Rattle.net_base.specs.NinepMessages.{IsTmsg, longest, r_bytes, t_tag};
+ghost use Rattle.net_base.specs.NinepMessages.{IsTmsg, longest, r_bytes};
 ghost use Rattle.net_base.specs.SessionAnswers as spec;
 ghost use Rattle.session_answers.specs.Told as told;
 ghost use Rattle.session_answers.specs.Told.{told_by, told_text};
@@ -10,7 +10,7 @@ ghost use Rattle.session_script.specs.Seen.{seen};
 use crate::printed::{is_brief, printed};
 use crate::said::{error, piece, qid_of};
 use net_base::{FileName, Node, Octets, Reply};
-use ninep_wire::{Rmsg, Tmsg, encode_r};
+use ninep_wire::{Rmsg, Tmsg, encode_r, tag_of};
 use script_task::bytes_in;
 use session_script::{Table, is_data};
 use std::alloc::{AllocError, Global};
@@ -139,25 +139,4 @@ fn read(
     };
     let bytes = Octets::from_slice(alloc, piece(bytes_in(reply), skipped, table.room(count)))?;
     Ok(Rmsg::Read { tag, bytes })
-}
-
-// The tag of a request.
-fn tag_of(message: &Tmsg) -> u16
-    ensures { result ≡ t_tag message.now }
-{
-    match message {
-        Tmsg::Version { tag, .. } => *tag,
-        Tmsg::Auth { tag, .. } => *tag,
-        Tmsg::Attach { tag, .. } => *tag,
-        Tmsg::Flush { tag, .. } => *tag,
-        Tmsg::Walk { tag, .. } => *tag,
-        Tmsg::Open { tag, .. } => *tag,
-        Tmsg::Create { tag, .. } => *tag,
-        Tmsg::Read { tag, .. } => *tag,
-        Tmsg::Write { tag, .. } => *tag,
-        Tmsg::Clunk { tag, .. } => *tag,
-        Tmsg::Remove { tag, .. } => *tag,
-        Tmsg::Stat { tag, .. } => *tag,
-        Tmsg::Wstat { tag, .. } => *tag,
-    }
 }

@@ -23,8 +23,8 @@ use Rattle.net_export.specs.Exporting as export
 use Rattle.net_import.specs.Errands as errand
 use Rattle.net_import.specs.Ropening as ropen
 use Rattle.net_import.specs.Talks as talk
-use Rattle.script_task.specs.declared.request.Request.{Request}
-use Rattle.script_task.specs.declared.request.Request.TheVariants as request
+use Rattle.net_base.specs.declared.request.Request.{Request}
+use Rattle.net_base.specs.declared.request.Request.TheVariants as request
 use Rattle.step_task.specs.declared.step.StepTask.{StepTask}
 use Rattle.step_task.specs.declared.step.StepTask.TheVariants as task
 use Rattle.step_task.specs.StepTasks as spec
@@ -41,8 +41,7 @@ kind_after (task.OneRequest t) r = refl
 kind_after (task.WriteText t) r = refl
 kind_after (task.Dial t) r = refl
 kind_after (task.Announce t) r = refl
-kind_after (task.Listen t) r = refl
-kind_after (task.Accept t) r = refl
+kind_after (task.Beside t) r = refl
 kind_after (task.Reject t) r = refl
 kind_after (task.Hread t) r = refl
 kind_after (task.Hwrite t) r = refl
@@ -63,8 +62,7 @@ leaves_none (task.OneRequest t) left is = refl
 leaves_none (task.WriteText t) left is = refl
 leaves_none (task.Dial t) left is = refl
 leaves_none (task.Announce t) left is = refl
-leaves_none (task.Listen t) left is = refl
-leaves_none (task.Accept t) left is = refl
+leaves_none (task.Beside t) left is = refl
 leaves_none (task.Reject t) left is = refl
 leaves_none (task.Hread t) left is = refl
 leaves_none (task.Hwrite t) left is = refl
@@ -360,7 +358,7 @@ own_none left (step.Export called) is = unbound_none called (not (is_dotted call
 own_none left (step.Import call) is = refl
 own_none left (step.Ropen called call path m) is = absurd (true≢false is)
 own_none left (step.Rread called count) is = refl
-own_none left (step.Rwrite called text) is = unbound_none called (nat_le (length text) longest_text) (task.Rwrite (record { errand = errand.writes called text left })) refl
+own_none left (step.Rwrite called text) is = unbound_none called (nat_le (length text) longest_text) (task.Rwrite (errand.writes called text left)) refl
 own_none left (step.Rclose called) is = absurd (true≢false is)
 
 begun_none : (left : Left) (s : Step) (o : Option (List ℕ)) → is_leaving s ≡ false → leaves_something (spec.begun_by left s o) ≡ false

@@ -5,7 +5,6 @@ use Rattle.std.proofs.lemmas.Bool.{true≢false}
 use Rattle.net_base.specs.declared.left.Left.{Left}
 use Rattle.net_base.specs.declared.left.Remote.{Remote}
 use Rattle.net_base.specs.declared.names.FileName.{FileName}
-use Rattle.net_base.specs.declared.names.FileName.TheVariants as file
 use Rattle.net_base.specs.declared.ninep.Tmsg.{Tmsg}
 use Rattle.net_base.specs.declared.names.Mode.{Mode}
 use Rattle.net_base.specs.declared.reply.Reply.{Reply}
@@ -60,9 +59,9 @@ use Rattle.net_import.specs.ImportLaws as import_laws
 use Rattle.net_import.specs.RopenLaws as ropen_laws
 use Rattle.net_import.specs.Ropening as ropen
 use Rattle.net_import.specs.Talks as talk
-use Rattle.script_task.specs.declared.request.Request.{Request}
-use Rattle.script_task.specs.declared.request.Request.TheVariants as request
-use Rattle.script_task.specs.Requests.{settled, bound_after}
+use Rattle.net_base.specs.declared.request.Request.{Request}
+use Rattle.net_base.specs.declared.request.Request.TheVariants as request
+use Rattle.net_base.specs.Requests.{settled, bound_after}
 use Rattle.script_task.specs.Task.{Heads, AsksSo, MovesSo, follow, fits_play}
 
 -- Steps of one request.
@@ -101,8 +100,8 @@ begins_own h names left (step.Until moment) slots free = IsFresh (_, refl, λ r.
 begins_own h names left step.Refresh slots free = IsFresh (_, refl, λ r. refl)
 begins_own h names left (step.Dial called address) slots free = dial.IsFresh []
 begins_own h names left (step.Announce called address) slots free = announce.IsFresh []
-begins_own h names left (step.Listen called from) slots free = beside.IsFresh slots
-begins_own h names left (step.Accept called from) slots free = beside.IsFresh slots
+begins_own h names left (step.Listen called from) slots free = beside.IsFresh slots refl
+begins_own h names left (step.Accept called from) slots free = beside.IsFresh slots refl
 begins_own h names left (step.Reject called) slots free = reject.IsWrite
 begins_own h names left (step.Hangup called) slots free = write_text.IsWrite
 begins_own h names left (step.Hread called count) slots free = call.IsFresh names _ _ slots
@@ -124,7 +123,7 @@ begins_own h names left (step.Rread called count) slots free = errand_laws.rread
 begins_own h names left (step.Rwrite called text) slots free = rwrite_by (nat_le (length text) longest_text) refl
   where
     rwrite_by : (b : Bool) → nat_le (length text) longest_text ≡ b
-        → spec.stands_by h names (spec.or_unbound called b (task.Rwrite (record { errand = errand.writes called text left }))) (rwrite_play h left called text names)
+        → spec.stands_by h names (spec.or_unbound called b (task.Rwrite (errand.writes called text left))) (rwrite_play h left called text names)
     rwrite_by true is = errand_laws.rwrite_begins h names called text left is
     rwrite_by false is = rw is (IsFresh (_, refl, λ r. refl))
 begins_own h names left (step.Rclose called) slots free = errand_laws.rclose_begins h names called left
@@ -159,8 +158,7 @@ asks_by h names (task.OneRequest t) p stands = one_request_laws.asks_so h names 
 asks_by h names (task.WriteText t) p stands = write_text_laws.asks_so h names t p stands
 asks_by h names (task.Dial t) p stands = dial_laws.asks_so h names t p stands
 asks_by h names (task.Announce t) p stands = announce_laws.asks_so h names t p stands
-asks_by h names (task.Listen t) p stands = beside_laws.listen_asks_so h names t p stands
-asks_by h names (task.Accept t) p stands = beside_laws.accept_asks_so h names t p stands
+asks_by h names (task.Beside t) p stands = beside_laws.asks_so h names t p stands
 asks_by h names (task.Reject t) p stands = reject_laws.asks_so h names t p stands
 asks_by h names (task.Hread t) p stands = hread_laws.asks_so h names t p stands
 asks_by h names (task.Hwrite t) p stands = hwrite_laws.asks_so h names t p stands
@@ -168,8 +166,8 @@ asks_by h names (task.Dns t) p stands = dns_laws.asks_so h names t p stands
 asks_by h names (task.Export t) p stands = export_laws.asks_so h names t p stands
 asks_by h names (task.Import t) p stands = import_laws.asks_so h names t p stands
 asks_by h names (task.Ropen t) p stands = ropen_laws.asks_so h names t p stands
-asks_by h names (task.Rread t) p stands = errand_laws.asks_so h names t.errand p stands
-asks_by h names (task.Rwrite t) p stands = errand_laws.asks_so h names t.errand p stands
+asks_by h names (task.Rread t) p stands = errand_laws.asks_so h names t p stands
+asks_by h names (task.Rwrite t) p stands = errand_laws.asks_so h names t p stands
 asks_by h names (task.Rclose t) p stands = errand_laws.asks_so h names t.errand p stands
 
 pub asks_so : AsksSo StepTask spec.asks spec.StandsFor
@@ -181,8 +179,7 @@ moves_by h names (task.OneRequest t) p q r stands asked fit = one_request_laws.m
 moves_by h names (task.WriteText t) p q r stands asked fit = write_text_laws.moves_so h names t p q r stands asked fit
 moves_by h names (task.Dial t) p q r stands asked fit = dial_laws.moves_so h names t p q r stands asked fit
 moves_by h names (task.Announce t) p q r stands asked fit = announce_laws.moves_so h names t p q r stands asked fit
-moves_by h names (task.Listen t) p q r stands asked fit = beside_laws.listen_moves_so h names t p q r stands asked fit
-moves_by h names (task.Accept t) p q r stands asked fit = beside_laws.accept_moves_so h names t p q r stands asked fit
+moves_by h names (task.Beside t) p q r stands asked fit = beside_laws.moves_so h names t p q r stands asked fit
 moves_by h names (task.Reject t) p q r stands asked fit = reject_laws.moves_so h names t p q r stands asked fit
 moves_by h names (task.Hread t) p q r stands asked fit = hread_laws.moves_so h names t p q r stands asked fit
 moves_by h names (task.Hwrite t) p q r stands asked fit = hwrite_laws.moves_so h names t p q r stands asked fit
@@ -190,8 +187,8 @@ moves_by h names (task.Dns t) p q r stands asked fit = dns_laws.moves_so h names
 moves_by h names (task.Export t) p q r stands asked fit = export_laws.moves_so h names t p q r stands asked fit
 moves_by h names (task.Import t) p q r stands asked fit = import_laws.moves_so h names t p q r stands asked fit
 moves_by h names (task.Ropen t) p q r stands asked fit = ropen_laws.moves_so h names t p q r stands asked fit
-moves_by h names (task.Rread t) p q r stands asked fit = errand_laws.moves_so h names t.errand p q r stands asked fit
-moves_by h names (task.Rwrite t) p q r stands asked fit = errand_laws.moves_so h names t.errand p q r stands asked fit
+moves_by h names (task.Rread t) p q r stands asked fit = errand_laws.moves_so h names t p q r stands asked fit
+moves_by h names (task.Rwrite t) p q r stands asked fit = errand_laws.moves_so h names t p q r stands asked fit
 moves_by h names (task.Rclose t) p q r stands asked fit = errand_laws.moves_so h names t.errand p q r stands asked fit
 
 moves_slots : (h : ℕ) (names : Names) (t : StepTask) (p : Play) (q : Request) (r : Reply) → spec.StandsFor h names t p → spec.asks t names ≡ Some q → fits_play p r ≡ true → HaveSlots (settled names q r)
@@ -272,7 +269,7 @@ begun_own_asks left (step.Ropen called call path m) names =
     (ropen_some (talk.asks (ropen.begun called call path m left).talk) (ropen.is_beginning (ropen.begun called call path m left) && ropen.is_taken (ropen.begun called call path m left) names) called refl)
 begun_own_asks left (step.Rread called count) names = errand_some called (remote_of called left) (λ (fid : ℕ). read_message fid count) names
 begun_own_asks left (step.Rwrite called text) names =
-    unbound_asks called (nat_le (length text) longest_text) (task.Rwrite (record { errand = errand.writes called text left })) names
+    unbound_asks called (nat_le (length text) longest_text) (task.Rwrite (errand.writes called text left)) names
     (errand_some called (remote_of called left) (λ (fid : ℕ). write_message fid text) names)
 begun_own_asks left (step.Rclose called) names = errand_some called (remote_of called left) clunk_message names
 
@@ -367,8 +364,7 @@ pub asks_alike : (t : StepTask) (m n : Names) → is_none (spec.asks t m) ≡ is
 asks_alike (task.OneRequest t) m n = refl
 asks_alike (task.WriteText t) m n = refl
 asks_alike (task.Reject t) m n = refl
-asks_alike (task.Listen t) m n = beside_alike file.Listen t.name t.from t.is_through m n
-asks_alike (task.Accept t) m n = beside_alike file.Data t.name t.from t.is_through m n
+asks_alike (task.Beside t) m n = beside_alike t.file t.name t.from t.is_through m n
 asks_alike (task.Announce t) m n = announce_alike t.phase t.name t.address t.lines m n
 asks_alike (task.Dial t) m n = dial_alike t.phase t.called t.address t.lines m n
 asks_alike (task.Hread t) m n = call_alike t.phase t.name (Some (hread.reads t)) m n
@@ -378,6 +374,6 @@ asks_alike (task.Dns t) m n = dns_alike t.phase t.name t.message m n
 asks_alike (task.Export t) m n = refl
 asks_alike (task.Import t) m n = refl
 asks_alike (task.Ropen t) m n = ropen_alike (talk.asks t.talk) (ropen.is_beginning t && ropen.is_taken t m) (ropen.is_beginning t && ropen.is_taken t n) t.name
-asks_alike (task.Rread t) m n = errand_alike t.errand m n
-asks_alike (task.Rwrite t) m n = errand_alike t.errand m n
+asks_alike (task.Rread t) m n = errand_alike t m n
+asks_alike (task.Rwrite t) m n = errand_alike t m n
 asks_alike (task.Rclose t) m n = errand_alike t.errand m n

@@ -1,6 +1,7 @@
 -- The task of a step: what it begins with, its requests, what a reply makes of it, and the plays that it stands for.
 use Rattle.std.specs.Prelude.{ℕ, Bool, true, false, List, [], ◌∷◌, Option, Some, None, find, is_none, length, nat_le, not, codes, unwrap_or, if◌then◌else◌}
 use Rattle.net_base.specs.declared.left.Left.{Left}
+use Rattle.net_base.specs.declared.names.FileName.TheVariants as file
 use Rattle.net_base.specs.declared.reply.Reply.{Reply}
 use Rattle.net_base.specs.declared.world.Step.{Step}
 use Rattle.net_base.specs.declared.world.Step.TheVariants as step
@@ -13,13 +14,12 @@ use Rattle.net_base.specs.Steps.{Names, Play, default_mode, no_names}
 use Rattle.step_task.specs.declared.step.StepTask.{StepTask}
 use Rattle.step_task.specs.declared.step.StepTask.TheVariants as task
 use Rattle.dial_lib.specs.declared.write_text.WritePhase.TheVariants as write_phase
-use Rattle.dial_lib.specs.Accept as accept
 use Rattle.dial_lib.specs.Announce as announce
+use Rattle.dial_lib.specs.Beside as beside
 use Rattle.dial_lib.specs.Dials as dial
 use Rattle.dial_lib.specs.Dns as dns
 use Rattle.dial_lib.specs.Hread as hread
 use Rattle.dial_lib.specs.Hwrite as hwrite
-use Rattle.dial_lib.specs.Listen as listen
 use Rattle.dial_lib.specs.OneRequest as one_request
 use Rattle.dial_lib.specs.Reject as reject
 use Rattle.dial_lib.specs.Slots.{HaveSlots}
@@ -28,8 +28,8 @@ use Rattle.net_export.specs.Exporting as export
 use Rattle.net_import.specs.Errands as errand
 use Rattle.net_import.specs.Importing as import
 use Rattle.net_import.specs.Ropening as ropen
-use Rattle.script_task.specs.declared.request.Request.{Request}
-use Rattle.script_task.specs.declared.request.Request.TheVariants as request
+use Rattle.net_base.specs.declared.request.Request.{Request}
+use Rattle.net_base.specs.declared.request.Request.TheVariants as request
 
 -- The beginning.
 
@@ -57,8 +57,8 @@ begun_own left (step.Until moment) = asks_once (request.Until moment)
 begun_own left step.Refresh = asks_once request.Refresh
 begun_own left (step.Dial called address) = task.Dial (dial.begun called address)
 begun_own left (step.Announce called address) = task.Announce (announce.begun called address)
-begun_own left (step.Listen called from) = task.Listen (listen.begun called from)
-begun_own left (step.Accept called from) = task.Accept (accept.begun called from)
+begun_own left (step.Listen called from) = task.Beside (beside.begun file.Listen called from)
+begun_own left (step.Accept called from) = task.Beside (beside.begun file.Data called from)
 begun_own left (step.Reject called) = task.Reject (reject.begun called)
 begun_own left (step.Hangup called) = writes_text called (codes "hangup")
 begun_own left (step.Hread called count) = task.Hread (hread.begun called count)
@@ -68,8 +68,8 @@ begun_own left (step.Dns called times) = task.Dns (dns.begun called times)
 begun_own left (step.Export called) = or_unbound called (not (is_dotted called)) (task.Export (export.begun called))
 begun_own left (step.Import call) = task.Import (import.begun call)
 begun_own left (step.Ropen called call path m) = or_unbound called (is_remote_path path) (task.Ropen (ropen.begun called call path m left))
-begun_own left (step.Rread called count) = task.Rread (record { errand = errand.reads called count left })
-begun_own left (step.Rwrite called text) = or_unbound called (nat_le (length text) longest_text) (task.Rwrite (record { errand = errand.writes called text left }))
+begun_own left (step.Rread called count) = task.Rread (errand.reads called count left)
+begun_own left (step.Rwrite called text) = or_unbound called (nat_le (length text) longest_text) (task.Rwrite (errand.writes called text left))
 begun_own left (step.Rclose called) = task.Rclose (record { name = called; errand = errand.closes called left })
 
 abbrev pub begun_by : Left → Step → Option (List ℕ) → StepTask
@@ -80,16 +80,6 @@ begun_by left s (Some called) = asks_once (request.Unbound called)
 abbrev pub begun : Left → Step → StepTask
 begun left s = begun_by left s (find (is_remote left) (new_names s))
 
--- the steps over calls
-abbrev pub is_import : Step → Bool
-is_import (step.Export called) = true
-is_import (step.Import call) = true
-is_import (step.Ropen called call path m) = true
-is_import (step.Rread called count) = true
-is_import (step.Rwrite called text) = true
-is_import (step.Rclose called) = true
-is_import _ = false
-
 -- Requests and replies.
 
 -- the next request under these names
@@ -98,8 +88,7 @@ asks (task.OneRequest t) names = one_request.asks t names
 asks (task.WriteText t) names = write_text.asks t names
 asks (task.Dial t) names = dial.asks t names
 asks (task.Announce t) names = announce.asks t names
-asks (task.Listen t) names = listen.asks t names
-asks (task.Accept t) names = accept.asks t names
+asks (task.Beside t) names = beside.asks t names
 asks (task.Reject t) names = reject.asks t names
 asks (task.Hread t) names = hread.asks t names
 asks (task.Hwrite t) names = hwrite.asks t names
@@ -108,8 +97,8 @@ asks (task.Dns t) names = dns.asks t names
 asks (task.Export t) names = export.asks t names
 asks (task.Import t) names = import.asks t names
 asks (task.Ropen t) names = ropen.asks t names
-asks (task.Rread t) names = errand.asks t.errand names
-asks (task.Rwrite t) names = errand.asks t.errand names
+asks (task.Rread t) names = errand.asks t names
+asks (task.Rwrite t) names = errand.asks t names
 asks (task.Rclose t) names = errand.asks t.errand names
 
 -- the task after a reply
@@ -118,8 +107,7 @@ after (task.OneRequest t) r = task.OneRequest (one_request.after t r)
 after (task.WriteText t) r = task.WriteText (write_text.after t r)
 after (task.Dial t) r = task.Dial (dial.after t r)
 after (task.Announce t) r = task.Announce (announce.after t r)
-after (task.Listen t) r = task.Listen (listen.after t r)
-after (task.Accept t) r = task.Accept (accept.after t r)
+after (task.Beside t) r = task.Beside (beside.after t r)
 after (task.Reject t) r = task.Reject (reject.after t r)
 after (task.Hread t) r = task.Hread (hread.after t r)
 after (task.Hwrite t) r = task.Hwrite (hwrite.after t r)
@@ -128,8 +116,8 @@ after (task.Dns t) r = task.Dns (dns.after t r)
 after (task.Export t) r = task.Export (export.after t r)
 after (task.Import t) r = task.Import (import.after t r)
 after (task.Ropen t) r = task.Ropen (ropen.after t r)
-after (task.Rread t) r = task.Rread (record t { errand = errand.after t.errand r })
-after (task.Rwrite t) r = task.Rwrite (record t { errand = errand.after t.errand r })
+after (task.Rread t) r = task.Rread (errand.after t r)
+after (task.Rwrite t) r = task.Rwrite (errand.after t r)
 after (task.Rclose t) r = task.Rclose (record t { errand = errand.after t.errand r })
 
 -- What it leaves for later steps.
@@ -150,8 +138,7 @@ stands_by h names (task.OneRequest t) p = one_request.StandsFor h names t p
 stands_by h names (task.WriteText t) p = write_text.StandsFor h names t p
 stands_by h names (task.Dial t) p = dial.StandsFor h names t p
 stands_by h names (task.Announce t) p = announce.StandsFor h names t p
-stands_by h names (task.Listen t) p = listen.StandsFor h names t p
-stands_by h names (task.Accept t) p = accept.StandsFor h names t p
+stands_by h names (task.Beside t) p = beside.StandsFor h names t p
 stands_by h names (task.Reject t) p = reject.StandsFor h names t p
 stands_by h names (task.Hread t) p = hread.StandsFor h names t p
 stands_by h names (task.Hwrite t) p = hwrite.StandsFor h names t p
@@ -160,8 +147,8 @@ stands_by h names (task.Dns t) p = dns.StandsFor h names t p
 stands_by h names (task.Export t) p = export.StandsFor h names t p
 stands_by h names (task.Import t) p = import.StandsFor h names t p
 stands_by h names (task.Ropen t) p = ropen.StandsFor h names t p
-stands_by h names (task.Rread t) p = errand.StandsFor h names t.errand p
-stands_by h names (task.Rwrite t) p = errand.StandsFor h names t.errand p
+stands_by h names (task.Rread t) p = errand.StandsFor h names t p
+stands_by h names (task.Rwrite t) p = errand.StandsFor h names t p
 stands_by h names (task.Rclose t) p = errand.StandsFor h names t.errand p
 
 -- under names that are bound to files of slots that there are

@@ -10,14 +10,14 @@ ghost use Rattle.net_base.specs.declared.left.Left.{Left as AnyLeft};
 ghost use Rattle.net_base.specs.Remotes.{is_remote};
 ghost use Rattle.net_base.specs.Scripts.{new_names};
 ghost use Rattle.net_import.specs.Ropening as ropening;
-ghost use Rattle.script_task.specs.declared.request.Request.TheVariants as request;
+ghost use Rattle.net_base.specs.declared.request.Request.TheVariants as request;
 ghost use Rattle.step_task.specs.declared.step.StepTask.TheVariants as t;
 ghost use Rattle.step_task.specs.StepTasks as spec;
 
-use dial_lib::{Accept, Announce, Dial, Dns, Hread, Hwrite, Listen, OneRequest, Reject, WriteText};
+use dial_lib::{Announce, Beside, Dial, Dns, Hread, Hwrite, OneRequest, Reject, WriteText};
 use net_base::{FileName, Left, Mode, Node, Octets, Reply, Step};
 use net_export::Export;
-use net_import::{Import, Rclose, Ropen, Rread, Rwrite, is_remote};
+use net_import::{Errand, Import, Rclose, Ropen, is_remote};
 use net_tree::walk;
 use script_task::{Names, Request, Task, is_granted};
 use std::alloc::{AllocError, Global};
@@ -35,8 +35,8 @@ pub enum StepTask {
     WriteText(WriteText),
     Dial(Dial),
     Announce(Announce),
-    Listen(Listen),
-    Accept(Accept),
+    /// `listen` and `accept`
+    Beside(Beside),
     Reject(Reject),
     Hread(Hread),
     Hwrite(Hwrite),
@@ -45,8 +45,8 @@ pub enum StepTask {
     Export(Export),
     Import(Import),
     Ropen(Ropen),
-    Rread(Rread),
-    Rwrite(Rwrite),
+    Rread(Errand),
+    Rwrite(Errand),
     Rclose(Rclose),
 }
 
@@ -104,8 +104,7 @@ impl Task for StepTask {
             StepTask::WriteText(task) => task.next(alloc, fids),
             StepTask::Dial(task) => task.next(alloc, fids),
             StepTask::Announce(task) => task.next(alloc, fids),
-            StepTask::Listen(task) => task.next(alloc, fids),
-            StepTask::Accept(task) => task.next(alloc, fids),
+            StepTask::Beside(task) => task.next(alloc, fids),
             StepTask::Reject(task) => task.next(alloc, fids),
             StepTask::Hread(task) => task.next(alloc, fids),
             StepTask::Hwrite(task) => task.next(alloc, fids),
@@ -125,8 +124,7 @@ impl Task for StepTask {
             StepTask::WriteText(task) => task.is_through(),
             StepTask::Dial(task) => task.is_through(),
             StepTask::Announce(task) => task.is_through(),
-            StepTask::Listen(task) => task.is_through(),
-            StepTask::Accept(task) => task.is_through(),
+            StepTask::Beside(task) => task.is_through(),
             StepTask::Reject(task) => task.is_through(),
             StepTask::Hread(task) => task.is_through(),
             StepTask::Hwrite(task) => task.is_through(),
@@ -146,8 +144,7 @@ impl Task for StepTask {
             StepTask::WriteText(task) => task.told(alloc, reply),
             StepTask::Dial(task) => task.told(alloc, reply),
             StepTask::Announce(task) => task.told(alloc, reply),
-            StepTask::Listen(task) => task.told(alloc, reply),
-            StepTask::Accept(task) => task.told(alloc, reply),
+            StepTask::Beside(task) => task.told(alloc, reply),
             StepTask::Reject(task) => task.told(alloc, reply),
             StepTask::Hread(task) => task.told(alloc, reply),
             StepTask::Hwrite(task) => task.told(alloc, reply),
@@ -241,64 +238,20 @@ fn begin(alloc: Global, step: &Step, left: &Left) -> Result<StepTask, AllocError
         })),
         Step::Write { name, text } => write(name, text),
         Step::Writex { name, text } => write(name, text),
-        Step::Close { name } => Ok(once(Request::Close {
-            name: name.clone()?,
-        })),
-        Step::Ls { path } => Ok(once(Request::Ls {
-            path: path.clone()?,
-        })),
-        Step::Cs { query } => Ok(once(Request::Cs {
-            query: query.clone()?,
-        })),
+        Step::Close { name } => close(name),
+        Step::Ls { path } => list(path),
+        Step::Cs { query } => ask_cs(query),
         Step::Until { moment } => Ok(once(Request::Until { moment: *moment })),
         Step::Refresh => Ok(once(Request::Refresh)),
-        Step::Dial { name, address } => Ok(StepTask::Dial(Dial::new(
-            alloc,
-            name.as_slice(),
-            address.as_slice(),
-        )?)),
-        Step::Announce { name, address } => Ok(StepTask::Announce(Announce::new(
-            alloc,
-            name.as_slice(),
-            address.as_slice(),
-        )?)),
-        Step::Listen { name, from } => Ok(StepTask::Listen(Listen::new(
-            alloc,
-            name.as_slice(),
-            from.as_slice(),
-        )?)),
-        Step::Accept { name, from } => Ok(StepTask::Accept(Accept::new(
-            alloc,
-            name.as_slice(),
-            from.as_slice(),
-        )?)),
+        Step::Dial { name, address } => dial(alloc, name, address),
+        Step::Announce { name, address } => announce(alloc, name, address),
+        Step::Listen { name, from } => listen(alloc, name, from),
+        Step::Accept { name, from } => accept(alloc, name, from),
         Step::Reject { name } => Ok(StepTask::Reject(Reject::new(alloc, name.as_slice())?)),
         Step::Hangup { name } => hang_up(alloc, name),
-        Step::Hread { name, count } => Ok(StepTask::Hread(Hread::new(
-            alloc,
-            name.as_slice(),
-            *count,
-        )?)),
-        Step::Hwrite { name, bytes } => Ok(StepTask::Hwrite(Hwrite::new(
-            alloc,
-            name.as_slice(),
-            bytes.as_slice(),
-        )?)),
+        Step::Hread { name, count } => hread(alloc, name, *count),
+        Step::Hwrite { name, bytes } => hwrite(alloc, name, bytes),
         Step::Dns { name, times } => Ok(StepTask::Dns(Dns::new(alloc, name.as_slice(), *times)?)),
-        Step::Export { .. } => begin_import(alloc, step, left),
-        Step::Import { .. } => begin_import(alloc, step, left),
-        Step::Ropen { .. } => begin_import(alloc, step, left),
-        Step::Rread { .. } => begin_import(alloc, step, left),
-        Step::Rwrite { .. } => begin_import(alloc, step, left),
-        Step::Rclose { .. } => begin_import(alloc, step, left),
-    }
-}
-
-// What a step over a call begins with.
-fn begin_import(alloc: Global, step: &Step, left: &Left) -> Result<StepTask, AllocError>
-    ensures { spec.is_import step.now ≡ true → IfOk result (λ t. t ≡ spec.begun_own left.now step.now) }
-{
-    match step {
         Step::Export { name } => export(alloc, name),
         Step::Import { name } => Ok(StepTask::Import(Import::new(alloc, name.as_slice())?)),
         Step::Ropen {
@@ -307,16 +260,82 @@ fn begin_import(alloc: Global, step: &Step, left: &Left) -> Result<StepTask, All
             path,
             mode,
         } => ropen(alloc, name, call, path, *mode, left),
-        Step::Rread { name, count } => Ok(StepTask::Rread(Rread::new(
-            alloc,
-            name.as_slice(),
-            *count,
-            left,
-        )?)),
+        Step::Rread { name, count } => rread(alloc, name, *count, left),
         Step::Rwrite { name, text } => rwrite(alloc, name, text, left),
-        Step::Rclose { name } => Ok(StepTask::Rclose(Rclose::new(alloc, name.as_slice(), left)?)),
-        _ => Ok(once(Request::Refresh)),
+        Step::Rclose { name } => rclose(alloc, name, left),
     }
+}
+
+fn close(name: &Octets) -> Result<StepTask, AllocError>
+    ensures { IfOk result (λ t. t ≡ spec.asks_once (request.Close name.now)) }
+{
+    Ok(once(Request::Close {
+        name: name.clone()?,
+    }))
+}
+
+fn list(path: &Octets) -> Result<StepTask, AllocError>
+    ensures { IfOk result (λ t. t ≡ spec.asks_once (request.Ls path.now)) }
+{
+    Ok(once(Request::Ls {
+        path: path.clone()?,
+    }))
+}
+
+fn ask_cs(query: &Octets) -> Result<StepTask, AllocError>
+    ensures { IfOk result (λ t. t ≡ spec.asks_once (request.Cs query.now)) }
+{
+    Ok(once(Request::Cs {
+        query: query.clone()?,
+    }))
+}
+
+fn dial(alloc: Global, name: &Octets, address: &Octets) -> Result<StepTask, AllocError>
+    ensures { (left : AnyLeft) → IfOk result (λ t. t ≡ spec.begun_own left (step.Dial name.now address.now)) }
+{
+    Ok(StepTask::Dial(Dial::new(alloc, name.as_slice(), address.as_slice())?))
+}
+
+fn announce(alloc: Global, name: &Octets, address: &Octets) -> Result<StepTask, AllocError>
+    ensures { (left : AnyLeft) → IfOk result (λ t. t ≡ spec.begun_own left (step.Announce name.now address.now)) }
+{
+    Ok(StepTask::Announce(Announce::new(alloc, name.as_slice(), address.as_slice())?))
+}
+
+fn listen(alloc: Global, name: &Octets, from: &Octets) -> Result<StepTask, AllocError>
+    ensures { (left : AnyLeft) → IfOk result (λ t. t ≡ spec.begun_own left (step.Listen name.now from.now)) }
+{
+    Ok(StepTask::Beside(Beside::listen(alloc, name.as_slice(), from.as_slice())?))
+}
+
+fn accept(alloc: Global, name: &Octets, from: &Octets) -> Result<StepTask, AllocError>
+    ensures { (left : AnyLeft) → IfOk result (λ t. t ≡ spec.begun_own left (step.Accept name.now from.now)) }
+{
+    Ok(StepTask::Beside(Beside::accept(alloc, name.as_slice(), from.as_slice())?))
+}
+
+fn hread(alloc: Global, name: &Octets, count: u32) -> Result<StepTask, AllocError>
+    ensures { (left : AnyLeft) → IfOk result (λ t. t ≡ spec.begun_own left (step.Hread name.now count)) }
+{
+    Ok(StepTask::Hread(Hread::new(alloc, name.as_slice(), count)?))
+}
+
+fn hwrite(alloc: Global, name: &Octets, bytes: &Octets) -> Result<StepTask, AllocError>
+    ensures { (left : AnyLeft) → IfOk result (λ t. t ≡ spec.begun_own left (step.Hwrite name.now bytes.now)) }
+{
+    Ok(StepTask::Hwrite(Hwrite::new(alloc, name.as_slice(), bytes.as_slice())?))
+}
+
+fn rread(alloc: Global, name: &Octets, count: u32, left: &Left) -> Result<StepTask, AllocError>
+    ensures { IfOk result (λ t. t ≡ spec.begun_own left.now (step.Rread name.now count)) }
+{
+    Ok(StepTask::Rread(Errand::read(alloc, name.as_slice(), count, left)?))
+}
+
+fn rclose(alloc: Global, name: &Octets, left: &Left) -> Result<StepTask, AllocError>
+    ensures { IfOk result (λ t. t ≡ spec.begun_own left.now (step.Rclose name.now)) }
+{
+    Ok(StepTask::Rclose(Rclose::new(alloc, name.as_slice(), left)?))
 }
 
 // Exports over a call. A name that no world says is asked for alone.
@@ -370,7 +389,7 @@ fn rwrite(alloc: Global, name: &Octets, text: &Octets, left: &Left) -> Result<St
     if LONGEST_TEXT < text.len() {
         return unbound(name);
     }
-    Ok(StepTask::Rwrite(Rwrite::new(alloc, name.as_slice(), text.as_slice(), left)?))
+    Ok(StepTask::Rwrite(Errand::write(alloc, name.as_slice(), text.as_slice(), left)?))
 }
 
 fn unbound(name: &Octets) -> Result<StepTask, AllocError>

@@ -62,7 +62,7 @@ fn put_line(out: &mut Octets, stamp: u64, entry: &Entry) -> Result<(), AllocErro
 {
     put_decimal(out, stamp)?;
     put_entry(out, entry)?;
-    out.append(b"\n")
+    out.push(b'\n')
 }
 
 // What stands behind the stamp.

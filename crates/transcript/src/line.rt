@@ -6,23 +6,8 @@ ghost use Rattle.transcript.specs.Digits.{line_digits};
 
 use net_base::{Lines, Octets};
 use std::alloc::AllocError;
-use words::{put_decimal, put_hex_digits, put_hex_word};
-
-/// A word as it is.
-pub fn put_word(out: &mut Octets, word: &[u8]) -> Result<(), AllocError>
-    ensures { OnOk result (out.new ≡ out.old ++ spaced (word.now ∷ [])) }
-{
-    out.push(b' ')?;
-    out.append(word)
-}
-
-/// A number.
-pub fn put_number(out: &mut Octets, n: u64) -> Result<(), AllocError>
-    ensures { OnOk result (out.new ≡ out.old ++ spaced (numeral n ∷ [])) }
-{
-    out.push(b' ')?;
-    put_decimal(out, n)
-}
+use words::{put_hex_digits, put_hex_word};
+pub use words::{put_number, put_word};
 
 /// A word with a number behind it.
 pub fn put_with_number(out: &mut Octets, word: &[u8], n: u64) -> Result<(), AllocError>

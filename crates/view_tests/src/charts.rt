@@ -30,9 +30,8 @@ const HISTORY: &[u8] =
 6 5 1 conv.1.udp.0 - read 1 8192 = bytes 3c263e
 ";
 
-const PAGE: &[u8] =
-    b"<svg xmlns='http://www.w3.org/2000/svg' width='840' height='264' viewBox='0 0 840 264'>
-<style>
+// How each page looks.
+const STYLE: &[u8] = b"<style>
 text{font:10px monospace;fill:#222}
 line,path{stroke:#357;fill:none}
 .host{font:bold 14px sans-serif;text-anchor:middle}
@@ -47,7 +46,13 @@ line.again{stroke-dasharray:5 3}
 .op{fill:#262}
 </style>
 <rect width='100%' height='100%' fill='#fff'/>
-<text class='host' x='260' y='30'>anna</text>
+";
+
+const SIZE: &[u8] =
+    b"<svg xmlns='http://www.w3.org/2000/svg' width='840' height='264' viewBox='0 0 840 264'>
+";
+
+const PAGE: &[u8] = b"<text class='host' x='260' y='30'>anna</text>
 <line class='life' x1='260' y1='40' x2='260' y2='264'/>
 <text class='host' x='580' y='30'>helix</text>
 <line class='life' x1='580' y1='40' x2='580' y2='264'/>
@@ -79,15 +84,23 @@ fn chart_of_lines(alloc: Global, lines: &[u8]) -> Result<Octets, AllocError> {
     chart_of(alloc, &world, &history)
 }
 
+// Whether a text is this page: its size, the style and what is drawn.
+fn is_page(alloc: Global, text: &Octets, size: &[u8], drawn: &[u8]) -> Result<bool, AllocError> {
+    let mut page = Octets::from_slice(alloc, size)?;
+    page.append(STYLE)?;
+    page.append(drawn)?;
+    Ok(text.as_slice() == page.as_slice())
+}
+
 // Whether these lines are drawn so.
-fn draws(alloc: Global, lines: &[u8], page: &[u8]) -> Result<bool, AllocError> {
+fn draws(alloc: Global, lines: &[u8]) -> Result<bool, AllocError> {
     let text = chart_of_lines(alloc, lines)?;
-    Ok(text.as_slice() == page)
+    is_page(alloc, &text, SIZE, PAGE)
 }
 
 #[test]
 fn copies_and_losses_are_drawn(rt: HostRuntime) {
-    let drawn = draws(rt.alloc(), HISTORY, PAGE);
+    let drawn = draws(rt.alloc(), HISTORY);
     assert_eq!(rt; drawn, Ok(true));
 }
 
@@ -113,24 +126,11 @@ const TALKS: &[u8] = b"0 0 0 dir.0.udp - reserve = slot 0 1
 18 6 1 medium.1 17 put 0 = laid 2
 ";
 
-const TALKS_PAGE: &[u8] =
+const TALKS_SIZE: &[u8] =
     b"<svg xmlns='http://www.w3.org/2000/svg' width='1160' height='440' viewBox='0 0 1160 440'>
-<style>
-text{font:10px monospace;fill:#222}
-line,path{stroke:#357;fill:none}
-.host{font:bold 14px sans-serif;text-anchor:middle}
-.life{stroke:#bbb}
-.moment{stroke:#ddd}
-.when{fill:#888}
-.right{text-anchor:start}
-.left{text-anchor:end}
-.again{stroke:#a60}
-line.again{stroke-dasharray:5 3}
-.lost{stroke:#c22}
-.op{fill:#262}
-</style>
-<rect width='100%' height='100%' fill='#fff'/>
-<text class='host' x='260' y='30'>anna udp/0</text>
+";
+
+const TALKS_PAGE: &[u8] = b"<text class='host' x='260' y='30'>anna udp/0</text>
 <line class='life' x1='260' y1='40' x2='260' y2='440'/>
 <text class='host' x='580' y='30'>helix udp/0</text>
 <line class='life' x1='580' y1='40' x2='580' y2='440'/>
@@ -165,7 +165,7 @@ line.again{stroke-dasharray:5 3}
 ";
 
 // Whether the chart of their conversations is this one.
-fn draws_talks(alloc: Global, lines: &[u8], page: &[u8]) -> Result<bool, AllocError> {
+fn draws_talks(alloc: Global, lines: &[u8]) -> Result<bool, AllocError> {
     let Ok(world) = read_world(alloc, WORLD) else {
         return Err(AllocError);
     };
@@ -173,12 +173,12 @@ fn draws_talks(alloc: Global, lines: &[u8], page: &[u8]) -> Result<bool, AllocEr
         return Err(AllocError);
     };
     let text = chart_of_talks(alloc, &world, &history)?;
-    Ok(text.as_slice() == page)
+    is_page(alloc, &text, TALKS_SIZE, TALKS_PAGE)
 }
 
 #[test]
 fn frames_between_conversations_are_drawn(rt: HostRuntime) {
-    let drawn = draws_talks(rt.alloc(), TALKS, TALKS_PAGE);
+    let drawn = draws_talks(rt.alloc(), TALKS);
     assert_eq!(rt; drawn, Ok(true));
 }
 

@@ -44,10 +44,14 @@ const BOTH: &[u8] = b"0 0 0 dir.0.udp - reserve = slot 0 1
 8 0 0 conv.0.udp.0 - await 1 = ok
 ";
 
-const WRITTEN: &[u8] = b"9 0 1 conv.1.udp.0 - await 1 = ok
+// Both files are open.
+const OPENED: &[u8] = b"9 0 1 conv.1.udp.0 - await 1 = ok
 10 0 0 conv.0.udp.0 - open data rw = opened 1
 11 0 1 conv.1.udp.0 - open data rw = opened 1
-12 0 0 conv.0.udp.0 - write 1 6869 = count 2 + udp 135.104.9.6!5000 135.104.9.31!7 255 0 2
+";
+
+const WRITTEN: &[u8] =
+    b"12 0 0 conv.0.udp.0 - write 1 6869 = count 2 + udp 135.104.9.6!5000 135.104.9.31!7 255 0 2
 ";
 
 const AT_BOTH: &[u8] = b"11 0 open c /net/udp/clone: answered at 0, slot 0
@@ -92,6 +96,55 @@ const AT_REFUSED: &[u8] = b"8 0 open c /net/udp/clone: answered at 0, slot 0
 9 0 write c connect 10.0.0.1!7 5000: refused at 0, noroute
 ";
 
+// Anna opens a file of helix, which answers her walk with an error.
+const OPENER: &[u8] = b"networld 1
+end 60000
+seed 7
+medium ether0 1500
+host anna udp
+if ether0 135.104.9.6 255.255.255.0
+host helix udp
+if ether0 135.104.9.31 255.255.255.0
+script anna
+open c /net/udp/clone
+write c connect 135.104.9.31!7 5000
+open d /net/udp/0/data
+ropen f d /net/cs rw
+script helix
+open c /net/udp/clone
+write c connect 135.104.9.6!5000 7
+open d /net/udp/0/data
+read d 8192
+writex d 0a0000006b0100010078
+ndb
+";
+
+const OPENING: &[u8] =
+    b"12 0 0 conv.0.udp.0 - write 1 150000006e01000000000001000000010002006373 = count 21 + udp 135.104.9.6!5000 135.104.9.31!7 255 0 21
+13 0 0 medium.0 12 put 1 = laid 1
+14 0 2 medium.0 - take = copy 1
+15 0 2 dir.1.udp 14 arrive = to 0 1
+16 0 2 conv.1.udp.0 15 arrive 1 = took
+17 0 1 conv.1.udp.0 - read 1 8192 = bytes 150000006e01000000000001000000010002006373
+18 0 1 conv.1.udp.0 - write 1 0a0000006b0100010078 = count 10 + udp 135.104.9.31!7 135.104.9.6!5000 255 0 10
+19 0 1 medium.0 18 put 0 = laid 2
+20 0 2 medium.0 - take = copy 2
+21 0 2 dir.0.udp 20 arrive = to 0 1
+22 0 2 conv.0.udp.0 21 arrive 1 = took
+23 0 0 conv.0.udp.0 - read 1 8192 = bytes 0a0000006b0100010078
+";
+
+const AT_OPENING: &[u8] = b"10 0 open c /net/udp/clone: answered at 0, slot 0
+11 0 write c connect 135.104.9.31!7 5000: answered at 0, ok
+12 0 open d /net/udp/0/data: answered at 0, opened
+13 0 ropen f d /net/cs rw: refused at 0, bytes 10
+15 1 open c /net/udp/clone: answered at 0, slot 0
+16 1 write c connect 135.104.9.6!5000 7: answered at 0, ok
+17 1 open d /net/udp/0/data: answered at 0, opened
+18 1 read d 8192: answered at 0, bytes 21
+19 1 writex d 0a0000006b0100010078: answered at 0, count 10
+";
+
 // The steps after a history, if it is legal.
 fn checked_steps(
     alloc: Global,
@@ -123,22 +176,36 @@ fn tells(alloc: Global, text: &[u8], lines: &[u8], wanted: &[u8]) -> Result<bool
     Ok(told.as_slice() == wanted)
 }
 
+// Whether the steps are told so where these lines come once both files are open.
+fn tells_later(
+    alloc: Global,
+    text: &[u8],
+    lines: &[u8],
+    wanted: &[u8],
+) -> Result<bool, AllocError> {
+    let mut all = Octets::from_slice(alloc, BOTH)?;
+    all.append(OPENED)?;
+    all.append(lines)?;
+    tells(alloc, text, all.as_slice(), wanted)
+}
+
 #[test]
 fn a_script_waits_or_owes(rt: HostRuntime) {
     let alloc = rt.alloc();
     let early = tells(alloc, WORLD, BOTH, AT_BOTH);
     assert_eq!(rt; early, Ok(true));
-    let mut later = Vec::new(alloc);
-    let made = later.extend_from_slice(BOTH);
-    assert_eq!(rt; made, Ok(()));
-    let made = later.extend_from_slice(WRITTEN);
-    assert_eq!(rt; made, Ok(()));
-    let owing = tells(alloc, WORLD, later.as_slice(), AT_WRITTEN);
+    let owing = tells_later(alloc, WORLD, WRITTEN, AT_WRITTEN);
     assert_eq!(rt; owing, Ok(true));
 }
 
 #[test]
 fn a_refused_step_is_told(rt: HostRuntime) {
     let refused = tells(rt.alloc(), FAR, REFUSED, AT_REFUSED);
+    assert_eq!(rt; refused, Ok(true));
+}
+
+#[test]
+fn a_refused_open_of_a_remote_file_is_told(rt: HostRuntime) {
+    let refused = tells_later(rt.alloc(), OPENER, OPENING, AT_OPENING);
     assert_eq!(rt; refused, Ok(true));
 }

@@ -12,8 +12,8 @@ use Rattle.net_base.specs.Remotes.{nothing_left}
 use Rattle.net_base.specs.Scripts.{Kept as Holds, at_first, heard as first_replies, kept_after, left_after, position, step_play}
 use Rattle.net_base.specs.Steps.{Names, Play, Asks, Ends, Position, no_names, position_by, stands}
 use Rattle.net_base.specs.Versions.{Tuples}
-use Rattle.script_task.specs.declared.request.Request.{Request}
-use Rattle.script_task.specs.Requests.{head, settled}
+use Rattle.net_base.specs.declared.request.Request.{Request}
+use Rattle.net_base.specs.Requests.{head, settled}
 use Rattle.script_task.specs.Rest.{rest}
 use Rattle.script_task.specs.Task.{Heads}
 use Rattle.step_task.specs.declared.step.StepTask.{StepTask}

@@ -1,7 +1,11 @@
 pub mod ScriptTasks
 pub mod ScriptLaws
 pub mod Wholes
+pub mod Eithers
+pub mod Places
+pub mod PlaceLaws
 pub use Rattle.net_base.specs.Next
+pub use Rattle.net_base.specs.Tasks
 pub use Rattle.script_task.specs.Rest
 pub use Rattle.script_task.specs.Task
 pub use Rattle.step_task.specs.StepTasks

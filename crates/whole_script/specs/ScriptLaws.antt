@@ -1,18 +1,20 @@
 -- The task of a script asks and moves as the plays of its steps do, one after another.
 use Rattle.std.proofs.Common.{◌≡◌, ℕ, ◌+◌, ◌∙◌, Bool, true, false, List, [], ◌∷◌, ◌++◌, Option, Some, None, is_none, is_some, length, nat_lt, refl, sym, ap, subst}
 use Rattle.std.proofs.lemmas.Bool.{true≢false, false≢true}
+use Rattle.std.proofs.lemmas.List.{append-nil}
 use Rattle.std.proofs.lemmas.Option.{none-some, same_Some}
 use Rattle.net_base.specs.declared.left.Left.{Left}
 use Rattle.net_base.specs.declared.reply.Reply.{Reply}
 use Rattle.net_base.specs.declared.world.Script.{Script}
 use Rattle.net_base.specs.declared.world.Step.{Step}
-use Rattle.net_base.specs.Next.{finished_by}
+use Rattle.net_base.specs.Next.{finished_by, place_next}
 use Rattle.net_base.specs.Scripts.{at_first, left_after, position, step_play}
 use Rattle.net_base.specs.Steps.{Ask, Names, Play, Asks, Ends, no_names}
+use Rattle.net_base.specs.Tasks.{Asking}
 use Rattle.net_base.specs.Versions.{Tuples}
-use Rattle.script_task.specs.declared.request.Request.{Request}
+use Rattle.net_base.specs.declared.request.Request.{Request}
 use Rattle.script_task.specs.Fitting.{fits}
-use Rattle.script_task.specs.Requests.{head, planned, settled}
+use Rattle.net_base.specs.Requests.{head, planned, settled}
 use Rattle.script_task.specs.Rest.{Continues, rest}
 use Rattle.script_task.specs.Task.{Heads, AsksSo, MovesSo, follow, fits_play}
 use Rattle.step_task.specs.declared.step.StepTask.{StepTask}
@@ -21,7 +23,8 @@ use Rattle.dial_lib.specs.Slots.{HaveSlots}
 use Rattle.step_task.specs.Leaving as leaving
 use Rattle.step_task.specs.StepLaws as step_laws
 use Rattle.step_task.specs.StepTasks as step
-use Rattle.whole_script.specs.ScriptTasks.{Scripting, finished_in, AtStep, AtEnd, begun_at, goes_on, asks, after, after_all, then_play, plays_behind, plays_of, StandsFor, Plays}
+use Rattle.whole_script.specs.ScriptTasks.{Scripting, finished_in, AtStep, AtEnd, begun_at, goes_on, asks, after, after_all, then_play, plays_behind, plays_of, StandsFor, Plays, Goes}
+use Rattle.whole_script.specs.Wholes.{AsksThere, Comes, GoesThere, PlaysThere}
 
 -- Plays, one after another.
 
@@ -136,7 +139,23 @@ plays_on zone s rs names t q ask r at asked is fit =
       counts = λ more fit_more. subst (λ (xs : List Reply). finished_in (after_all (after t r) more) ≡ finished_by zone xs s) (sym (append_one rs r more)) (at.counts (r ∷ more) (fits_it, fit_more));
     }
 
--- it stands for a play that goes on where the script stands
-pub stands_there : (zone : Tuples) (s : Script) (rs : List Reply) (names : Names) (t : Scripting) → Plays zone s rs names t
-    → (p : Play) × StandsFor s.host names t p × Continues zone s rs p
-stands_there zone s rs names t at = (at.play, at.stands_for, at.continues)
+-- where the script is played, it goes on there
+pub plays_there : PlaysThere Scripting Goes Plays
+plays_there zone s rs names t at = (refl, at)
+
+-- what it asks is what comes next in its place
+pub asks_there : AsksThere Scripting asks Goes
+asks_there own zone s rs names t goes =
+    subst (λ (o : Option Asking). Comes s.host names (asks t names) (place_next o zone s rs)) (sym goes.0)
+    (by_heads (asks t names) (asks_so s.host names t goes.1.play goes.1.stands_for))
+  where
+    next_is : (position s.host s.steps (at_first zone) rs).next ≡ head goes.1.play
+    next_is = ap (λ (xs : List Reply). (position s.host s.steps (at_first zone) xs).next) (sym (append-nil rs)) ∙ goes.1.continues.next_is []
+
+    by_heads : (o : Option Request) → Heads s.host names o goes.1.play → Comes s.host names o (position s.host s.steps (at_first zone) rs).next
+    by_heads None ends = next_is ∙ ap head ends
+    by_heads (Some q) heads = next_is ∙ (heads.1 ∙ sym heads.2)
+
+-- and it goes on there
+pub goes_there : GoesThere Scripting asks after Goes
+goes_there own zone s rs names t q ask r goes asked is fit = (goes.0, plays_on zone s rs names t q ask r goes.1 asked is fit)

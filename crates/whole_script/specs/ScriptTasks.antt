@@ -8,8 +8,9 @@ use Rattle.net_base.specs.Next.{finished_by}
 use Rattle.net_base.specs.Remotes.{nothing_left}
 use Rattle.net_base.specs.Scripts.{Kept as Holds, kept_after, left_after, step_play}
 use Rattle.net_base.specs.Steps.{Names, Play, Asks, Ends, no_names}
+use Rattle.net_base.specs.Tasks.{Asking}
 use Rattle.net_base.specs.Versions.{Tuples}
-use Rattle.script_task.specs.declared.request.Request.{Request}
+use Rattle.net_base.specs.declared.request.Request.{Request}
 use Rattle.script_task.specs.Rest.{Continues}
 use Rattle.script_task.specs.Task.{follow, fits_play}
 use Rattle.step_task.specs.declared.step.StepTask.{StepTask}
@@ -142,3 +143,7 @@ pub record Plays (zone : Tuples) (s : Script) (rs : List Reply) (names : Names) 
   pub stands_for : StandsFor s.host names t play
   pub continues : Continues zone s rs play
   pub counts : (more : List Reply) → AllFit play more → finished_in (after_all t more) ≡ finished_by zone (rs ++ more) s
+
+-- it goes on in the place of the script where that is played there
+abbrev pub Goes : Option Asking → Tuples → Script → List Reply → Names → Scripting → Type 0
+Goes own zone s rs names t = (own ≡ None) × Plays zone s rs names t

@@ -1,8 +1,14 @@
-//! A whole script as one task: its steps one after another.
+//! What is played in the place of a script: its steps one after another, as one task, or a task of one's own.
 #![tactic(auto)]
 
+mod either;
+mod own;
+mod place;
 mod script;
 mod whole;
 
+pub use either::EitherTask;
+pub use own::OwnTask;
+pub use place::PlaceTask;
 pub use script::ScriptTask;
 pub use whole::WholeTask;

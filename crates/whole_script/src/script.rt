@@ -119,11 +119,29 @@ impl Task for ScriptTask<'_> {
 impl WholeTask for ScriptTask<'_> {
     ghost use Rattle.whole_script.specs.ScriptLaws as laws;
 
+    ghost asks = { spec.asks };
+
+    ghost after = { spec.after };
+
+    ghost Goes = { spec.Goes };
+
     ghost Plays = { spec.Plays };
 
-    ghost stands_there = { laws.stands_there };
+    ghost asks_there = { laws.asks_there };
+
+    ghost goes_there = { laws.goes_there };
+
+    ghost plays_there = { laws.plays_there };
 
     ghost plays_on = { laws.plays_on };
+
+    fn next(&self, alloc: Global, fids: &Names) -> Result<Option<Request>, AllocError> {
+        Task::next(self, alloc, fids)
+    }
+
+    fn told(&mut self, alloc: Global, reply: Reply) -> Result<(), AllocError> {
+        Task::told(self, alloc, reply)
+    }
 
     fn finished(&self) -> usize {
         ScriptTask::finished(self)

@@ -18,7 +18,7 @@ numeral_is zero some = absurd (omega (arith, some))
 numeral_is (suc n) some = refl
 
 -- one digit
-numeral_one : (n : ℕ) → n < 10 → numeral n ≡ (48 + n) ∷ []
+pub numeral_one : (n : ℕ) → n < 10 → numeral n ≡ (48 + n) ∷ []
 unfolding numeral
 numeral_one zero lt = refl
 numeral_one (suc n) lt =

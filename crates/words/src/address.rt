@@ -61,11 +61,11 @@ fn put_dotted(out: &mut Octets, ip: u32) -> Result<(), AllocError>
     ensures { OnOk result (out.new ≡ out.old ++ ip_word ip) }
 {
     put_decimal(out, (ip >> 24) as u64)?;
-    out.append(b".")?;
+    out.push(b'.')?;
     put_decimal(out, (ip >> 16 & 255) as u64)?;
-    out.append(b".")?;
+    out.push(b'.')?;
     put_decimal(out, (ip >> 8 & 255) as u64)?;
-    out.append(b".")?;
+    out.push(b'.')?;
     put_decimal(out, (ip & 255) as u64)?;
     Ok(())
 }
@@ -86,7 +86,7 @@ pub fn put_place(out: &mut Octets, at: Addr) -> Result<(), AllocError>
     ensures decimal { OnOk result (out.new ≡ out.old ++ place at) }
 {
     put_address(out, at.ip)?;
-    out.append(b"!")?;
+    out.push(b'!')?;
     put_decimal(out, at.port as u64)?;
     Ok(())
 }

@@ -10,11 +10,15 @@ use net_base::Octets;
 use std::alloc::AllocError;
 
 /// Adds a number's digits.
-#[tactic(auto, using(crate::proofs::Numerals::decimal_is_numeral))]
+#[tactic(auto, using(crate::proofs::Numerals::decimal_is_numeral, crate::proofs::Numerals::numeral_one))]
 pub fn put_decimal(out: &mut Octets, n: u64) -> Result<(), AllocError>
     ensures numeral { OnOk result (out.new ≡ out.old ++ numeral n) }
     ensures decimal { OnOk result (out.new ≡ out.old ++ decimal n) }
 {
+    // most numbers have one digit
+    if n < 10 {
+        return out.push(b'0' + n as u8);
+    }
     let mut buffer = Buffer::new();
     out.append(buffer.format(n).as_bytes())
 }

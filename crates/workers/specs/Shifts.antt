@@ -8,7 +8,7 @@ many_rounds = 64
 
 -- a number of waits by which it is judged
 abbrev pub many_waits : ℕ
-many_waits = 64
+many_waits = 8
 
 -- a round or a wait more
 abbrev pub one_more : ℕ → ℕ

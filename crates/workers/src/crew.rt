@@ -15,7 +15,7 @@ const MOST_YIELDS: u32 = 200;
 pub(crate) const MANY_ROUNDS: u32 = 64;
 
 /// After how many waits it is seen whether a worker waits for others most of the time.
-pub(crate) const MANY_WAITS: u32 = 64;
+pub(crate) const MANY_WAITS: u32 = 8;
 
 /// How many rounds between two waits are enough for a worker to pay.
 const FEW_ROUNDS: u64 = 4;

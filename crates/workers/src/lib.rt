@@ -12,5 +12,5 @@ mod tests;
 
 pub use crew::{Crew, Shift};
 pub use law::patience_grows;
-pub use marks::{Marks, Spot};
+pub use marks::{Awaited, Marks, Spot};
 pub use pace::Pace;

@@ -9,27 +9,49 @@ pub struct Marks {
     marks: Vec<Mark>,
 }
 
-// How many entries an actor has had. No other count is near enough to share its line of a cache: else each entry would slow
-// down whoever looks at another actor.
+// How many entries an actor has had: those after which there may be more to read, and the others. No other actor's are near
+// enough to share their line of a cache: else each entry would slow down whoever looks at another actor.
 #[derive(Drop)]
 struct Mark {
-    count: AtomicU64,
-    _apart: [u64; 7],
+    giving: AtomicU64,
+    others: AtomicU64,
+    _apart: [u64; 6],
 }
 
 impl Mark {
     fn new() -> Mark {
         Mark {
-            count: AtomicU64::new(0),
-            _apart: [0; 7],
+            giving: AtomicU64::new(0),
+            others: AtomicU64::new(0),
+            _apart: [0; 6],
+        }
+    }
+
+    // How many entries it has had of those that are waited for.
+    fn count(&self, awaited: Awaited) -> u64 {
+        let giving = self.giving.load(Ordering::SeqCst);
+        match awaited {
+            Awaited::Entry => giving.wrapping_add(self.others.load(Ordering::SeqCst)),
+            Awaited::Text => giving,
         }
     }
 }
 
-/// An actor, and how many entries it had when it was last looked at. Who waits there needn't ask again while it stands.
+/// What is waited for at an actor.
+#[derive(Clone, Copy, Debug, PartialEq, Eq)]
+pub enum Awaited {
+    /// An entry, whichever it is.
+    Entry,
+    /// An entry after which there may be more to read.
+    Text,
+}
+
+/// An actor, and how many entries it had of those that are waited for when it was last looked at. Who waits there needn't ask
+/// again while it stands.
 #[derive(Clone, Copy, Debug, PartialEq, Eq)]
 pub struct Spot {
     place: usize,
+    awaited: Awaited,
     count: u64,
 }
 
@@ -38,6 +60,7 @@ impl Spot {
     pub fn nowhere() -> Spot {
         Spot {
             place: usize::MAX,
+            awaited: Awaited::Entry,
             count: 0,
         }
     }
@@ -53,29 +76,31 @@ impl Marks {
         Ok(Marks { marks })
     }
 
-    /// The actor has an entry more.
-    pub fn add(&self, place: usize) {
+    /// The actor has an entry more, after which there may be more to read or not.
+    pub fn add(&self, place: usize, gives: bool) {
         if let Some(mark) = self.marks.get(place) {
-            mark.count.fetch_add(1, Ordering::SeqCst);
+            let count = if gives { &mark.giving } else { &mark.others };
+            count.fetch_add(1, Ordering::SeqCst);
         }
     }
 
-    /// The spot of an actor, as it is now.
-    pub fn spot(&self, place: usize) -> Spot {
+    /// The spot of an actor, as it is now, for one who waits for this.
+    pub fn spot(&self, place: usize, awaited: Awaited) -> Spot {
         Spot {
             place,
-            count: self.count(place),
+            awaited,
+            count: self.count(place, awaited),
         }
     }
 
-    /// Whether the actor has had no entry since.
+    /// Whether the actor has had no entry since of those that are waited for.
     pub fn stands(&self, spot: Spot) -> bool {
-        self.count(spot.place) == spot.count
+        self.count(spot.place, spot.awaited) == spot.count
     }
 
-    fn count(&self, place: usize) -> u64 {
+    fn count(&self, place: usize, awaited: Awaited) -> u64 {
         match self.marks.get(place) {
-            Some(mark) => mark.count.load(Ordering::SeqCst),
+            Some(mark) => mark.count(awaited),
             None => 0,
         }
     }

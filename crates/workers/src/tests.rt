@@ -1,5 +1,5 @@
 //! Who rests, which actors had entries, and when workers are called.
-use crate::{Crew, Marks, Pace, Shift, Spot};
+use crate::{Awaited, Crew, Marks, Pace, Shift, Spot};
 use std::process::Abort;
 use std::sync::Wait;
 use std::test::Fail;
@@ -70,11 +70,11 @@ fn who_goes_on_alone_leaves_with_the_others(rt: HostRuntime) -> Result<(), Fail>
 fn who_waits_after_each_round_leaves_with_the_others(rt: HostRuntime) -> Result<(), Fail> {
     let crew = Crew::new(2);
     let (mut one, two) = (crew.begin(&rt), crew.begin(&rt));
-    for _ in 0..63_u32 {
+    for _ in 0..7_u32 {
         assert!(rt; crew.record(&rt, &mut one) && crew.tell(&rt, &mut one));
     }
     assert!(rt; crew.record(&rt, &mut one) && !crew.tell(&rt, &mut one));
-    assert!(rt; crew.rest(&rt, 64));
+    assert!(rt; crew.rest(&rt, 8));
     crew.leave(&rt, one);
     crew.leave(&rt, two);
     assert!(rt; crew.has_waited(&rt) && !crew.has_paid(&rt));
@@ -108,10 +108,18 @@ fn workers_are_called_where_several_go_on(rt: HostRuntime) -> Result<(), Fail> {
 #[test]
 fn an_entry_is_seen_at_its_actor_alone(rt: HostRuntime) -> Result<(), Fail> {
     let marks = Marks::new(rt.alloc(), 2)?;
-    let (one, two) = (marks.spot(0), marks.spot(1));
-    marks.add(1);
-    assert!(rt; marks.stands(one) && !marks.stands(two));
-    marks.add(2);
-    assert!(rt; marks.stands(one) && marks.stands(marks.spot(2)) && marks.stands(Spot::nowhere()));
+    let (one, two) = (marks.spot(0, Awaited::Entry), marks.spot(1, Awaited::Entry));
+    let reads = marks.spot(1, Awaited::Text);
+    marks.add(1, false);
+    assert!(rt; marks.stands(one) && !marks.stands(two) && marks.stands(reads));
+    marks.add(1, true);
+    marks.add(2, true);
+    let none = marks.spot(2, Awaited::Text);
+    assert!(rt;
+        marks.stands(one)
+            && !marks.stands(reads)
+            && marks.stands(none)
+            && marks.stands(Spot::nowhere())
+    );
     Ok(())
 }

@@ -16,6 +16,6 @@ mod versions;
 
 pub use fault::WorldError;
 pub use net_base::World;
-pub use reader::read_world;
+pub use reader::{cut_line, read_world};
 pub use session_law::{sessions_have_places, texts_of_sessions_say_one};
 pub use session_text::read_sessions;

@@ -83,7 +83,7 @@ pub(crate) fn at_line(fault: LineFault, number: u64) -> WorldError
 }
 
 /// The first line of a text, and what stands behind its newline.
-pub(crate) fn cut_line(text: &[u8]) -> (&[u8], &[u8])
+pub fn cut_line(text: &[u8]) -> (&[u8], &[u8])
     requires { 0 < length text.now }
     ensures cut { cuts_of text.now ≡ record { line = result.0.now; behind = result.1.now } ∷ cuts_of result.1.now }
     ensures less { length result.1.now < length text.now }

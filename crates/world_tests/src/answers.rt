@@ -1,6 +1,7 @@
 //! Worked queries and their answers.
 use crate::reading::{database, none_wrong, put_found};
-use cs_resolver::{CsError, answer};
+use cs_resolver::CsError;
+use cs_scan::answer;
 use net_base::{Db, Proto};
 use std::alloc::{AllocError, Global};
 

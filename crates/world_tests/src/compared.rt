@@ -1,7 +1,8 @@
 //! The plain program and the index over many databases.
 use crate::answers::WORKED;
 use crate::reading::{database, put_found};
-use cs_resolver::{CsError, answer, answer_indexed};
+use cs_resolver::{CsError, answer_indexed};
+use cs_scan::answer;
 use ndb_index::Index;
 use ndb_search::{closest, search};
 use net_base::{Db, Lines, Proto};

@@ -12,7 +12,7 @@ ghost use Rattle.conversation.specs.Stands.{IsShort};
 use crate::conv::Conv;
 use crate::il::IlCore;
 use crate::parts::{Core, Stage};
-use crate::reply_and_copy::ReplyAndCopy;
+use crate::reply_and_copy::{ReplyAndCopy, copied};
 use net_base::{Body, Cause, IlState, Octets, Outcome, Packet, StateName};
 use std::alloc::{AllocError, Global};
 use udp_core::UdpEnd;
@@ -251,10 +251,10 @@ fn read_il(
     if !end.may_read() {
         return Ok(None);
     }
-    let answer = ReplyAndCopy::bytes(alloc, end.peek(count))?;
+    let copy = copied(alloc, end.peek(count))?;
     match end.read(count)? {
-        None => Ok(Some(answer)),
-        Some(cause) => Ok(Some(ReplyAndCopy::hungup(cause))),
+        Ok(bytes) => Ok(Some(ReplyAndCopy::read(bytes, copy))),
+        Err(cause) => Ok(Some(ReplyAndCopy::hungup(cause))),
     }
 }
 
@@ -272,9 +272,9 @@ fn read_udp(
     if !end.ready_read() {
         return Ok(None);
     }
-    let answer = ReplyAndCopy::bytes(alloc, end.peek(count))?;
+    let copy = copied(alloc, end.peek(count))?;
     match end.read(count) {
-        Ok(_) => Ok(Some(answer)),
+        Ok(bytes) => Ok(Some(ReplyAndCopy::read(bytes, copy))),
         Err(udp_core::HungupError::Hungup) => Ok(Some(ReplyAndCopy::hungup(Cause::Hungup))),
         Err(udp_core::HungupError::Memory) => Err(AllocError),
     }

@@ -5,6 +5,6 @@ use Rattle.calm_laws.proofs.law.moves_are_timely.Goals as goal
 pub returns : goal.returns
 returns c =
     record {
-      may = λ w net calms more before. rw (calms, more, lt-ltb net.moment w.end before) refl;
-      timely = λ w net m moves to. (moves, to);
+      may = λ ts w net calms more before. rw (calms, more, lt-ltb net.moment w.end before) refl;
+      timely = λ ts w net m moves to. (moves, to);
     }

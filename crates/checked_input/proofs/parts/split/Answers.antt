@@ -8,19 +8,19 @@ loop-rest-init c = record { passed = passed_none c.args.input.now; room = omega 
 
 pub loop-rest-preserved : goal.loop-rest-preserved
 loop-rest-preserved c =
-    let less = c.cut.ensures.less in
+    let less = c.cut_line.ensures.less in
     let room = c.loop-rest.invariant.room in
     record {
-      passed = passed_more c.args.input.now c.loop-rest.rest.now c.cut.result.0.now c.cut.result.1.now c.loop-rest.lines c.loop-rest.invariant.passed
-          c.cut.ensures.cut less
+      passed = passed_more c.args.input.now c.loop-rest.rest.now c.cut_line.result.0.now c.cut_line.result.1.now c.loop-rest.lines c.loop-rest.invariant.passed
+          c.cut_line.ensures.cut less
           (sym c.is_mark.ensures ∙ c.if-is_mark.false);
       room = omega (arith, room, less);
     }
 
 pub returns-then-is_mark-clause-ok : goal.returns-then-is_mark-clause-ok
 returns-then-is_mark-clause-ok c =
-    parts_found c.args.input.now c.loop-rest.rest.now c.cut.result.0.now c.cut.result.1.now c.loop-rest.lines c.loop-rest.invariant.passed c.cut.ensures.cut
-    c.cut.ensures.less (sym c.is_mark.ensures ∙ c.if-is_mark.true)
+    parts_found c.args.input.now c.loop-rest.rest.now c.cut_line.result.0.now c.cut_line.result.1.now c.loop-rest.lines c.loop-rest.invariant.passed c.cut_line.ensures.cut
+    c.cut_line.ensures.less (sym c.is_mark.ensures ∙ c.if-is_mark.true)
 
 pub returns-clause-err : goal.returns-clause-err
 returns-clause-err c = (passed_all c.args.input.now c.loop-rest.rest.now c.loop-rest.lines c.loop-rest.invariant.passed (grind (arith, nat_tests))).0

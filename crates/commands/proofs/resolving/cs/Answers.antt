@@ -5,7 +5,7 @@ pub returns-in-Ok-indexed : goal.returns-in-Ok-indexed
 returns-in-Ok-indexed c =
     answers_found _ _ _
     (found_over c.args.sys.now c.args.query.now c.args.input.now _ _ c.in-Ok.ensures.good c.in-Ok.ensures.ok c.in-Ok-indexed.ensures.ok)
-    c.lines-in-Ok-indexed.ensures
+    c.listed.ensures
 
 pub returns-in-Err : goal.returns-in-Err
 returns-in-Err c =

@@ -6,6 +6,6 @@ returns c =
     record {
       but_scripts = λ w r log g. (but_scripts c.histories_grow.ensures.net w r g.actors_are g.callers_are log g.lawful g.turns).0;
       net = λ w r log g. (but_scripts c.histories_grow.ensures.net w r g.actors_are g.callers_are log g.lawful g.turns).1;
-      legal = λ w r log g. legal c.histories_grow.ensures.net w r g.actors_are g.callers_are log g.lawful g.turns;
-      timed = λ w r log g. timed c.histories_grow.ensures.net w r g.actors_are g.callers_are log g.lawful g.turns;
+      legal = λ ts w r log g. legal c.histories_grow.ensures.net w r g.actors_are g.callers_are log g.lawful g.turns ts;
+      timed = λ ts w r log g. timed c.histories_grow.ensures.net w r g.actors_are g.callers_are log g.lawful g.turns ts;
     }

@@ -5,4 +5,4 @@ use Rattle.host_net.proofs.advance.add_standings.Given as goal
 
 -- the first players' callers stand so
 abbrev pub invariant-loop-player : goal.invariant-loop-player
-invariant-loop-player g l = Adds g.J.Placing.world (visits (take l.player-index l.player-items)) l.fn.standings.items l.standings.items
+invariant-loop-player g l = Adds g.J.Placing.tasks g.J.Placing.world (visits (take l.player-index l.player-items)) l.fn.standings.items l.standings.items

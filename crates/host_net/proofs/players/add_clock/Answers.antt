@@ -13,8 +13,8 @@ returns-in-None-clause-same g c =
 
 pub returns-in_ok-push-in-Some-clause-plays : goal.returns-in_ok-push-in-Some-clause-plays
 returns-in_ok-push-in-Some-clause-plays g c = λ are.
-    subst (λ (l : List Visit). ArePlayed g.J.Placing.world l) (sym c.in_ok-push-in-Some.ensures.items)
-    (plays_more g.J.Placing.world c.args.guests.now.items c.into_guest.result are c.into_guest.ensures.plays)
+    subst (λ (l : List Visit). ArePlayed g.J.Placing.tasks g.J.Placing.world l) (sym c.in_ok-push-in-Some.ensures.items)
+    (plays_more g.J.Placing.tasks g.J.Placing.world c.args.guests.now.items c.into_guest.result are c.into_guest.ensures.plays)
 
 pub returns-in_ok-push-in-Some-clause-same : goal.returns-in_ok-push-in-Some-clause-same
 returns-in_ok-push-in-Some-clause-same g c =

@@ -21,8 +21,8 @@ loop-player-preserved g c = (
   players_on c.loop-player.guests.items c.push.new.self.items _ c.loop-player.players.items c.pop.new.self.items c.in-Some.player c.loop-player.invariant.0
       c.in-Some.ensures.items (c.in_ok-push.ensures.items ∙ ap (λ (v : Visit). c.loop-player.guests.items ++ v ∷ []) c.into_guest.ensures.same),
   λ are.
-      subst (λ (l : List Visit). ArePlayed g.J.Placing.world l) (sym c.in_ok-push.ensures.items)
-      (plays_more g.J.Placing.world c.loop-player.guests.items c.into_guest.result (c.loop-player.invariant.1 are) c.into_guest.ensures.plays),
+      subst (λ (l : List Visit). ArePlayed g.J.Placing.tasks g.J.Placing.world l) (sym c.in_ok-push.ensures.items)
+      (plays_more g.J.Placing.tasks g.J.Placing.world c.loop-player.guests.items c.into_guest.result (c.loop-player.invariant.1 are) c.into_guest.ensures.plays),
 )
 
 pub returns-clause-same : goal.returns-clause-same

@@ -7,7 +7,7 @@ use Rattle.host_net.proofs.players.add_players.Given as goal
 abbrev pub invariant-loop-player : goal.invariant-loop-player
 invariant-loop-player g l =
     (l.guests.items ++ visits (reverse l.players.items) ≡ l.fn.guests.items ++ visits l.fn.players.items)
-    × (ArePlayed g.J.Placing.world l.fn.guests.items → ArePlayed g.J.Placing.world l.guests.items)
+    × (ArePlayed g.J.Placing.tasks g.J.Placing.world l.fn.guests.items → ArePlayed g.J.Placing.tasks g.J.Placing.world l.guests.items)
 
 abbrev pub decreases-loop-player : goal.decreases-loop-player
 decreases-loop-player g l = length l.players.items

@@ -1,4 +1,6 @@
 use Rattle.std.proofs.Common.{map, refl, string_bytes, sym}
+use Rattle.command_line.proofs.Endings.{ends_told}
+use Rattle.commands.specs.Built.{asking}
 use Rattle.netsh.proofs.RunWords.{export_within, workers_within}
 use Rattle.netsh.proofs.Statuses.{causes_of}
 use Rattle.netsh.proofs.top.netsh.Goals as goal
@@ -18,7 +20,7 @@ returns-in-Answered-clause-causes g c = causes_of _ _ _ _ (returns-in-Answered-c
 pub returns-in-Run-clause-ends : goal.returns-in-Run-clause-ends
 returns-in-Run-clause-ends g c =
     let run = c.in-Run.ensures.run c.in-Run.workers refl in
-    rw (run.0) (rw (sym run.1, sym run.2) (c.tell_answer.ensures _ _ c.read_and_run.ensures.answered))
+    rw (run.0) (rw (sym run.1, sym run.2) (ends_told _ asking _ _ _ _ _ c.read_and_run.ensures.answered c.tell_answer.ensures))
 
 pub returns-in-Run-clause-causes : goal.returns-in-Run-clause-causes
 returns-in-Run-clause-causes g c = causes_of _ _ _ _ (returns-in-Run-clause-ends g c)
@@ -26,7 +28,7 @@ returns-in-Run-clause-causes g c = causes_of _ _ _ _ (returns-in-Run-clause-ends
 pub returns-in-Big-clause-ends : goal.returns-in-Big-clause-ends
 returns-in-Big-clause-ends g c =
     let big = c.in-Big.ensures.big c.in-Big.messages refl in
-    rw (big.0) (rw (sym big.1, sym big.2) (c.tell_answer-in-Big.ensures _ _ (c.run_made.ensures _ (refl, refl))))
+    rw (big.0) (rw (sym big.1, sym big.2) (ends_told _ asking _ _ _ _ _ (c.run_made.ensures _ (refl, refl)) c.tell_answer-in-Big.ensures))
 
 pub returns-in-Big-clause-causes : goal.returns-in-Big-clause-causes
 returns-in-Big-clause-causes g c = causes_of _ _ _ _ (returns-in-Big-clause-ends g c)
@@ -40,7 +42,7 @@ read_and_export-requires-clause-few g c κs within = (export_within (map string_
 pub returns-in-Export-clause-ends : goal.returns-in-Export-clause-ends
 returns-in-Export-clause-ends g c =
     let run = c.in-Export.ensures.export c.in-Export.workers refl in
-    rw (run.0) (rw (sym run.1, sym run.2) (c.tell_answer-in-Export.ensures _ _ c.read_and_export.ensures.answered))
+    rw (run.0) (rw (sym run.1, sym run.2) (ends_told _ asking _ _ _ _ _ c.read_and_export.ensures.answered c.tell_answer-in-Export.ensures))
 
 pub returns-in-Export-clause-causes : goal.returns-in-Export-clause-causes
 returns-in-Export-clause-causes g c = causes_of _ _ _ _ (returns-in-Export-clause-ends g c)

@@ -1,10 +1,11 @@
 use Rattle.std.proofs.Common.{Err, ap, sym, ◌∙◌}
 use Rattle.std.proofs.lemmas.Result.{err_from_is_err_and}
-use Rattle.netsh.proofs.Endings.{answered_failed}
+use Rattle.command_line.proofs.Endings.{answered_failed}
+use Rattle.commands.specs.Built.{asking}
 use Rattle.netsh.proofs.top.read_and_answer.Goals as goal
 
 pub returns-in_err-input-clause-answered : goal.returns-in_err-input-clause-answered
 returns-in_err-input-clause-answered g c =
     let p = err_from_is_err_and c.from_residual-in_err-input.result c.from_residual-in_err-input.ensures.1 in
-    answered_failed _ _ _ _ _ c.limit_of.ensures (p.1 ∙ ap Err p.2) (sym c.has_input.ensures ∙ c.if-not-has_input.false) c.in_err-input.ensures.bytes
+    answered_failed _ asking _ _ _ _ _ c.limit_of.ensures (p.1 ∙ ap Err p.2) (sym c.has_input.ensures ∙ c.if-not-has_input.false) c.in_err-input.ensures.bytes
     c.in_err-input.ensures.failed c.in_err-input.ensures.same

@@ -1,9 +1,11 @@
-use Rattle.std.proofs.Common.{Err, ap, ◌∙◌}
+use Rattle.std.proofs.Common.{Err, ap, refl, ◌∙◌}
 use Rattle.std.proofs.lemmas.Result.{err_from_is_err_and}
-use Rattle.netview.proofs.Endings.{answered_failed}
+use Rattle.command_line.proofs.Endings.{answered_failed}
+use Rattle.netview.specs.Views.{asking}
 use Rattle.netview.proofs.top.read_and_answer.Goals as goal
 
 pub returns-in_err-input-clause-answered : goal.returns-in_err-input-clause-answered
 returns-in_err-input-clause-answered g c =
     let p = err_from_is_err_and c.from_residual.result c.from_residual.ensures.1 in
-    answered_failed _ _ _ _ _ c.limit_of.ensures (p.1 ∙ ap Err p.2) c.in_err-input.ensures.bytes c.in_err-input.ensures.failed c.in_err-input.ensures.same
+    answered_failed _ asking _ _ _ _ _ c.limit_of.ensures (p.1 ∙ ap Err p.2) refl c.in_err-input.ensures.bytes c.in_err-input.ensures.failed
+    c.in_err-input.ensures.same

@@ -8,7 +8,7 @@ use Rattle.script_steps.proofs.steps.put_scripts.Goals as goal
 pub put_script-requires-clause-caller : goal.put_script-requires-clause-caller
 put_script-requires-clause-caller c =
     let w = c.args.world.now in
-    let r = c.args.runner.now in
+    let r = c.args.record.now.runner in
     let l = c.loop-number in
     subst (λ (h : List Entry). IsCaller w h l.number c.index-caller.result.now) c.requires.followed.history_is
     (c.requires.followed.tracks.callers_are.each l.number c.index-caller.result.now

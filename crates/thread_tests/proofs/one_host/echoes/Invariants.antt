@@ -1,3 +1,4 @@
+use Rattle.net_base.specs.Tasks.{nobody}
 use Rattle.thread_tests.proofs.one_host.echoes.Given as goal
 
 -- the net that was just opened
@@ -6,4 +7,4 @@ ghosts-echoed-J-Naming g a = record { run = a.opened }
 
 -- in the worked world
 abbrev pub ghosts-echoed-J-Placing : goal.ghosts-echoed-J-Placing
-ghosts-echoed-J-Placing g a = record { world = a.world.now }
+ghosts-echoed-J-Placing g a = record { world = a.world.now; tasks = nobody }

@@ -1,5 +1,10 @@
-use Rattle.conversation.proofs.Copies.{step_copies, outcome_copies}
+use Rattle.std.proofs.Common.{ap, ◌∙◌}
+use Rattle.conversation.specs.Kept.{step_to}
+use Rattle.table_laws.proofs.Shared.{conv_copies}
 use Rattle.conversation.proofs.conv.Conv.step.Goals as goal
 
 pub returns-clause-copy : goal.returns-clause-copy
-returns-clause-copy c = outcome_copies _ _ _ _ (step_copies c.args.self.now.slot c.args.work.now.event c.args.work.now.with c.args.now c.args.self.now.conv) c.in_ok-outcome.ensures.ok c.in-Some.is
+returns-clause-copy c =
+    let work = c.args.work.now in
+    let seat = c.args.self.now in
+    conv_copies seat.slot c.args.now seat.conv _ work.event work.with _ (c.in_ok-outcome.ensures.ok ∙ ap (step_to _) c.in-Some.is)

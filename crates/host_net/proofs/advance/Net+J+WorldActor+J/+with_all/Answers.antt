@@ -22,11 +22,11 @@ with_all-answer-requires g t c κs within =
     let clock = c.clock.inside.bundle in
     let one =
     ap (λ (i : Inside g.row.J.Denot g.row.T.Denot). player i.guest i.role i.task i.lost i.counts) c.first-inside.view_is ∙ c.first.view_is in
-    let apart = next_apart w r c.first-inside.inside.0.1.0 c.first-inside.inside.0.1.1.0
+    let apart = next_apart g.J.Placing.tasks w r c.first-inside.inside.0.1.0 c.first-inside.inside.0.1.1.0
     c.first-inside.inside.0.1.1.1.0 c.first-inside.inside.0.1.1.1.1.1.0 me.visit clock.visit
     c.args.clock.now c.in-Some.first.now c.in-Some.others.now c.args.players.now c.args.groups.now one c.in-Some.ensures.cases.0 c.clock.view_is
     c.args.standings.now c.requires.apart c.requires.lent c.lend.new.clock.visit c.lend.ensures.same c.lend.ensures.lent c.lend.ensures.others in
-    let lent = next_lent w r c.first-inside.inside.0.1.0 c.first-inside.inside.0.1.1.0
+    let lent = next_lent g.J.Placing.tasks w r c.first-inside.inside.0.1.0 c.first-inside.inside.0.1.1.0
     c.first-inside.inside.0.1.1.1.0 c.first-inside.inside.0.1.1.1.1.1.0 me.visit clock.visit
     c.args.clock.now c.in-Some.first.now c.in-Some.others.now c.args.players.now c.args.groups.now one c.in-Some.ensures.cases.0 c.clock.view_is
     c.args.standings.now c.requires.apart c.requires.lent c.lend.new.clock.visit c.lend.ensures.same c.lend.ensures.lent c.lend.ensures.others in
@@ -68,7 +68,7 @@ take_back-requires-clause-away g t c =
     let had = c.clock-in-Some.inside.bundle in (
       me.visit,
       c.lend.ensures.away,
-      still_with w r c.first-inside.inside.0.1.0 c.first-inside.inside.0.1.1.0
+      still_with g.J.Placing.tasks w r c.first-inside.inside.0.1.0 c.first-inside.inside.0.1.1.0
           c.first-inside.inside.0.1.1.1.0 c.first-inside.inside.0.1.1.1.1.1.0 me.visit clock.visit
           c.args.clock.now c.in-Some.first.now c.in-Some.others.now c.args.players.now c.args.groups.now one c.in-Some.ensures.cases.0 c.clock.view_is
           c.args.standings.now c.requires.apart c.requires.lent c.lend.new.clock.visit c.lend.ensures.same c.lend.ensures.lent c.lend.ensures.others
@@ -86,7 +86,7 @@ take_back-requires-clause-other g t c =
     ap (λ (i : Inside g.row.J.Denot g.row.T.Denot). player i.guest i.role i.task i.lost i.counts) c.first-inside.view_is ∙ c.first.view_is in
     let had = c.clock-in-Some.inside.bundle in
     subst (λ (v : Visit). (had.visit.caller == v.caller) ≡ false) (sym c.lend.ensures.away.visit_is)
-    (other w r c.first-inside.inside.0.1.0 c.first-inside.inside.0.1.1.0
+    (other g.J.Placing.tasks w r c.first-inside.inside.0.1.0 c.first-inside.inside.0.1.1.0
     c.first-inside.inside.0.1.1.1.0 c.first-inside.inside.0.1.1.1.1.1.0 me.visit clock.visit
     c.args.clock.now c.in-Some.first.now c.in-Some.others.now c.args.players.now c.args.groups.now one c.in-Some.ensures.cases.0 c.clock.view_is
     c.args.standings.now c.requires.apart c.requires.lent c.lend.new.clock.visit c.lend.ensures.same c.lend.ensures.lent c.lend.ensures.others
@@ -102,7 +102,7 @@ invariant_of-first g t c =
     let one =
     ap (λ (i : Inside g.row.J.Denot g.row.T.Denot). player i.guest i.role i.task i.lost i.counts) c.first-inside.view_is ∙ c.first.view_is in
     let had = c.clock-in-Some.inside.bundle in
-    let still = still_with w r c.first-inside.inside.0.1.0 c.first-inside.inside.0.1.1.0
+    let still = still_with g.J.Placing.tasks w r c.first-inside.inside.0.1.0 c.first-inside.inside.0.1.1.0
     c.first-inside.inside.0.1.1.1.0 c.first-inside.inside.0.1.1.1.1.1.0 me.visit clock.visit
     c.args.clock.now c.in-Some.first.now c.in-Some.others.now c.args.players.now c.args.groups.now one c.in-Some.ensures.cases.0 c.clock.view_is
     c.args.standings.now c.requires.apart c.requires.lent c.lend.new.clock.visit c.lend.ensures.same c.lend.ensures.lent c.lend.ensures.others
@@ -110,13 +110,13 @@ invariant_of-first g t c =
     c.with_all-answer.ensures.clock in
     let back = c.take_back.ensures.with_itself me.visit c.lend.ensures.away still in
     let was =
-    subst (λ (i : Inside g.row.J.Denot g.row.T.Denot). IsPlayer g.T.Task.Stands w i.guest i.role i.task i.lost) (sym c.first-inside.view_is)
+    subst (λ (i : Inside g.row.J.Denot g.row.T.Denot). IsPlayer g.T.WholeTask.Goes g.J.Placing.tasks w i.guest i.role i.task i.lost) (sym c.first-inside.view_is)
     c.first.invariant.0 in
     let counted =
     subst (λ (i : Inside g.row.J.Denot g.row.T.Denot). i.counts ≡ true → IsCounted g.T.WholeTask.Plays w i.guest i.task i.lost i.before)
     (sym c.first-inside.view_is) c.first.invariant.1 in
     let later = c.take_back.new.self.visit in
-    let caller = mine_caller w r c.first-inside.inside.0.1.0 c.first-inside.inside.0.1.1.0
+    let caller = mine_caller g.J.Placing.tasks w r c.first-inside.inside.0.1.0 c.first-inside.inside.0.1.1.0
     c.first-inside.inside.0.1.1.1.0 c.first-inside.inside.0.1.1.1.1.1.0 me.visit clock.visit
     c.args.clock.now c.in-Some.first.now c.in-Some.others.now c.args.players.now c.args.groups.now one c.in-Some.ensures.cases.0 c.clock.view_is
     c.args.standings.now c.requires.apart c.requires.lent c.lend.new.clock.visit c.lend.ensures.same c.lend.ensures.lent c.lend.ensures.others
@@ -124,7 +124,7 @@ invariant_of-first g t c =
     c.with_all-answer.ensures.clock
     c.lend.new.self.visit c.take_back.new.self.visit c.take_back.new.clock.visit c.lend.ensures.away.visit_is c.take_back.ensures.back back
     c.take_back.ensures.same c.take_back.ensures.seen c.take_back.ensures.others in
-    let names = mine_names w r c.first-inside.inside.0.1.0 c.first-inside.inside.0.1.1.0
+    let names = mine_names g.J.Placing.tasks w r c.first-inside.inside.0.1.0 c.first-inside.inside.0.1.1.0
     c.first-inside.inside.0.1.1.1.0 c.first-inside.inside.0.1.1.1.1.1.0 me.visit clock.visit
     c.args.clock.now c.in-Some.first.now c.in-Some.others.now c.args.players.now c.args.groups.now one c.in-Some.ensures.cases.0 c.clock.view_is
     c.args.standings.now c.requires.apart c.requires.lent c.lend.new.clock.visit c.lend.ensures.same c.lend.ensures.lent c.lend.ensures.others
@@ -132,7 +132,7 @@ invariant_of-first g t c =
     c.with_all-answer.ensures.clock
     c.lend.new.self.visit c.take_back.new.self.visit c.take_back.new.clock.visit c.lend.ensures.away.visit_is c.take_back.ensures.back back
     c.take_back.ensures.same c.take_back.ensures.seen c.take_back.ensures.others in (
-      player_stays g.T.Task.Stands w me.visit later c.first-inside.inside.0.1.0 c.first-inside.inside.0.1.1.0 c.first-inside.inside.0.1.1.1.0 was caller names
+      player_stays g.T.WholeTask.Goes g.J.Placing.tasks w me.visit later c.first-inside.inside.0.1.0 c.first-inside.inside.0.1.1.0 c.first-inside.inside.0.1.1.1.0 was caller names
           back.stays,
       λ counts. counts_stay g.T.WholeTask.Plays w me.visit later c.first-inside.inside.0.1.1.0 c.first-inside.inside.0.1.1.1.0
           c.first-inside.inside.0.1.1.1.1.0 (counted counts) caller names
@@ -146,8 +146,8 @@ decide-requires-clause-all g t c =
     let none : c.args.players.now ++ other_players c.args.groups.now ≡ [] =
     ap (λ (l : List (Playing g.row.T.Denot)). l ++ other_players c.args.groups.now) (nil_of c.args.players.now c.in-None.ensures.cases)
     ∙ ap other_players (nil_of c.args.groups.now c.in-None-split_first_mut.ensures.cases) in
-    all_stand w r c.args.clock.now.sight c.args.standings.now
-    (subst (λ (l : List (Playing g.row.T.Denot)). AreLent w r (visits l) c.args.clock.now.sight c.args.standings.now) none c.requires.lent)
+    all_stand g.J.Placing.tasks w r c.args.clock.now.sight c.args.standings.now
+    (subst (λ (l : List (Playing g.row.T.Denot)). AreLent g.J.Placing.tasks w r (visits l) c.args.clock.now.sight c.args.standings.now) none c.requires.lent)
 
 pub returns-in-Some-clause-others : goal.returns-in-Some-clause-others
 returns-in-Some-clause-others g t c =
@@ -158,14 +158,14 @@ returns-in-Some-clause-others g t c =
     let one =
     ap (λ (i : Inside g.row.J.Denot g.row.T.Denot). player i.guest i.role i.task i.lost i.counts) c.first-inside.view_is ∙ c.first.view_is in
     let had = c.clock-in-Some.inside.bundle in
-    let still = still_with w r c.first-inside.inside.0.1.0 c.first-inside.inside.0.1.1.0
+    let still = still_with g.J.Placing.tasks w r c.first-inside.inside.0.1.0 c.first-inside.inside.0.1.1.0
     c.first-inside.inside.0.1.1.1.0 c.first-inside.inside.0.1.1.1.1.1.0 me.visit clock.visit
     c.args.clock.now c.in-Some.first.now c.in-Some.others.now c.args.players.now c.args.groups.now one c.in-Some.ensures.cases.0 c.clock.view_is
     c.args.standings.now c.requires.apart c.requires.lent c.lend.new.clock.visit c.lend.ensures.same c.lend.ensures.lent c.lend.ensures.others
     had.visit c.with_all-answer.new.clock c.clock-in-Some.view_is c.with_all-answer.result c.with_all-answer.ensures.others
     c.with_all-answer.ensures.clock in
     let back = c.take_back.ensures.with_itself me.visit c.lend.ensures.away still in
-    others_stay_here w r c.first-inside.inside.0.1.0 c.first-inside.inside.0.1.1.0
+    others_stay_here g.J.Placing.tasks w r c.first-inside.inside.0.1.0 c.first-inside.inside.0.1.1.0
     c.first-inside.inside.0.1.1.1.0 c.first-inside.inside.0.1.1.1.1.1.0 me.visit clock.visit
     c.args.clock.now c.in-Some.first.now c.in-Some.others.now c.args.players.now c.args.groups.now one c.in-Some.ensures.cases.0 c.clock.view_is
     c.args.standings.now c.requires.apart c.requires.lent c.lend.new.clock.visit c.lend.ensures.same c.lend.ensures.lent c.lend.ensures.others
@@ -183,14 +183,14 @@ returns-in-Some-clause-clock g t c =
     let one =
     ap (λ (i : Inside g.row.J.Denot g.row.T.Denot). player i.guest i.role i.task i.lost i.counts) c.first-inside.view_is ∙ c.first.view_is in
     let had = c.clock-in-Some.inside.bundle in
-    let still = still_with w r c.first-inside.inside.0.1.0 c.first-inside.inside.0.1.1.0
+    let still = still_with g.J.Placing.tasks w r c.first-inside.inside.0.1.0 c.first-inside.inside.0.1.1.0
     c.first-inside.inside.0.1.1.1.0 c.first-inside.inside.0.1.1.1.1.1.0 me.visit clock.visit
     c.args.clock.now c.in-Some.first.now c.in-Some.others.now c.args.players.now c.args.groups.now one c.in-Some.ensures.cases.0 c.clock.view_is
     c.args.standings.now c.requires.apart c.requires.lent c.lend.new.clock.visit c.lend.ensures.same c.lend.ensures.lent c.lend.ensures.others
     had.visit c.with_all-answer.new.clock c.clock-in-Some.view_is c.with_all-answer.result c.with_all-answer.ensures.others
     c.with_all-answer.ensures.clock in
     let back = c.take_back.ensures.with_itself me.visit c.lend.ensures.away still in
-    advances_here w r c.first-inside.inside.0.1.0 c.first-inside.inside.0.1.1.0
+    advances_here g.J.Placing.tasks w r c.first-inside.inside.0.1.0 c.first-inside.inside.0.1.1.0
     c.first-inside.inside.0.1.1.1.0 c.first-inside.inside.0.1.1.1.1.1.0 me.visit clock.visit
     c.args.clock.now c.in-Some.first.now c.in-Some.others.now c.args.players.now c.args.groups.now one c.in-Some.ensures.cases.0 c.clock.view_is
     c.args.standings.now c.requires.apart c.requires.lent c.lend.new.clock.visit c.lend.ensures.same c.lend.ensures.lent c.lend.ensures.others
@@ -208,14 +208,14 @@ returns-in-Some-clause-players g t c =
     let one =
     ap (λ (i : Inside g.row.J.Denot g.row.T.Denot). player i.guest i.role i.task i.lost i.counts) c.first-inside.view_is ∙ c.first.view_is in
     let had = c.clock-in-Some.inside.bundle in
-    let still = still_with w r c.first-inside.inside.0.1.0 c.first-inside.inside.0.1.1.0
+    let still = still_with g.J.Placing.tasks w r c.first-inside.inside.0.1.0 c.first-inside.inside.0.1.1.0
     c.first-inside.inside.0.1.1.1.0 c.first-inside.inside.0.1.1.1.1.1.0 me.visit clock.visit
     c.args.clock.now c.in-Some.first.now c.in-Some.others.now c.args.players.now c.args.groups.now one c.in-Some.ensures.cases.0 c.clock.view_is
     c.args.standings.now c.requires.apart c.requires.lent c.lend.new.clock.visit c.lend.ensures.same c.lend.ensures.lent c.lend.ensures.others
     had.visit c.with_all-answer.new.clock c.clock-in-Some.view_is c.with_all-answer.result c.with_all-answer.ensures.others
     c.with_all-answer.ensures.clock in
     let back = c.take_back.ensures.with_itself me.visit c.lend.ensures.away still in
-    are_back w r c.first-inside.inside.0.1.0 c.first-inside.inside.0.1.1.0
+    are_back g.J.Placing.tasks w r c.first-inside.inside.0.1.0 c.first-inside.inside.0.1.1.0
     c.first-inside.inside.0.1.1.1.0 c.first-inside.inside.0.1.1.1.1.1.0 me.visit clock.visit
     c.args.clock.now c.in-Some.first.now c.in-Some.others.now c.args.players.now c.args.groups.now one c.in-Some.ensures.cases.0 c.clock.view_is
     c.args.standings.now c.requires.apart c.requires.lent c.lend.new.clock.visit c.lend.ensures.same c.lend.ensures.lent c.lend.ensures.others
@@ -247,7 +247,7 @@ returns-in-Some-split_first_mut-clause-clock g t c =
     group_lists c.args.players.now c.args.groups.now c.in-Some-split_first_mut.group.now c.in-Some-split_first_mut.rest.now c.as_mut_slice-players.result.now
     (nil_of c.args.players.now c.in-None.ensures.cases) c.in-Some-split_first_mut.ensures.cases.0
     (c.as_mut_slice-players.ensures.value ∙ ap (λ (x : Grouped g.row.T.Denot). x.players) c.group.view_is) in
-    subst (λ (l : List (Playing g.row.T.Denot)). Advances w r (visits l) c.args.clock.now c.with_all.result c.with_all.new.clock) (sym same)
+    subst (λ (l : List (Playing g.row.T.Denot)). Advances g.J.Placing.tasks w r (visits l) c.args.clock.now c.with_all.result c.with_all.new.clock) (sym same)
     c.with_all.ensures.clock
 
 pub returns-in-None-split_first_mut-clause-others : goal.returns-in-None-split_first_mut-clause-others
@@ -261,8 +261,8 @@ returns-in-None-split_first_mut-clause-clock g t c =
     let none : c.args.players.now ++ other_players c.args.groups.now ≡ [] =
     ap (λ (l : List (Playing g.row.T.Denot)). l ++ other_players c.args.groups.now) (nil_of c.args.players.now c.in-None.ensures.cases)
     ∙ ap other_players (nil_of c.args.groups.now c.in-None-split_first_mut.ensures.cases) in
-    subst (λ (l : List (Playing g.row.T.Denot)). Advances w r (visits l) c.args.clock.now c.decide.result c.decide.new.clock) (sym none)
-    (advances_at w r c.args.clock.now c.decide.result c.decide.new.clock c.decide.ensures.guests leaves.decided leaves.caller leaves.names
+    subst (λ (l : List (Playing g.row.T.Denot)). Advances g.J.Placing.tasks w r (visits l) c.args.clock.now c.decide.result c.decide.new.clock) (sym none)
+    (advances_at g.J.Placing.tasks w r c.args.clock.now c.decide.result c.decide.new.clock c.decide.ensures.guests leaves.decided leaves.caller leaves.names
     leaves.nexts leaves.timely)
 
 pub returns-in-None-split_first_mut-clause-players : goal.returns-in-None-split_first_mut-clause-players

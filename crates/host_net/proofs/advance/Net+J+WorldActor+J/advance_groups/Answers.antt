@@ -16,8 +16,8 @@ use Rattle.host_net.proofs.advance.Net+J+WorldActor+J.advance_groups.Goals as go
 pub returns-in_default-clause-kept : goal.returns-in_default-clause-kept
 returns-in_default-clause-kept g c =
     let w = g.J.Placing.world in
-    subst (λ (l : List (Grouped g.row.T.Denot)). GroupsAreKept w c.args.groups.now advance.Memory l) (sym (c.in_default.ensures.none refl))
-    (kept_itself w c.args.groups.now)
+    subst (λ (l : List (Grouped g.row.T.Denot)). GroupsAreKept g.J.Placing.tasks w c.args.groups.now advance.Memory l) (sym (c.in_default.ensures.none refl))
+    (kept_itself g.J.Placing.tasks w c.args.groups.now)
 
 pub with_all-answer-requires-clause-clock : goal.with_all-answer-requires-clause-clock
 with_all-answer-requires-clause-clock g c =
@@ -26,7 +26,7 @@ with_all-answer-requires-clause-clock g c =
     let p = player c.clock.inside.guest c.clock.inside.role c.clock.inside.task c.clock.inside.lost c.clock.inside.counts in
     let taken =
     subst (λ (x : Playing g.row.T.Denot). IsTaken c.args.groups.now x c.in-Some.place c.take_clock.new.groups) (sym c.clock.view_is) c.in-Some.ensures.some in
-    is_clock w r c.args.groups.now c.take_clock.new.groups c.in-Some.place p taken c.requires.dealt
+    is_clock g.J.Placing.tasks w r c.args.groups.now c.take_clock.new.groups c.in-Some.place p taken c.requires.dealt
 
 pub with_all-answer-requires-clause-apart : goal.with_all-answer-requires-clause-apart
 with_all-answer-requires-clause-apart g c =
@@ -35,7 +35,7 @@ with_all-answer-requires-clause-apart g c =
     let p = player c.clock.inside.guest c.clock.inside.role c.clock.inside.task c.clock.inside.lost c.clock.inside.counts in
     let taken =
     subst (λ (x : Playing g.row.T.Denot). IsTaken c.args.groups.now x c.in-Some.place c.take_clock.new.groups) (sym c.clock.view_is) c.in-Some.ensures.some in
-    clock_alone w r c.args.groups.now c.take_clock.new.groups c.in-Some.place p taken c.requires.dealt
+    clock_alone g.J.Placing.tasks w r c.args.groups.now c.take_clock.new.groups c.in-Some.place p taken c.requires.dealt
 
 pub with_all-answer-requires-clause-lent : goal.with_all-answer-requires-clause-lent
 with_all-answer-requires-clause-lent g c =
@@ -45,7 +45,7 @@ with_all-answer-requires-clause-lent g c =
     let taken =
     subst (λ (x : Playing g.row.T.Denot). IsTaken c.args.groups.now x c.in-Some.place c.take_clock.new.groups) (sym c.clock.view_is) c.in-Some.ensures.some in
     let mine = itself w r c.clock.inside.guest c.clock.inside.guest.sight refl c.guest_keeps.ensures in
-    all_lent_first w r c.args.groups.now c.take_clock.new.groups c.in-Some.place p taken c.requires.dealt c.args.standings.now c.requires.standings mine
+    all_lent_first g.J.Placing.tasks w r c.args.groups.now c.take_clock.new.groups c.in-Some.place p taken c.requires.dealt c.args.standings.now c.requires.standings mine
 
 pub put_clock-requires : goal.put_clock-requires
 put_clock-requires g c =
@@ -55,7 +55,7 @@ put_clock-requires g c =
     let taken =
     subst (λ (x : Playing g.row.T.Denot). IsTaken c.args.groups.now x c.in-Some.place c.take_clock.new.groups) (sym c.clock.view_is) c.in-Some.ensures.some in
     let q = player c.with_all-answer.new.clock c.clock.inside.role c.clock.inside.task c.clock.inside.lost c.clock.inside.counts in
-    place_within w r c.args.groups.now c.take_clock.new.groups c.in-Some.place p taken c.requires.dealt q c.with_all-answer.new.groups
+    place_within g.J.Placing.tasks w r c.args.groups.now c.take_clock.new.groups c.in-Some.place p taken c.requires.dealt q c.with_all-answer.new.groups
     c.with_all-answer.ensures.groups
 
 pub invariant_of-clock : goal.invariant_of-clock
@@ -66,11 +66,11 @@ invariant_of-clock g c =
     let taken =
     subst (λ (x : Playing g.row.T.Denot). IsTaken c.args.groups.now x c.in-Some.place c.take_clock.new.groups) (sym c.clock.view_is) c.in-Some.ensures.some in
     let mine = itself w r c.clock.inside.guest c.clock.inside.guest.sight refl c.guest_keeps.ensures in
-    let clock = is_clock w r c.args.groups.now c.take_clock.new.groups c.in-Some.place p taken c.requires.dealt in
+    let clock = is_clock g.J.Placing.tasks w r c.args.groups.now c.take_clock.new.groups c.in-Some.place p taken c.requires.dealt in
     let caller = c.with_all-answer.ensures.clock.caller_is in (
-      clock_player g.T.Task.Stands w c.clock.inside.guest c.with_all-answer.new.clock c.clock.inside.role c.clock.inside.task c.clock.inside.lost
+      clock_player g.T.WholeTask.Goes g.J.Placing.tasks w c.clock.inside.guest c.with_all-answer.new.clock c.clock.inside.role c.clock.inside.task c.clock.inside.lost
           c.clock.invariant.0 caller clock
-          (clock_played w r (visits (other_players c.take_clock.new.groups)) c.clock.inside.guest c.with_all-answer.result c.with_all-answer.new.clock
+          (clock_played g.J.Placing.tasks w r (visits (other_players c.take_clock.new.groups)) c.clock.inside.guest c.with_all-answer.result c.with_all-answer.new.clock
           c.with_all-answer.ensures.clock mine c.clock.invariant.0.plays),
       λ counts. counts_none g.T.WholeTask.Plays w c.with_all-answer.new.clock c.clock.inside.task c.clock.inside.lost c.clock.inside.before
           (λ s script. no_script w c.clock.inside.guest.caller s clock (ap (caller_of w) (sym caller) ∙ script)),
@@ -90,7 +90,7 @@ returns-clause-seats g c =
     subst (λ (x : Playing g.row.T.Denot). IsTaken c.args.groups.now x c.in-Some.place c.take_clock.new.groups) (sym c.clock.view_is) c.in-Some.ensures.some in
     let q = player c.with_all-answer.new.clock c.clock.inside.role c.clock.inside.task c.clock.inside.lost c.clock.inside.counts in
     let mine = itself w r c.clock.inside.guest c.clock.inside.guest.sight refl c.guest_keeps.ensures in
-    all_seated w r c.args.groups.now c.take_clock.new.groups c.in-Some.place p taken c.requires.dealt q c.with_all-answer.new.groups
+    all_seated g.J.Placing.tasks w r c.args.groups.now c.take_clock.new.groups c.in-Some.place p taken c.requires.dealt q c.with_all-answer.new.groups
     c.with_all-answer.ensures.groups
     c.with_all-answer.result c.with_all-answer.ensures.clock mine c.histories_are_their_callers.ensures
     (c.histories_of_guests_are_legal.ensures.but_scripts w r)
@@ -105,7 +105,7 @@ returns-clause-kept g c =
     subst (λ (x : Playing g.row.T.Denot). IsTaken c.args.groups.now x c.in-Some.place c.take_clock.new.groups) (sym c.clock.view_is) c.in-Some.ensures.some in
     let q = player c.with_all-answer.new.clock c.clock.inside.role c.clock.inside.task c.clock.inside.lost c.clock.inside.counts in
     let mine = itself w r c.clock.inside.guest c.clock.inside.guest.sight refl c.guest_keeps.ensures in
-    all_kept w r c.args.groups.now c.take_clock.new.groups c.in-Some.place p taken c.requires.dealt q c.with_all-answer.new.groups
+    all_kept g.J.Placing.tasks w r c.args.groups.now c.take_clock.new.groups c.in-Some.place p taken c.requires.dealt q c.with_all-answer.new.groups
     c.with_all-answer.ensures.groups
     c.with_all-answer.result c.with_all-answer.ensures.clock mine c.histories_are_their_callers.ensures
     (c.histories_of_guests_are_legal.ensures.but_scripts w r)
@@ -120,7 +120,7 @@ returns-clause-moment g c =
     subst (λ (x : Playing g.row.T.Denot). IsTaken c.args.groups.now x c.in-Some.place c.take_clock.new.groups) (sym c.clock.view_is) c.in-Some.ensures.some in
     let q = player c.with_all-answer.new.clock c.clock.inside.role c.clock.inside.task c.clock.inside.lost c.clock.inside.counts in
     let mine = itself w r c.clock.inside.guest c.clock.inside.guest.sight refl c.guest_keeps.ensures in
-    all_at_once w r c.args.groups.now c.take_clock.new.groups c.in-Some.place p taken c.requires.dealt q c.with_all-answer.new.groups
+    all_at_once g.J.Placing.tasks w r c.args.groups.now c.take_clock.new.groups c.in-Some.place p taken c.requires.dealt q c.with_all-answer.new.groups
     c.with_all-answer.ensures.groups
     c.with_all-answer.result c.with_all-answer.ensures.clock mine c.histories_are_their_callers.ensures
     (c.histories_of_guests_are_legal.ensures.but_scripts w r)
@@ -135,7 +135,7 @@ returns-clause-answer g c =
     subst (λ (x : Playing g.row.T.Denot). IsTaken c.args.groups.now x c.in-Some.place c.take_clock.new.groups) (sym c.clock.view_is) c.in-Some.ensures.some in
     let q = player c.with_all-answer.new.clock c.clock.inside.role c.clock.inside.task c.clock.inside.lost c.clock.inside.counts in
     let mine = itself w r c.clock.inside.guest c.clock.inside.guest.sight refl c.guest_keeps.ensures in
-    all_advanced w r c.args.groups.now c.take_clock.new.groups c.in-Some.place p taken c.requires.dealt q c.with_all-answer.new.groups
+    all_advanced g.J.Placing.tasks w r c.args.groups.now c.take_clock.new.groups c.in-Some.place p taken c.requires.dealt q c.with_all-answer.new.groups
     c.with_all-answer.ensures.groups
     c.with_all-answer.result c.with_all-answer.ensures.clock mine c.histories_are_their_callers.ensures
     (c.histories_of_guests_are_legal.ensures.but_scripts w r)

@@ -25,13 +25,13 @@ returns g c =
     mine c.gather.ensures in
     let actors = c.in_ok-journal.ensures.known in
     let callers = c.in_ok-journal.ensures.callers in
-    IfOk-weaker c.close_in_books.result (λ h. IsWhole r c.gather.new.all c.in_ok-journal.books.items h) (λ h. Finished w c.args.guests.items h)
+    IfOk-weaker c.close_in_books.result (λ h. IsWhole r c.gather.new.all c.in_ok-journal.books.items h) (λ h. Finished g.J.Placing.tasks w c.args.guests.items h)
     (λ h whole.
-    finished w r actors callers c.args.guests.items c.gather.new.all c.in_ok-journal.books.items h c.requires.all here whole
-    (kept w r actors callers c.args.guests.items c.gather.new.all c.in_ok-journal.books.items h c.requires.all here whole
+    finished g.J.Placing.tasks w r actors callers c.args.guests.items c.gather.new.all c.in_ok-journal.books.items h c.requires.all here whole
+    (kept g.J.Placing.tasks w r actors callers c.args.guests.items c.gather.new.all c.in_ok-journal.books.items h c.requires.all here whole
     c.in_ok-journal.ensures.replayed c.in_ok-journal.ensures.each)
     (c.histories_of_guests_are_legal.ensures.net w r c.gather.new.all.seen)
     (c.histories_of_guests_are_legal.ensures.but_scripts w r c.gather.new.all.seen)
-    (c.histories_of_guests_are_legal.ensures.legal w r c.gather.new.all.seen)
-    (c.histories_of_guests_are_legal.ensures.timed w r c.gather.new.all.seen))
+    (c.histories_of_guests_are_legal.ensures.legal g.J.Placing.tasks w r c.gather.new.all.seen)
+    (c.histories_of_guests_are_legal.ensures.timed g.J.Placing.tasks w r c.gather.new.all.seen))
     c.close_in_books.ensures

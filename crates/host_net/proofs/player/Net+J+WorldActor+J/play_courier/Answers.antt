@@ -16,9 +16,9 @@ returns-clause-turn g c =
     subst (λ (r : Role). HasRole w p.guest.caller r) (ap (λ x. x.role) c.player.view_is ∙ c.requires.courier) c.player.invariant.0.role_is in
     let free : p.guest.owed ≡ [] = ap (λ x. x.visit.owed) c.player.view_is ∙ c.requires.free in
     let new = playing c.courier_turn.new.guest p.role p.task p.lost p.counts in
-    subst (λ x. PlaysOn w x c.played_of.result new) c.player.view_is
-    (subst (λ (r : Played). PlaysOn w (playing p.guest p.role p.task p.lost p.counts) r new) (sym c.played_of.ensures)
-    (take_plays w m p.guest c.courier_turn.new.guest c.courier_turn.ensures.same c.courier_turn.ensures.names courier free c.courier_turn.result
+    subst (λ x. PlaysOn g.J.Placing.tasks w x c.played_of.result new) c.player.view_is
+    (subst (λ (r : Played). PlaysOn g.J.Placing.tasks w (playing p.guest p.role p.task p.lost p.counts) r new) (sym c.played_of.ensures)
+    (take_plays g.J.Placing.tasks w m p.guest c.courier_turn.new.guest c.courier_turn.ensures.same c.courier_turn.ensures.names courier free c.courier_turn.result
     (c.courier_turn.ensures.free free) p.role p.task p.lost p.counts))
 
 pub invariant_of-player : goal.invariant_of-player
@@ -30,7 +30,7 @@ invariant_of-player g c =
     subst (λ (r : Role). HasRole w p.guest.caller r) (ap (λ x. x.role) c.player.view_is ∙ c.requires.courier) c.player.invariant.0.role_is in
     let free : p.guest.owed ≡ [] = ap (λ x. x.visit.owed) c.player.view_is ∙ c.requires.free in
     let same = c.courier_turn.ensures.same in (
-      take_keeps w m p.guest c.courier_turn.new.guest same c.courier_turn.ensures.names courier free c.courier_turn.result
-          (c.courier_turn.ensures.free free) g.T.Task.Stands p.role p.task p.lost c.player.invariant.0,
+      take_keeps g.J.Placing.tasks w m p.guest c.courier_turn.new.guest same c.courier_turn.ensures.names courier free c.courier_turn.result
+          (c.courier_turn.ensures.free free) g.T.WholeTask.Goes p.role p.task p.lost c.player.invariant.0,
       λ counts. counts_courier g.T.WholeTask.Plays w m c.courier_turn.new.guest p.task p.lost p.before (ap (caller_of w) same.caller ∙ courier),
     )

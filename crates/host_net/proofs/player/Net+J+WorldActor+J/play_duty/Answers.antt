@@ -16,10 +16,10 @@ invariant_of-player g c =
     let new = c.serve.new.guest in
     let same = c.serve.ensures.same in
     let takes = c.serve.ensures.turn first.0 first.1 in (
-      duty_keeps w first.0 p.guest new same c.serve.ensures.names _ (first_of p.guest.owed first.0 first.1)
-          c.serve.result takes g.T.Task.Stands p.role p.task p.lost c.player.invariant.0,
+      duty_keeps g.J.Placing.tasks w first.0 p.guest new same c.serve.ensures.names _ (first_of p.guest.owed first.0 first.1)
+          c.serve.result takes g.T.WholeTask.Goes p.role p.task p.lost c.player.invariant.0,
       λ counts. counts_stay g.T.WholeTask.Plays w p.guest new p.task p.lost p.before (c.player.invariant.1 counts) same.caller c.serve.ensures.names
-          (duty_stays w first.0 p.guest new same c.serve.ensures.names first.0.actor (work_of_duty first.0) c.serve.result takes),
+          (duty_stays g.J.Placing.tasks w first.0 p.guest new same c.serve.ensures.names first.0.actor (work_of_duty first.0) c.serve.result takes),
     )
 
 pub returns-clause-turn : goal.returns-clause-turn
@@ -29,7 +29,7 @@ returns-clause-turn g c =
     let some : p.guest.owed ≢ [] = λ none. c.requires.owes (sym (ap (λ x. x.visit.owed) c.player.view_is) ∙ none) in
     let first = first_some p.guest.owed some in
     let new = playing c.serve.new.guest p.role p.task p.lost p.counts in
-    subst (λ x. PlaysOn w x c.played_of.result new) c.player.view_is
-    (subst (λ (r : Played). PlaysOn w (playing p.guest p.role p.task p.lost p.counts) r new) (sym c.played_of.ensures)
-    (duty_plays w first.0 p.guest c.serve.new.guest c.serve.ensures.same c.serve.ensures.names _ (first_of p.guest.owed first.0 first.1) c.serve.result
+    subst (λ x. PlaysOn g.J.Placing.tasks w x c.played_of.result new) c.player.view_is
+    (subst (λ (r : Played). PlaysOn g.J.Placing.tasks w (playing p.guest p.role p.task p.lost p.counts) r new) (sym c.played_of.ensures)
+    (duty_plays g.J.Placing.tasks w first.0 p.guest c.serve.new.guest c.serve.ensures.same c.serve.ensures.names _ (first_of p.guest.owed first.0 first.1) c.serve.result
     (c.serve.ensures.turn first.0 first.1) p.role p.task p.lost p.counts))

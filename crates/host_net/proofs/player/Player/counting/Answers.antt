@@ -1,11 +1,15 @@
-use Rattle.std.proofs.Common.{[], ap, ◌∙◌}
+use Rattle.std.proofs.Common.{[], Option, ap, sym, subst, ◌∙◌}
 use Rattle.net_base.specs.Next.{zone_of}
 use Rattle.net_base.specs.Steps.{no_names}
+use Rattle.net_base.specs.Tasks.{Asking}
 use Rattle.host_net.proofs.Counting.{counts_fresh}
 use Rattle.host_net.proofs.player.Player.counting.Goals as goal
 
 pub new-player-requires-clause-task : goal.new-player-requires-clause-task
-new-player-requires-clause-task g c = λ s script. g.met.T.WholeTask.stands_there (zone_of g.J.Placing.world) s [] (no_names (zone_of g.J.Placing.world)) c.args.task (c.requires.plays s script)
+new-player-requires-clause-task g c = λ s script.
+    let w = g.J.Placing.world in
+    subst (λ (o : Option Asking). g.T.WholeTask.Goes o (zone_of w) s [] (no_names (zone_of w)) c.args.task) (sym c.requires.script)
+    (g.met.T.WholeTask.plays_there (zone_of w) s [] (no_names (zone_of w)) c.args.task (c.requires.plays s script))
 
 pub invariant_of-player : goal.invariant_of-player
 invariant_of-player g c = (

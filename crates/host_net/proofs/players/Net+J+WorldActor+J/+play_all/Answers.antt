@@ -12,7 +12,7 @@ returns-in-Some-clause-seats g t c =
 pub returns-in-Some-clause-rest : goal.returns-in-Some-clause-rest
 returns-in-Some-clause-rest g t c = λ whole waits.
     let two = c.both.ensures.waits waits in
-    waiting_parts g.J.Placing.world (members c.play_round-first.new.group) (all_members c.play_all-rest.new.groups)
+    waiting_parts g.J.Placing.tasks g.J.Placing.world (members c.play_round-first.new.group) (all_members c.play_all-rest.new.groups)
     (c.play_round-first.ensures.rest whole two.0)
     (c.play_all-rest.ensures.rest whole two.1)
 
@@ -23,4 +23,4 @@ returns-in-Some-clause-short g t c = λ memory.
 
 pub returns-in-None-clause-rest : goal.returns-in-None-clause-rest
 returns-in-None-clause-rest g t c = λ whole waits.
-    subst (λ l. AreWaiting g.J.Placing.world (all_members l)) (sym (nil_of c.args.groups.now c.in-None.ensures.cases)) (λ p there. absurd there)
+    subst (λ l. AreWaiting g.J.Placing.tasks g.J.Placing.world (all_members l)) (sym (nil_of c.args.groups.now c.in-None.ensures.cases)) (λ p there. absurd there)

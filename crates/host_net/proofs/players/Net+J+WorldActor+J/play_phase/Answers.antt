@@ -31,4 +31,4 @@ returns-clause-rest g c =
     let same = c.play_groups.ensures.seats in
     let wrote = written c.play_groups.new.groups p.groups.items p.groups.len p.groups.ok.0
     (as_many c.play_groups.new.groups c.deref_mut.result.now same ∙ ap length there) in
-    subst (λ l. list_any (λ x. x.memory) l ≡ false → AreWaiting g.J.Placing.world (all_members l)) (sym wrote) c.play_groups.ensures.rest
+    subst (λ l. list_any (λ x. x.memory) l ≡ false → AreWaiting g.J.Placing.tasks g.J.Placing.world (all_members l)) (sym wrote) c.play_groups.ensures.rest

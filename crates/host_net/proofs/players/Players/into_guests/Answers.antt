@@ -12,7 +12,7 @@ loop-group-init g c = (
   ap (λ (l : List Visit). l ++ visits (all_members (reverse c.reverse.new.self.items))) c.in_ok-guests.ensures.items
       ∙ (ap (λ l. visits (all_members l)) (ap reverse c.reverse.ensures.items ∙ reverse-reverse c.self.inside.groups.items)
       ∙ ap (λ x. visits (all_members x.groups)) c.self.view_is),
-  subst (λ (l : List Visit). ArePlayed g.J.Placing.world l) (sym c.in_ok-guests.ensures.items) (λ v there. absurd there),
+  subst (λ (l : List Visit). ArePlayed g.J.Placing.tasks g.J.Placing.world l) (sym c.in_ok-guests.ensures.items) (λ v there. absurd there),
 )
 
 pub loop-group-smaller : goal.loop-group-smaller

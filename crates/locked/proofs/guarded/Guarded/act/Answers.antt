@@ -18,9 +18,9 @@ invariant_of-self-in-Ok g c =
     let book = c.prepare.ensures.book in
     let t = c.in-Ok.ensures.ok in
     let stands : Stands m.begin m.answer c.self.inside.machine b = stands_same m.begin m.answer c.self.inside.machine c.self.inside.book b c.self.invariant book.0 book.3 in
-    let entry : c.in-Ok.entry ≡ (made b.actor c.args.caller c.args.now c.args.work.now c.args.cites t.1).entry =
-    t.4 ∙ ap (λ (a : ActorName). (made a c.args.caller c.args.now c.args.work.now c.args.cites t.1).entry) (sym book.0) in
-    stands_after m.begin m.answer g.J.Naming.run.roster c.args.caller c.args.now c.args.work.now c.args.cites c.args.pass.now c.record-stamp.new.pass b c.record-stamp.new.book
+    let entry : c.in-Ok.entry ≡ (made b.actor c.args.asked.caller c.args.asked.now c.args.asked.work.now c.args.asked.cites t.1).entry =
+    t.4 ∙ ap (λ (a : ActorName). (made a c.args.asked.caller c.args.asked.now c.args.asked.work.now c.args.asked.cites t.1).entry) (sym book.0) in
+    stands_after m.begin m.answer g.J.Naming.run.roster c.args.asked.caller c.args.asked.now c.args.asked.work.now c.args.asked.cites c.args.pass.now c.record-stamp.new.pass b c.record-stamp.new.book
     c.self.inside.machine c.prepare.new.machine t.1 c.in-Ok.outcome c.in-Ok.entry c.record-stamp.result stands t.2 entry c.record-stamp.ensures
 
 pub returns-in-Ok-clause-acted : goal.returns-in-Ok-clause-acted
@@ -31,9 +31,9 @@ returns-in-Ok-clause-acted g c =
     let book = c.prepare.ensures.book in
     let t = c.in-Ok.ensures.ok in
     let stands : Stands m.begin m.answer c.self.inside.machine b = stands_same m.begin m.answer c.self.inside.machine c.self.inside.book b c.self.invariant book.0 book.3 in
-    let entry : c.in-Ok.entry ≡ (made b.actor c.args.caller c.args.now c.args.work.now c.args.cites t.1).entry =
-    t.4 ∙ ap (λ (a : ActorName). (made a c.args.caller c.args.now c.args.work.now c.args.cites t.1).entry) (sym book.0) in
-    subst (λ (a : ActorName). IsDone m.begin m.answer r a c.args.caller c.args.now c.args.work.now c.args.cites c.args.pass.now c.record-stamp.result c.in-Ok.outcome c.record-stamp.new.pass)
+    let entry : c.in-Ok.entry ≡ (made b.actor c.args.asked.caller c.args.asked.now c.args.asked.work.now c.args.asked.cites t.1).entry =
+    t.4 ∙ ap (λ (a : ActorName). (made a c.args.asked.caller c.args.asked.now c.args.asked.work.now c.args.asked.cites t.1).entry) (sym book.0) in
+    subst (λ (a : ActorName). IsDone m.begin m.answer r a c.args.asked.caller c.args.asked.now c.args.asked.work.now c.args.asked.cites c.args.pass.now c.record-stamp.result c.in-Ok.outcome c.record-stamp.new.pass)
     (book.0 ∙ ap (λ (z : Volume). z.actor) c.self.view_is)
-    (is_done m.begin m.answer r c.args.caller c.args.now c.args.work.now c.args.cites c.args.pass.now c.record-stamp.new.pass b c.record-stamp.new.book
+    (is_done m.begin m.answer r c.args.asked.caller c.args.asked.now c.args.asked.work.now c.args.asked.cites c.args.pass.now c.record-stamp.new.pass b c.record-stamp.new.book
     c.self.inside.machine c.prepare.new.machine t.1 c.in-Ok.outcome c.in-Ok.entry c.record-stamp.result stands t.2 entry c.record-stamp.ensures t.3 c.requires.moment)

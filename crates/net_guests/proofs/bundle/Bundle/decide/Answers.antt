@@ -21,7 +21,7 @@ halt-halt-requires-clause-clock g c = ap (λ (b : Carried). caller_of g.J.Placin
 
 pub halt-halt-requires-clause-all : goal.halt-halt-requires-clause-all
 halt-halt-requires-clause-all g c =
-    subst (λ (b : Carried). AllStand g.J.Placing.world g.J.Naming.run.roster b.visit.sight c.args.standings.now) (sym c.self.view_is) c.requires.all
+    subst (λ (b : Carried). AllStand g.J.Placing.tasks g.J.Placing.world g.J.Naming.run.roster b.visit.sight c.args.standings.now) (sym c.self.view_is) c.requires.all
 
 pub returns-in-Some-clause-guests : goal.returns-in-Some-clause-guests
 returns-in-Some-clause-guests g c =
@@ -34,8 +34,8 @@ returns-in-Some-clause-leaves g c =
     let v = c.self.inside.visitor in
     let clock = ap (λ (b : Carried). caller_of w b.visit.caller) c.self.view_is ∙ c.requires.clock in
     let h = c.halt-halt.new.bearer in
-    subst (λ (b : Carried). Leaves w r b.visit c.in-Some.answer (visit_of (record v { bearer = h }) c.self.inside.fids.names)) c.self.view_is
-    (halted w r v.bearer h v.duties.list c.self.inside.fids.names clock c.halt-halt.ensures.same c.in-Some.answer c.in-Some.ensures.halts)
+    subst (λ (b : Carried). Leaves g.J.Placing.tasks w r b.visit c.in-Some.answer (visit_of (record v { bearer = h }) c.self.inside.fids.names)) c.self.view_is
+    (halted g.J.Placing.tasks w r v.bearer h v.duties.list c.self.inside.fids.names clock c.halt-halt.ensures.same c.in-Some.answer c.in-Some.ensures.halts)
 
 pub returns-in-Some-clause-complete : goal.returns-in-Some-clause-complete
 returns-in-Some-clause-complete g c =
@@ -44,7 +44,7 @@ returns-in-Some-clause-complete g c =
     let v = c.self.inside.visitor in
     let clock = ap (λ (b : Carried). caller_of w b.visit.caller) c.self.view_is ∙ c.requires.clock in
     let is = subst (λ (b : Carried). IsComplete w r b) (sym c.self.view_is) c.requires.complete in
-    held w r v.bearer c.halt-halt.new.bearer v.duties.list c.self.inside.fids.names clock c.halt-halt.ensures.same c.self.inside.host v.touched v.calendar is
+    held g.J.Placing.tasks w r v.bearer c.halt-halt.new.bearer v.duties.list c.self.inside.fids.names clock c.halt-halt.ensures.same c.self.inside.host v.touched v.calendar is
 
 pub try_move-moved-requires-clause-complete : goal.try_move-moved-requires-clause-complete
 try_move-moved-requires-clause-complete g c =
@@ -53,15 +53,15 @@ try_move-moved-requires-clause-complete g c =
     let v = c.self.inside.visitor in
     let clock = ap (λ (b : Carried). caller_of w b.visit.caller) c.self.view_is ∙ c.requires.clock in
     let is = subst (λ (b : Carried). IsComplete w r b) (sym c.self.view_is) c.requires.complete in
-    (held w r v.bearer c.halt-halt.new.bearer v.duties.list c.self.inside.fids.names clock c.halt-halt.ensures.same c.self.inside.host v.touched v.calendar is).visit
+    (held g.J.Placing.tasks w r v.bearer c.halt-halt.new.bearer v.duties.list c.self.inside.fids.names clock c.halt-halt.ensures.same c.self.inside.host v.touched v.calendar is).visit
 
 pub try_move-moved-requires-clause-may : goal.try_move-moved-requires-clause-may
 try_move-moved-requires-clause-may g c =
     let w = g.J.Placing.world in
     let v = c.self.inside.visitor in
     let clock = ap (λ (b : Carried). caller_of w b.visit.caller) c.self.view_is ∙ c.requires.clock in
-    let may = subst (λ (o : Option Advance). Halts w v.bearer.caller v.bearer.pass o) c.in_default.is c.halt-halt.ensures.halts in
-    held_may w g.J.Naming.run.roster v.bearer c.halt-halt.new.bearer v.duties.list c.self.inside.fids.names clock c.halt-halt.ensures.same may
+    let may = subst (λ (o : Option Advance). Halts g.J.Placing.tasks w v.bearer.caller v.bearer.pass o) c.in_default.is c.halt-halt.ensures.halts in
+    held_may g.J.Placing.tasks w g.J.Naming.run.roster v.bearer c.halt-halt.new.bearer v.duties.list c.self.inside.fids.names clock c.halt-halt.ensures.same may
 
 pub returns-clause-leaves : goal.returns-clause-leaves
 returns-clause-leaves g c =
@@ -73,8 +73,8 @@ returns-clause-leaves g c =
     let names = c.self.inside.fids.names in
     let m = c.in-Some-moved.moment in
     let clock = ap (λ (b : Carried). caller_of w b.visit.caller) c.self.view_is ∙ c.requires.clock in
-    let may = subst (λ (o : Option Advance). Halts w v.bearer.caller v.bearer.pass o) c.in_default.is c.halt-halt.ensures.halts in
-    let went = subst (λ (o : Option ℕ). MayGo w r h.caller h.now h.pass v.duties.list o v'.bearer.pass v'.duties.list) c.in-Some-moved.is c.try_move-moved.ensures.go in
+    let may = subst (λ (o : Option Advance). Halts g.J.Placing.tasks w v.bearer.caller v.bearer.pass o) c.in_default.is c.halt-halt.ensures.halts in
+    let went = subst (λ (o : Option ℕ). MayGo g.J.Placing.tasks w r h.caller h.now h.pass v.duties.list o v'.bearer.pass v'.duties.list) c.in-Some-moved.is c.try_move-moved.ensures.go in
     let now : v'.bearer.now ≡ m = c.try_move-moved.ensures.now ∙ ap (λ (o : Option ℕ). unwrap_or o h.now) c.in-Some-moved.is in
-    subst (λ (b : Carried). Leaves w r b.visit (advance.Moved m) (visit_of v' names)) c.self.view_is
-    (gone w r v.bearer h v.duties.list names clock c.halt-halt.ensures.same v'.bearer v'.duties.list c.try_move-moved.ensures.caller m now may went)
+    subst (λ (b : Carried). Leaves g.J.Placing.tasks w r b.visit (advance.Moved m) (visit_of v' names)) c.self.view_is
+    (gone g.J.Placing.tasks w r v.bearer h v.duties.list names clock c.halt-halt.ensures.same v'.bearer v'.duties.list c.try_move-moved.ensures.caller m now may went)

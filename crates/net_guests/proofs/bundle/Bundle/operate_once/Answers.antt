@@ -5,7 +5,7 @@ use Rattle.script_task.specs.Holdings.{Holdings}
 use Rattle.script_task.specs.declared.effect.Effect.{Effect}
 use Rattle.script_task.specs.Effects.{effect_of}
 use Rattle.script_task.specs.Planning.{ask_of}
-use Rattle.script_task.specs.Requests.{planned}
+use Rattle.net_base.specs.Requests.{planned}
 use Rattle.net_guests.specs.Visits.{Carried, IsComplete, Operated, names_after, settled_by, visit_of}
 use Rattle.net_guests.proofs.Asking.{planned_away}
 use Rattle.net_guests.proofs.Operating.{operated, settles_names, visit, hosted_on}
@@ -41,13 +41,13 @@ returns-clause-turn g c s is =
     ∙ (ap (λ (e : Effect). (settled_by e c.own-turn.result c.reserve.new.fids).names) effect
     ∙ (settles_names c.effects_settle.ensures c.reserve.new.fids q c.own-turn.result
     ∙ ap (λ (l : Names). names_after l q c.own-turn.result) c.reserve.ensures.names)) in
-    let did = operated w s.host q v.bearer.caller v.bearer.now v.bearer.pass v'.bearer.pass v.duties.list v'.duties.list
+    let did = operated g.J.Placing.tasks w s.host q v.bearer.caller v.bearer.now v.bearer.pass v'.bearer.pass v.duties.list v'.duties.list
     names names' (ask_of c.plan-actor.result) c.own-turn.result (free_none v.duties.list none)
     (ap (λ (h : ℕ). planned h names q) home ∙ c.plan-actor.ensures.event) c.own-turn.ensures.turn called in
     let old = visit_of v names in
-    subst (λ (b : Carried). Operated w s.host q b.visit c.own-turn.result (visit_of v' names')) c.self.view_is
-    (subst (λ (n : ℕ). Operated w s.host q old c.own-turn.result (visit n v'.bearer.now v'.bearer.pass v'.duties.list names')) (sym c.own-turn.ensures.same.caller)
-    (subst (λ (n : ℕ). Operated w s.host q old c.own-turn.result (visit v.bearer.caller n v'.bearer.pass v'.duties.list names')) (sym c.own-turn.ensures.same.now) did))
+    subst (λ (b : Carried). Operated g.J.Placing.tasks w s.host q b.visit c.own-turn.result (visit_of v' names')) c.self.view_is
+    (subst (λ (n : ℕ). Operated g.J.Placing.tasks w s.host q old c.own-turn.result (visit n v'.bearer.now v'.bearer.pass v'.duties.list names')) (sym c.own-turn.ensures.same.caller)
+    (subst (λ (n : ℕ). Operated g.J.Placing.tasks w s.host q old c.own-turn.result (visit v.bearer.caller n v'.bearer.pass v'.duties.list names')) (sym c.own-turn.ensures.same.now) did))
 
 pub returns-clause-complete : goal.returns-clause-complete
 returns-clause-complete g c =

@@ -14,7 +14,7 @@ view_all-requires-clause-numbers g c =
     let w = g.J.Placing.world in
     let r = g.J.Naming.run.roster in
     let p = c.args.pass.now in
-    let all = holds_all w r p c.args.standings.now c.requires.all in
+    let all = holds_all g.J.Placing.tasks w r p c.args.standings.now c.requires.all in
     subst (λ (q : Sight). HoldsAll r q) (sym (looked_same r p c.look-front.result c.look-front.new.pass all c.look-front.ensures)) all
 
 pub view_all-requires-clause-room : goal.view_all-requires-clause-room
@@ -25,17 +25,17 @@ view_all-requires-clause-room g c =
 pub returns-then-not-is_told-clause-same : goal.returns-then-not-is_told-clause-same
 returns-then-not-is_told-clause-same g c =
     looked_same g.J.Naming.run.roster c.args.pass.now c.look-front.result c.look-front.new.pass
-    (holds_all g.J.Placing.world g.J.Naming.run.roster c.args.pass.now c.args.standings.now c.requires.all) c.look-front.ensures
+    (holds_all g.J.Placing.tasks g.J.Placing.world g.J.Naming.run.roster c.args.pass.now c.args.standings.now c.requires.all) c.look-front.ensures
 
 pub returns-in_default-clause-same : goal.returns-in_default-clause-same
 returns-in_default-clause-same g c =
     looked_same g.J.Naming.run.roster c.args.pass.now c.look-front.result c.look-front.new.pass
-    (holds_all g.J.Placing.world g.J.Naming.run.roster c.args.pass.now c.args.standings.now c.requires.all) c.look-front.ensures
+    (holds_all g.J.Placing.tasks g.J.Placing.world g.J.Naming.run.roster c.args.pass.now c.args.standings.now c.requires.all) c.look-front.ensures
 
 pub returns-then-is_err-clause-same : goal.returns-then-is_err-clause-same
 returns-then-is_err-clause-same g c =
     looked_same g.J.Naming.run.roster c.args.pass.now c.look-front.result c.look-front.new.pass
-    (holds_all g.J.Placing.world g.J.Naming.run.roster c.args.pass.now c.args.standings.now c.requires.all) c.look-front.ensures
+    (holds_all g.J.Placing.tasks g.J.Placing.world g.J.Naming.run.roster c.args.pass.now c.args.standings.now c.requires.all) c.look-front.ensures
 
 pub returns-then-is_err-clause-known : goal.returns-then-is_err-clause-known
 returns-then-is_err-clause-known g c =
@@ -46,7 +46,7 @@ pub returns-clause-same : goal.returns-clause-same
 returns-clause-same g c =
     c.view_all.ensures.same
     ∙ looked_same g.J.Naming.run.roster c.args.pass.now c.look-front.result c.look-front.new.pass
-    (holds_all g.J.Placing.world g.J.Naming.run.roster c.args.pass.now c.args.standings.now c.requires.all) c.look-front.ensures
+    (holds_all g.J.Placing.tasks g.J.Placing.world g.J.Naming.run.roster c.args.pass.now c.args.standings.now c.requires.all) c.look-front.ensures
 
 pub returns-clause-known : goal.returns-clause-known
 returns-clause-known g c =
@@ -54,7 +54,7 @@ returns-clause-known g c =
     let r = g.J.Naming.run.roster in
     let p = c.args.pass.now in
     let ss = c.args.standings.now in
-    let same = looked_same r p c.look-front.result c.look-front.new.pass (holds_all w r p ss c.requires.all) c.look-front.ensures in
+    let same = looked_same r p c.look-front.result c.look-front.new.pass (holds_all g.J.Placing.tasks w r p ss c.requires.all) c.look-front.ensures in
     let old = (noted_net w (take c.args.calendar.now.at p.seen)).actors in
     let dues = caught_up w r p.seen ss c.args.calendar.now.at c.same_actors_are_equal.ensures (λ s there. (c.requires.all.each s there).covers) c.requires.all.all
     (subst (λ (q : Sight). Lawful r q.seen) same c.look-front.ensures.lawful) (sym c.is_told.ensures ∙ c.if-not-is_told.false) (c.nets_of_works_grow.ensures.next w)
@@ -70,7 +70,7 @@ returns-clause-dues g c _ =
     let r = g.J.Naming.run.roster in
     let p = c.args.pass.now in
     let ss = c.args.standings.now in
-    let same = looked_same r p c.look-front.result c.look-front.new.pass (holds_all w r p ss c.requires.all) c.look-front.ensures in
+    let same = looked_same r p c.look-front.result c.look-front.new.pass (holds_all g.J.Placing.tasks w r p ss c.requires.all) c.look-front.ensures in
     let old = (noted_net w (take c.args.calendar.now.at p.seen)).actors in
     caught_up w r p.seen ss c.args.calendar.now.at c.same_actors_are_equal.ensures (λ s there. (c.requires.all.each s there).covers) c.requires.all.all
     (subst (λ (q : Sight). Lawful r q.seen) same c.look-front.ensures.lawful) (sym c.is_told.ensures ∙ c.if-not-is_told.false) (c.nets_of_works_grow.ensures.next w)

@@ -8,5 +8,5 @@ use Rattle.net_locks.proofs.clock.Locks+J+WorldActor+J.busy.Given as goal
 abbrev pub invariant-loop-standing : goal.invariant-loop-standing
 invariant-loop-standing g l =
     (l.pass ≡ l.initial.pass)
-    × Finds (could g.J.Placing.world (noted_net g.J.Placing.world l.initial.pass.seen)) (is_full (noted_net g.J.Placing.world l.initial.pass.seen))
+    × Finds (could g.J.Placing.tasks g.J.Placing.world (noted_net g.J.Placing.world l.initial.pass.seen)) (is_full (noted_net g.J.Placing.world l.initial.pass.seen))
     (callers_of (take l.standing-index l.standings)) l.busy

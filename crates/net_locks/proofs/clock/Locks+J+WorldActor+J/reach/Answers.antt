@@ -4,7 +4,7 @@ use Rattle.net_base.specs.declared.event.Event.TheVariants as event
 use Rattle.net_base.specs.declared.world.World.{World}
 use Rattle.net_base.specs.Calm.{least}
 use Rattle.net_base.specs.Duties.{Duty}
-use Rattle.net_base.specs.Legal.{IsInTime}
+use Rattle.net_base.specs.Legal.{IsInTimeBy}
 use Rattle.net_base.specs.Stamped.{moment as moment_of}
 use Rattle.journal.specs.declared.tokens.Sight.{Sight}
 use Rattle.journal.specs.Tokens.{HoldsAll}
@@ -30,7 +30,7 @@ record_move-requires-clause-guest g c =
 
 pub record_move-requires-clause-free : goal.record_move-requires-clause-free
 record_move-requires-clause-free g c =
-    c.reserve.ensures.list ∙ free_of g.J.Placing.world g.J.Naming.run.roster c.args.visitor.now.bearer.caller c.args.visitor.now.bearer.pass c.args.visitor.now.duties.list c.requires.complete.guest c.requires.may.free
+    c.reserve.ensures.list ∙ free_of g.J.Placing.tasks g.J.Placing.world g.J.Naming.run.roster c.args.visitor.now.bearer.caller c.args.visitor.now.bearer.pass c.args.visitor.now.duties.list c.requires.complete.guest c.requires.may.free
 
 pub record_move-requires-clause-moment : goal.record_move-requires-clause-moment
 record_move-requires-clause-moment g c = c.requires.complete.here ∙ ap (λ (q : Sight). moment_of q.seen) (sym c.catch_up.ensures.same)
@@ -38,7 +38,7 @@ record_move-requires-clause-moment g c = c.requires.complete.here ∙ ap (λ (q 
 pub record_move-requires-clause-numbers : goal.record_move-requires-clause-numbers
 record_move-requires-clause-numbers g c =
     subst (λ (q : Sight). HoldsAll g.J.Naming.run.roster q) (sym c.catch_up.ensures.same)
-    (holds_all g.J.Placing.world g.J.Naming.run.roster c.args.visitor.now.bearer.pass c.args.standings.now c.requires.all)
+    (holds_all g.J.Placing.tasks g.J.Placing.world g.J.Naming.run.roster c.args.visitor.now.bearer.pass c.args.standings.now c.requires.all)
 
 pub record_move-requires-clause-room : goal.record_move-requires-clause-room
 record_move-requires-clause-room g c = subst (λ (q : Sight). HasRoom c.args.visitor.now.bearer.caller q) (sym c.catch_up.ensures.same) c.requires.may.room
@@ -57,11 +57,11 @@ pub record_move-requires-clause-in_time : goal.record_move-requires-clause-in_ti
 record_move-requires-clause-in_time g c =
     let w = g.J.Placing.world in
     let p = c.args.visitor.now.bearer.pass in
-    let t = target_is w g.J.Naming.run.roster p c.args.standings.now c.requires.all c.args.self.now.of.roster.callers_are (c.nets_of_works_grow.ensures.past w p.seen)
-    (c.conversations_are_these.ensures.only w) (c.targets_are_least.ensures w (noted_net w p.seen)) c.as_slice-dues.result.now c.least_awaited-awaited.result
+    let t = target_is g.J.Placing.tasks w g.J.Naming.run.roster p c.args.standings.now c.requires.all c.args.self.now.of.roster.callers_are (c.nets_of_works_grow.ensures.past w p.seen)
+    (c.conversations_are_these.ensures.only w) (c.targets_are_least.ensures g.J.Placing.tasks w (noted_net w p.seen)) c.as_slice-dues.result.now c.least_awaited-awaited.result
     c.least_due-moment.result (c.as_slice-dues.ensures ∙ c.catch_up.ensures.dues c.if-not-catch_up.false)
     (c.least_awaited-awaited.ensures ∙ ap (λ (v : World). least v.end (awaited_moments c.args.standings.now)) (sym c.requires.world)) c.least_due-moment.ensures in
-    subst (λ (q : Sight). IsInTime (noted_net w q.seen) w (event.Move c.least_due-moment.result)) (sym c.catch_up.ensures.same) (c.requires.may.may, t.0)
+    subst (λ (q : Sight). IsInTimeBy g.J.Placing.tasks (noted_net w q.seen) w (event.Move c.least_due-moment.result)) (sym c.catch_up.ensures.same) (c.requires.may.may, t.0)
 
 pub returns-then-not-catch_up-clause-known : goal.returns-then-not-catch_up-clause-known
 returns-then-not-catch_up-clause-known g c =
@@ -73,13 +73,13 @@ returns-then-is_err-clause-known g c =
 
 pub returns-then-not-record_move-clause-go : goal.returns-then-not-record_move-clause-go
 returns-then-not-record_move-clause-go g c =
-    unmoved_so g.J.Placing.world g.J.Naming.run.roster c.args.visitor.now.bearer.caller c.args.visitor.now.bearer.now c.least_due-moment.result c.args.visitor.now.bearer.pass c.catch_up.new.pass c.record_move.new.bearer.pass
+    unmoved_so g.J.Placing.tasks g.J.Placing.world g.J.Naming.run.roster c.args.visitor.now.bearer.caller c.args.visitor.now.bearer.now c.least_due-moment.result c.args.visitor.now.bearer.pass c.catch_up.new.pass c.record_move.new.bearer.pass
     c.args.visitor.now.duties.list c.reserve.new.self.list c.record_move.new.duties.list c.catch_up.ensures.same c.reserve.ensures.list c.record_move.result
     c.record_move.ensures.leaves c.if-not-record_move.true
 
 pub returns-then-not-record_move-clause-known : goal.returns-then-not-record_move-clause-known
 returns-then-not-record_move-clause-known g c =
-    let still = unmoved_so g.J.Placing.world g.J.Naming.run.roster c.args.visitor.now.bearer.caller c.args.visitor.now.bearer.now c.least_due-moment.result c.args.visitor.now.bearer.pass c.catch_up.new.pass
+    let still = unmoved_so g.J.Placing.tasks g.J.Placing.world g.J.Naming.run.roster c.args.visitor.now.bearer.caller c.args.visitor.now.bearer.now c.least_due-moment.result c.args.visitor.now.bearer.pass c.catch_up.new.pass
     c.record_move.new.bearer.pass c.args.visitor.now.duties.list c.reserve.new.self.list c.record_move.new.duties.list c.catch_up.ensures.same c.reserve.ensures.list
     c.record_move.result c.record_move.ensures.leaves c.if-not-record_move.true in
     subst (λ (q : Sight). IsKnown g.J.Placing.world q.seen c.catch_up.new.calendar) (sym still.0) c.catch_up.ensures.known
@@ -88,11 +88,11 @@ pub returns-clause-go : goal.returns-clause-go
 returns-clause-go g c =
     let w = g.J.Placing.world in
     let p = c.args.visitor.now.bearer.pass in
-    let t = target_is w g.J.Naming.run.roster p c.args.standings.now c.requires.all c.args.self.now.of.roster.callers_are (c.nets_of_works_grow.ensures.past w p.seen)
-    (c.conversations_are_these.ensures.only w) (c.targets_are_least.ensures w (noted_net w p.seen)) c.as_slice-dues.result.now c.least_awaited-awaited.result
+    let t = target_is g.J.Placing.tasks w g.J.Naming.run.roster p c.args.standings.now c.requires.all c.args.self.now.of.roster.callers_are (c.nets_of_works_grow.ensures.past w p.seen)
+    (c.conversations_are_these.ensures.only w) (c.targets_are_least.ensures g.J.Placing.tasks w (noted_net w p.seen)) c.as_slice-dues.result.now c.least_awaited-awaited.result
     c.least_due-moment.result (c.as_slice-dues.ensures ∙ c.catch_up.ensures.dues c.if-not-catch_up.false)
     (c.least_awaited-awaited.ensures ∙ ap (λ (v : World). least v.end (awaited_moments c.args.standings.now)) (sym c.requires.world)) c.least_due-moment.ensures in (
-      moved_so w g.J.Naming.run.roster c.args.visitor.now.bearer.caller c.args.visitor.now.bearer.now c.least_due-moment.result p c.catch_up.new.pass c.record_move.new.bearer.pass c.args.visitor.now.duties.list
+      moved_so g.J.Placing.tasks w g.J.Naming.run.roster c.args.visitor.now.bearer.caller c.args.visitor.now.bearer.now c.least_due-moment.result p c.catch_up.new.pass c.record_move.new.bearer.pass c.args.visitor.now.duties.list
           c.reserve.new.self.list c.record_move.new.duties.list c.catch_up.ensures.same c.reserve.ensures.list c.record_move.result c.record_move.ensures.leaves c.if-not-record_move.false,
       t.0,
       t.1,
@@ -103,8 +103,8 @@ returns-clause-known g c =
     let w = g.J.Placing.world in
     let p = c.args.visitor.now.bearer.pass in
     let m = c.least_due-moment.result in
-    let moved = moved_so w g.J.Naming.run.roster c.args.visitor.now.bearer.caller c.args.visitor.now.bearer.now m p c.catch_up.new.pass c.record_move.new.bearer.pass c.args.visitor.now.duties.list
+    let moved = moved_so g.J.Placing.tasks w g.J.Naming.run.roster c.args.visitor.now.bearer.caller c.args.visitor.now.bearer.now m p c.catch_up.new.pass c.record_move.new.bearer.pass c.args.visitor.now.duties.list
     c.reserve.new.self.list c.record_move.new.duties.list c.catch_up.ensures.same c.reserve.ensures.list c.record_move.result c.record_move.ensures.leaves c.if-not-record_move.false in
     known_on w p.seen c.record_move.new.bearer.pass.seen c.catch_up.new.calendar
-    (recorded_grows w c.args.visitor.now.bearer.caller c.args.visitor.now.bearer.now name.Clock (bare (event.Move m)) _ p c.record_move.new.bearer.pass c.args.visitor.now.duties.list c.record_move.new.duties.list
+    (recorded_grows g.J.Placing.tasks w c.args.visitor.now.bearer.caller c.args.visitor.now.bearer.now name.Clock (bare (event.Move m)) _ p c.record_move.new.bearer.pass c.args.visitor.now.duties.list c.record_move.new.duties.list
     moved.entry.stamp moved.entry.reply moved.entry.turn) c.catch_up.ensures.known

@@ -24,7 +24,7 @@ returns-in-Done-clause-leaves g c =
     let d = subst (λ (a : ActorName). Records w r a k c.args.bearer.now.now (bare (event.Move m)) None p c.in-Done.stamp c.in-Done.outcome p') c.in-Some.ensures.some c.in-Done.ensures in
     let turn = subst (λ (l : List Duty). IsTurn w k p l name.Clock (bare (event.Move m)) None) (sym c.requires.free) (c.turns_are_these.ensures.clock w k p m c.requires.clock) in
     let rec = c.guests_record.ensures w r name.Clock k c.args.bearer.now.now (bare (event.Move m)) None p ds c.in-Done.stamp c.in-Done.outcome p' c.requires.guest turn d in
-    leaves_moved w r k c.args.bearer.now.now m p p' ds c.requires.guest c.in-Done.stamp c.in-Done.outcome d rec c.requires.numbers c.requires.free c.a_move_owes_its_ticks.ensures
+    leaves_moved g.J.Placing.tasks w r k c.args.bearer.now.now m p p' ds c.requires.guest c.in-Done.stamp c.in-Done.outcome d rec c.requires.numbers c.requires.free c.a_move_owes_its_ticks.ensures
     (c.nets_of_works_grow.ensures.next w) (c.nets_of_works_grow.ensures.moment w)
     (λ other es apart guest. c.guests_stay_by_others.ensures w r name.Clock k other c.args.bearer.now.now (bare (event.Move m)) None p es c.in-Done.stamp c.in-Done.outcome p' guest apart d)
     c.requires.room c.requires.in_time c.args.dues.now c.requires.dues c.owe_ticks.new.self.list c.owe_ticks.ensures.list

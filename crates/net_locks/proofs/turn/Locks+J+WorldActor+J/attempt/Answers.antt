@@ -34,8 +34,8 @@ returns-in-Done-clause-attempted g c ds guest turn =
     record {
       records = d;
       recorded = rec;
-      in_time = c.moves_are_the_clocks.ensures w (noted_net w d.past) a ((noted_net w d.past).actors a) b.now work rec.step c.requires.other rec.stepped;
-      few = owed_few w r b.caller b.now a work c.args.cites b.pass p' ds guest c.in-Done.stamp c.in-Done.outcome d rec
+      in_time = c.moves_are_the_clocks.ensures g.J.Placing.tasks w (noted_net w d.past) a ((noted_net w d.past).actors a) b.now work rec.step c.requires.other rec.stepped;
+      few = owed_few g.J.Placing.tasks w r b.caller b.now a work c.args.cites b.pass p' ds guest c.in-Done.stamp c.in-Done.outcome d rec
           (λ calls is. c.few_calls_wait.ensures w a d.past b.now work rec.step calls rec.stepped is);
     }
 

@@ -30,6 +30,6 @@ returns-clause-attempted g c d is =
     let actor : c.first-2.inside.actor ≡ d.actor = ap (λ (q : Duty). q.actor) (c.first-2.view_is ∙ first) in
     let b = c.args.bearer.now in
     let b' = c.attempt.new.bearer in
-    subst (λ (a : ActorName). Attempted w r a (work_of_duty d) (Some d.cites) b c.attempt.result b') actor
-    (subst (λ (x : Work). Attempted w r c.first-2.inside.actor x (Some d.cites) b c.attempt.result b') work
-    (subst (λ (n : ℕ). Attempted w r c.first-2.inside.actor c.work.result.now (Some n) b c.attempt.result b') cites c.attempt.ensures.attempted))
+    subst (λ (a : ActorName). Attempted g.J.Placing.tasks w r a (work_of_duty d) (Some d.cites) b c.attempt.result b') actor
+    (subst (λ (x : Work). Attempted g.J.Placing.tasks w r c.first-2.inside.actor x (Some d.cites) b c.attempt.result b') work
+    (subst (λ (n : ℕ). Attempted g.J.Placing.tasks w r c.first-2.inside.actor c.work.result.now (Some n) b c.attempt.result b') cites c.attempt.ensures.attempted))

@@ -23,7 +23,7 @@ returns-in-Ok-clause-complete g c =
     let d = c.in-Ok.ensures.attempted v.duties.list c.requires.complete.guest is in
     let room = c.in_default.ensures.none (search rules) in
     let rest = c.lacks_room.ensures.list ∙ (c.requires.free ∙ sym (ap (λ (l : List Duty). drop 1 l) c.requires.free)) in
-    done_visitor w g.J.Naming.run.roster c.args.actor (bare c.args.event) None v c.requires.complete c.attempt.new.bearer c.attempt.ensures.same c.attempt.ensures.here
+    done_visitor g.J.Placing.tasks w g.J.Naming.run.roster c.args.actor (bare c.args.event) None v c.requires.complete c.attempt.new.bearer c.attempt.ensures.same c.attempt.ensures.here
     c.in-Ok.stamp c.in-Ok.outcome d room.0 c.requires.other c.args.self.now.ways c.args.self.now.of.ways_are c.lacks_room.new.duties c.settle.new.duties c.settle.ensures.owes rest
     (c.calendars_stay_known.ensures w) c.lacks_room.new.touched c.settle.new.touched (c.lacks_room.ensures.covers _ c.requires.complete.covers) c.settle.ensures.covers
 
@@ -35,15 +35,15 @@ returns-in-Ok-clause-turn g c =
     let d = c.in-Ok.ensures.attempted v.duties.list c.requires.complete.guest is in
     let room = c.in_default.ensures.none (search rules) in
     let rest = c.lacks_room.ensures.list ∙ (c.requires.free ∙ sym (ap (λ (l : List Duty). drop 1 l) c.requires.free)) in
-    subst (λ (t : Turn). Visited w c.args.actor (bare c.args.event) None v t (visitor c.attempt.new.bearer c.settle.new.duties c.settle.new.touched v.calendar))
+    subst (λ (t : Turn). Visited g.J.Placing.tasks w c.args.actor (bare c.args.event) None v t (visitor c.attempt.new.bearer c.settle.new.duties c.settle.new.touched v.calendar))
     (sym c.settle.ensures.turn)
-    (done_turn w g.J.Naming.run.roster c.args.actor (bare c.args.event) None v c.requires.complete c.attempt.new.bearer c.attempt.ensures.same c.attempt.ensures.here
+    (done_turn g.J.Placing.tasks w g.J.Naming.run.roster c.args.actor (bare c.args.event) None v c.requires.complete c.attempt.new.bearer c.attempt.ensures.same c.attempt.ensures.here
     c.in-Ok.stamp c.in-Ok.outcome d room.0 c.requires.other c.args.self.now.ways c.args.self.now.of.ways_are c.lacks_room.new.duties c.settle.new.duties c.settle.ensures.owes rest
     c.settle.new.touched)
 
 pub returns-in-Err-clause-complete : goal.returns-in-Err-clause-complete
 returns-in-Err-clause-complete g c =
     let v = c.args.visitor.now in
-    missed_visitor g.J.Placing.world g.J.Naming.run.roster c.args.actor (bare c.args.event) None v c.requires.complete c.attempt.new.bearer c.attempt.ensures.same
+    missed_visitor g.J.Placing.tasks g.J.Placing.world g.J.Naming.run.roster c.args.actor (bare c.args.event) None v c.requires.complete c.attempt.new.bearer c.attempt.ensures.same
     c.attempt.ensures.here c.in-Err.turn (c.in-Err.ensures.attempted v.duties.list c.requires.complete.guest) c.lacks_room.new.duties c.lacks_room.ensures.list
     (c.calendars_stay_known.ensures g.J.Placing.world) c.lacks_room.new.touched (c.lacks_room.ensures.covers _ c.requires.complete.covers)

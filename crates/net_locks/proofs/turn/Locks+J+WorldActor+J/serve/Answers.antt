@@ -39,7 +39,7 @@ returns-in-Ok-clause-complete g c =
     subst (λ (q : Duty). Owes c.args.self.now.ways q.actor c.in-Ok.stamp (work_of_duty q) c.in-Ok.outcome c.pop.new.self c.settle.new.duties) duty c.settle.ensures.owes in
     let other : same_actor f.0.actor name.Clock ≡ false = c.no_duty_is_the_clocks.ensures w v.bearer.pass.seen v.bearer.caller f.0
     (subst (λ (l : List Duty). In f.0 l) (sym c.requires.complete.guest.owed) (first_in v.duties.list f.0 f.1)) in
-    done_visitor w r f.0.actor (work_of_duty f.0) (Some f.0.cites) v c.requires.complete c.attempt_first.new.bearer c.attempt_first.ensures.same c.attempt_first.ensures.here
+    done_visitor g.J.Placing.tasks w r f.0.actor (work_of_duty f.0) (Some f.0.cites) v c.requires.complete c.attempt_first.new.bearer c.attempt_first.ensures.same c.attempt_first.ensures.here
     c.in-Ok.stamp c.in-Ok.outcome d room.0 other c.args.self.now.ways c.args.self.now.of.ways_are c.pop.new.self c.settle.new.duties owes
     (c.pop.ensures.rest ∙ ap (λ (l : List Duty). drop 1 l) c.lacks_room.ensures.list) (c.calendars_stay_known.ensures w) c.lacks_room.new.touched c.settle.new.touched
     (c.lacks_room.ensures.covers _ c.requires.complete.covers)
@@ -61,9 +61,9 @@ returns-in-Ok-clause-turn g c e is =
     subst (λ (q : Duty). Owes c.args.self.now.ways q.actor c.in-Ok.stamp (work_of_duty q) c.in-Ok.outcome c.pop.new.self c.settle.new.duties) duty c.settle.ensures.owes in
     let other : same_actor e.actor name.Clock ≡ false = c.no_duty_is_the_clocks.ensures w v.bearer.pass.seen v.bearer.caller e
     (subst (λ (l : List Duty). In e l) (sym c.requires.complete.guest.owed) (first_in v.duties.list e is)) in
-    subst (λ (t : Turn). Visited w e.actor (work_of_duty e) (Some e.cites) v t (visitor c.attempt_first.new.bearer c.settle.new.duties c.settle.new.touched v.calendar))
+    subst (λ (t : Turn). Visited g.J.Placing.tasks w e.actor (work_of_duty e) (Some e.cites) v t (visitor c.attempt_first.new.bearer c.settle.new.duties c.settle.new.touched v.calendar))
     (sym c.settle.ensures.turn)
-    (done_turn w r e.actor (work_of_duty e) (Some e.cites) v c.requires.complete c.attempt_first.new.bearer c.attempt_first.ensures.same c.attempt_first.ensures.here
+    (done_turn g.J.Placing.tasks w r e.actor (work_of_duty e) (Some e.cites) v c.requires.complete c.attempt_first.new.bearer c.attempt_first.ensures.same c.attempt_first.ensures.here
     c.in-Ok.stamp c.in-Ok.outcome d room.0 other c.args.self.now.ways c.args.self.now.of.ways_are c.pop.new.self c.settle.new.duties owes
     (c.pop.ensures.rest ∙ ap (λ (l : List Duty). drop 1 l) c.lacks_room.ensures.list) c.settle.new.touched)
 
@@ -72,7 +72,7 @@ returns-in-Err-clause-complete g c =
     let w = g.J.Placing.world in
     let v = c.args.visitor.now in
     let f = c.requires.some in
-    missed_visitor w g.J.Naming.run.roster f.0.actor (work_of_duty f.0) (Some f.0.cites) v c.requires.complete c.attempt_first.new.bearer c.attempt_first.ensures.same
+    missed_visitor g.J.Placing.tasks w g.J.Naming.run.roster f.0.actor (work_of_duty f.0) (Some f.0.cites) v c.requires.complete c.attempt_first.new.bearer c.attempt_first.ensures.same
     c.attempt_first.ensures.here c.in-Err.turn
     (c.in-Err.ensures.attempted f.0 (ap (λ (l : List Duty). slice_get l 0) c.lacks_room.ensures.list ∙ f.1) v.duties.list c.requires.complete.guest) c.lacks_room.new.duties
     c.lacks_room.ensures.list (c.calendars_stay_known.ensures w) c.lacks_room.new.touched (c.lacks_room.ensures.covers _ c.requires.complete.covers)

@@ -1,6 +1,6 @@
 use Rattle.std.proofs.Common.{◌≡◌, ◌∙◌, Option, subst, ap}
 use Rattle.std.specs.Prelude.{IfOk}
-use Rattle.script_task.specs.declared.request.Request.{Request}
+use Rattle.net_base.specs.declared.request.Request.{Request}
 use Rattle.whole_script.specs.ScriptTasks as spec
 use Rattle.whole_script.proofs.Played.{asks_first}
 use Rattle.whole_script.proofs.script.ScriptTaskTask.next.Goals as goal

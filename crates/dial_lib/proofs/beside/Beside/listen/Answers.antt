@@ -1,0 +1,14 @@
+use Rattle.std.specs.Prelude.{◌≡◌}
+use Rattle.std.proofs.lemmas.Result.{IfOk-weaker}
+use Rattle.net_base.specs.declared.names.FileName.TheVariants as file
+use Rattle.net_base.specs.declared.world.Step.TheVariants as step
+use Rattle.dial_lib.specs.declared.beside.Beside.{Beside}
+use Rattle.dial_lib.specs.Beside as spec
+use Rattle.dial_lib.specs.BesideLaws.{listen_fresh}
+use Rattle.dial_lib.proofs.beside.Beside.listen.Goals as goal
+
+pub returns-clause-stands : goal.returns-clause-stands
+returns-clause-stands c =
+    IfOk-weaker c.new.result (λ (t : Beside). t ≡ spec.begun file.Listen c.args.name.now c.args.from.now)
+    (λ (t : Beside). spec.Begins t (step.Listen c.args.name.now c.args.from.now))
+    (λ (t : Beside) is. listen_fresh t c.args.name.now c.args.from.now is) c.new.ensures

@@ -1,0 +1,4 @@
+pub mod Announced
+pub mod Begun
+pub mod Echoing
+pub mod Read

@@ -1,0 +1,7 @@
+use Rattle.echo_server.proofs.Read.{have_read}
+use Rattle.echo_server.proofs.echoes.Goals as goal
+
+pub returns-clause-read : goal.returns-clause-read
+returns-clause-read g c =
+    have_read _ _ c.args.world.now c.in_ok-tasks.tasks.items c.in_ok-run.run'.history c.in_ok-run.run'.tasks.items c.in_ok-run.ensures.told
+    c.in_ok-run.ensures.places c.in_ok-run.ensures.none

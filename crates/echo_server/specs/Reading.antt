@@ -1,0 +1,17 @@
+-- What the clients of a run have read.
+use Rattle.std.specs.Prelude.{◌≡◌, ℕ, true, List, Option, Some}
+use Rattle.net_base.specs.declared.history.Entry.{Entry}
+use Rattle.net_base.specs.Next.{own_replies}
+use Rattle.agenda.specs.Given.{task_at}
+use Rattle.whole_script.specs.declared.either.EitherTask.{EitherTask}
+use Rattle.whole_script.specs.declared.either.EitherTask.TheVariants as either
+use Rattle.echo_server.specs.declared.client.EchoClient.{EchoClient}
+use Rattle.echo_server.specs.declared.server.EchoServer.{EchoServer}
+use Rattle.echo_server.specs.Calling.{is_well}
+use Rattle.echo_server.specs.Echoes.{AreAmong, texts}
+
+-- each client that ended well has read each of its messages, in order, in the replies to its own entries
+abbrev pub HaveRead : List Entry → List (Option (EitherTask EchoServer EchoClient)) → Type 0
+HaveRead h tasks =
+    (c : ℕ) (client : EchoClient) → task_at tasks c ≡ Some (either.Other client) → is_well client ≡ true
+    → AreAmong client.messages (texts (own_replies h c))

@@ -1,0 +1,122 @@
+//! An echo server and its clients over a network that loses packets, on one worker and on four.
+#![tactic(auto)]
+
+ghost use Rattle.std.specs.Prelude.{◌<◌, ◌≤◌, [], IfOk, IfSome};
+ghost use Rattle.net_base.specs.World.{IsWorld};
+ghost use Rattle.agenda.specs.Given.{AreBegun};
+ghost use Rattle.agenda.specs.PrefixLaw.{KeepsPrefixes};
+ghost use Rattle.echo_server.specs.Echoes.{claimed};
+ghost use Rattle.echo_server.specs.Reading.{HaveRead};
+
+mod client;
+mod server;
+
+use agenda::{EitherTask, RunError, TaskRun, run_tasks};
+use client::EchoClient;
+use net_base::{Lines, Octets, World};
+use outside::{OpenGate, Source, StdSource, read_to_end};
+use server::EchoServer;
+use std::alloc::{AllocError, Global};
+use std::process::ExitCode;
+use std::sync::Wait;
+use std::thread::Threads;
+use world_file::read_world;
+
+/// The longest world file, in bytes.
+const LONGEST: usize = 65_536;
+
+/// Where the server is found, and where it announces.
+const SERVICE: &[u8] = b"net!helix!echo";
+
+const ANNOUNCED: &[u8] = b"net!*!echo";
+
+/// What each client sends.
+const MESSAGES: [&[u8]; 3] = [b"hello", b"a second message", b"and good bye"];
+
+/// A server or a client.
+type EchoTask = EitherTask<EchoServer, EchoClient>;
+
+/// Reads a world from standard input. The first of its scripts says where the server is, the others where clients are.
+fn main(rt: HostRuntime) -> ExitCode {
+    let Some(world) = world_of(rt.alloc(), &mut StdSource::new(rt.stdin())) else {
+        return ExitCode::FAILURE;
+    };
+    let clients = world.scripts.len().saturating_sub(1);
+    for workers in [1, 4] {
+        let Ok(run) = echoes(&rt, rt.alloc(), &world, workers) else {
+            return ExitCode::FAILURE;
+        };
+        let well = well_among(run.tasks.as_slice());
+        if println!(rt; "{workers} workers: {well} of {clients} read what they wrote").is_err() {
+            return ExitCode::FAILURE;
+        }
+    }
+    ExitCode::SUCCESS
+}
+
+// None where there is no world to be read, or memory runs out.
+fn world_of<S: Source>(alloc: Global, source: &mut S) -> Option<World>
+    ensures { IfSome result (λ w. IsWorld w) }
+{
+    let text = read_to_end(alloc, source, LONGEST).ok()?;
+    read_world(alloc, text.as_slice()).ok()
+}
+
+// A run on so many workers. A client that ends well has read what it wrote, and what is read at a call was written at its other end.
+fn echoes<R: Threads + Wait + Sync>(
+    rt: &R,
+    alloc: Global,
+    world: &World,
+    workers: u32,
+) -> Result<TaskRun<EchoTask>, RunError>
+    requires world { IsWorld world.now }
+    requires some { 0 < workers }
+    requires few { workers ≤ 16 }
+    ensures read { IfOk result (λ run. HaveRead run.history run.tasks.items) }
+    ensures prefixes { IfOk result (λ run. KeepsPrefixes world.now run.history) }
+{
+    let tasks = tasks_of(alloc, world.scripts.len())?;
+    let run = run_tasks(rt, alloc, world, tasks, workers, &OpenGate)?;
+    Ok(run)
+}
+
+// A server in the first place, and clients in the others.
+fn tasks_of(alloc: Global, places: usize) -> Result<Vec<Option<EchoTask>>, AllocError>
+    ensures { IfOk result (λ tasks. AreBegun claimed tasks.items) }
+{
+    let mut tasks = Vec::with_capacity(alloc, places)?;
+    for place in 0..places {
+        let task = task_of(alloc, place)?;
+        tasks.push(Some(task))?;
+    }
+    Ok(tasks)
+}
+
+fn task_of(alloc: Global, place: usize) -> Result<EchoTask, AllocError>
+    ensures { IfOk result (λ task. claimed task []) }
+{
+    if place == 0 {
+        return Ok(EitherTask::One(EchoServer::new(alloc, ANNOUNCED)?));
+    }
+    let client = EchoClient::new(alloc, SERVICE, messages(alloc)?)?;
+    Ok(EitherTask::Other(client))
+}
+
+fn messages(alloc: Global) -> Result<Lines, AllocError> {
+    let mut messages = Lines::new(alloc);
+    for text in MESSAGES {
+        messages.push(Octets::from_slice(alloc, text)?)?;
+    }
+    Ok(messages)
+}
+
+// How many clients read what they wrote.
+fn well_among(tasks: &[Option<EchoTask>]) -> usize {
+    let mut well: usize = 0;
+    for task in tasks {
+        if let Some(EitherTask::Other(client)) = task {
+            well = well.saturating_add(usize::from(client.is_well()));
+        }
+    }
+    well
+}

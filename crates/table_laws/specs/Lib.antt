@@ -1,0 +1,4 @@
+pub mod ConvRows
+pub mod DirRows
+pub mod ActorRows
+pub mod Waiting
