@@ -11,7 +11,6 @@ use ndb_index::Index;
 use ndb_reader::{NdbError, read_ndb};
 use net_base::{Db, Lines, Proto};
 use std::alloc::{AllocError, Global};
-use std::mem;
 
 /// What a host is answered to a query over a database, by an index of it.
 fn indexed(alloc: Global, db: Db, sys: &[u8], query: &[u8]) -> Result<Lines, CsError>
@@ -19,10 +18,7 @@ fn indexed(alloc: Global, db: Db, sys: &[u8], query: &[u8]) -> Result<Lines, CsE
     ensures err { IfErr result (λ error. Tells error (cs_list db sys.now (Il ∷ Udp ∷ []) query.now)) }
 {
     let index = Index::new(alloc, db)?;
-    let lines = answer_indexed(alloc, &index, sys, &[Proto::Il, Proto::Udp], query);
-    // the program ends behind its one answer, and gives back all memory at once
-    mem::forget(index);
-    lines
+    answer_indexed(alloc, &index, sys, &[Proto::Il, Proto::Udp], query)
 }
 
 /// What a host is answered to a query over the database that an input is.
