@@ -1,0 +1,11 @@
+use Rattle.std.proofs.Common.{List, ap, ◌∙◌}
+use Rattle.ndb_reader.specs.declared.files.FileEnd.{FileEnd}
+use Rattle.ndb_reader.specs.Filed.{tuple_at}
+use Rattle.ndb_reader.proofs.InRow.{first-row}
+use Rattle.ndb_reader.proofs.bundle.Bundle.into_first.Goals as goal
+
+pub returns : goal.returns
+returns c =
+    c.truncate.ensures
+    ∙ first-row c.args.self.ends.items c.args.self.names.items c.args.self.db c.args.count c.tuple_begin-end.result c.requires.sound c.requires.within
+    (c.tuple_begin-end.ensures ∙ ap (λ (ends : List FileEnd). tuple_at 0 ends c.args.count) c.deref.ensures.value)
