@@ -35,7 +35,7 @@ impl Chains {
         requires { bucket < width_of self.old }
         ensures width { width_of self.new ≡ width_of self.old }
         ensures chains { OnOk result ((buckets : List ℕ) → AreChains self.old buckets → AreChains self.new (bucket ∷ buckets)) }
-        ensures err { OnErr result (self.new ≡ self.old) }
+        ensures err { OnErr result ((buckets : List ℕ) → AreChains self.old buckets → AreChains self.new buckets) }
     {
         let entry = self.nexts.len();
         if entry >= 0xffff_ffff {
