@@ -6,7 +6,7 @@ use Rattle.net_base.specs.Ndb.{NdbPair}
 use Rattle.net_base.specs.declared.ndb.runs.Mark.{Mark}
 use Rattle.net_base.specs.declared.ndb.runs.Runs.{Runs}
 use Rattle.net_base.specs.Parts.{start_at, last_end, parts, Rise}
-use Rattle.net_base.specs.Store.{marked, last_value, value_at, MarksRise, pairs_in, lines_in, tuples_in, AreSound, AreWhole}
+use Rattle.net_base.specs.Store.{pair_between, marked, last_value, value_at, MarksRise, pairs_in, lines_in, tuples_in, AreSound, AreWhole}
 use Rattle.net_base.proofs.Cuts.{parts-more, rise-last}
 use Rattle.net_base.proofs.Marks.{pair-more, marked-length, marks-start}
 use Rattle.net_base.proofs.Found.{last-is, lines_len, pairs_len}
@@ -46,7 +46,7 @@ parts-within ends xs m rise within =
 marked-taken : (n start : ℕ) (marks : List Mark) (bytes : List ℕ) → marked start (take n marks) bytes ≡ take n (marked start marks bytes)
 marked-taken zero start marks bytes = refl
 marked-taken (suc n) start [] bytes = refl
-marked-taken (suc n) start (mark ∷ marks) bytes = ap (λ (ps : List NdbPair). _ ∷ ps) (marked-taken n mark.value marks bytes)
+marked-taken (suc n) start (mark ∷ marks) bytes = ap (λ (ps : List NdbPair). pair_between start mark bytes ∷ ps) (marked-taken n mark.value marks bytes)
 
 marks-taken : (n start : ℕ) (marks : List Mark) (count : ℕ) → MarksRise start marks count → MarksRise start (take n marks) (last_value start (take n marks))
 marks-taken zero start marks count rise = refl
@@ -62,7 +62,7 @@ marked-more : (start : ℕ) (marks : List Mark) (bytes more : List ℕ) → Mark
 marked-more start [] bytes more rise = refl
 marked-more start (mark ∷ marks) bytes more rise =
     ap (λ (p : NdbPair). p ∷ marked mark.value marks (bytes ++ more)) (pair-more start mark bytes more rise.0 rise.1 (marks-start mark.value marks (length bytes) rise.2))
-    ∙ ap (λ (ps : List NdbPair). _ ∷ ps) (marked-more mark.value marks bytes more rise.2)
+    ∙ ap (λ (ps : List NdbPair). pair_between start mark bytes ∷ ps) (marked-more mark.value marks bytes more rise.2)
 
 marked-within : (marks : List Mark) (bytes : List ℕ) (m : ℕ) → MarksRise 0 marks m → m ≤ length bytes → marked 0 marks (take m bytes) ≡ marked 0 marks bytes
 marked-within marks bytes m rise within =
