@@ -20,6 +20,11 @@ overflow_sub-count c =
     let within = walk-within (names_seen c.args.names.now.keys) (files_of c.args.bundle.now) (bucket_in (names_seen c.args.names.now.keys) c.args.name.now) c.loop-left.left (row (files_of c.args.bundle.now) c.args.first) (row (files_of c.args.bundle.now) c.loop-left.end) c.loop-left.invariant.0 (omega (arith, c.loop-left-test.true)) in
     omega (arith, within, c.len-count.ensures)
 
+pub overflow_add-end : goal.overflow_add-end
+overflow_add-end c =
+    let within = walk-within (names_seen c.args.names.now.keys) (files_of c.args.bundle.now) (bucket_in (names_seen c.args.names.now.keys) c.args.name.now) c.loop-left.left (row (files_of c.args.bundle.now) c.args.first) (row (files_of c.args.bundle.now) c.loop-left.end) c.loop-left.invariant.0 (omega (arith, c.loop-left-test.true)) in
+    omega (arith, within, c.len-count.ensures, c.loop-left-test.true)
+
 pub next-left-requires-clause-within : goal.next-left-requires-clause-within
 next-left-requires-clause-within c =
     let within = walk-within (names_seen c.args.names.now.keys) (files_of c.args.bundle.now) (bucket_in (names_seen c.args.names.now.keys) c.args.name.now) c.loop-left.left (row (files_of c.args.bundle.now) c.args.first) (row (files_of c.args.bundle.now) c.loop-left.end) c.loop-left.invariant.0 (omega (arith, c.loop-left-test.true)) in
