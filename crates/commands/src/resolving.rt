@@ -12,28 +12,14 @@ use ndb_index::Index;
 use ndb_reader::{NdbError, read_ndb};
 use net_base::{Db, Lines, Proto};
 use std::alloc::{AllocError, Global};
-use std::mem;
-
-/// The index for a query: by `$` it may ask for as many words as there are values, and else for a few.
-fn index_for(alloc: Global, db: Db, query: &[u8]) -> Result<Index, AllocError>
-    ensures { IfOk result (λ index. index ≡ db) }
-{
-    if query.contains(&b'$') {
-        return Index::new(alloc, db);
-    }
-    Index::scanned(alloc, db)
-}
 
 /// What a host is answered to a query over a database, by an index of it.
 fn indexed(alloc: Global, db: Db, sys: &[u8], query: &[u8]) -> Result<Lines, CsError>
     ensures ok { IfOk result (λ lines. cs_list db sys.now (Il ∷ Udp ∷ []) query.now ≡ Found lines) }
     ensures err { IfErr result (λ error. Tells error (cs_list db sys.now (Il ∷ Udp ∷ []) query.now)) }
 {
-    let index = index_for(alloc, db, query)?;
-    let lines = answer_indexed(alloc, &index, sys, &[Proto::Il, Proto::Udp], query);
-    // the program ends behind its one answer, and gives back all memory at once
-    mem::forget(index);
-    lines
+    let index = Index::new(alloc, db)?;
+    answer_indexed(alloc, &index, sys, &[Proto::Il, Proto::Udp], query)
 }
 
 /// What a host is answered to a query over the database that an input is.

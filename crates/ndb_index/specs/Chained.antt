@@ -1,5 +1,5 @@
 -- All pairs of a database, in chains by their buckets.
-use Rattle.std.specs.Prelude.{ℕ, ◌<◌, List, map, Option, Some, None, ⊤}
+use Rattle.std.specs.Prelude.{◌<◌, List, map}
 use Rattle.net_base.specs.Ndb.{NdbPair}
 use Rattle.net_base.specs.Store.{all_pairs}
 use Rattle.ndb_chains.specs.declared.chains.Chains.{Chains}
@@ -10,8 +10,3 @@ use Rattle.ndb_index.specs.Hashing.{pair_bucket}
 pub record AreByPair (db : List (List (List NdbPair))) (chains : Chains) : Type 0 where
   pub some : 0 < width_of chains
   pub are : AreChains chains (map (pair_bucket (width_of chains)) (all_pairs db))
-
--- chains that hold all pairs, where there are chains
-abbrev pub HasPairs : List (List (List NdbPair)) → Option Chains → Type 0
-HasPairs db None = ⊤
-HasPairs db (Some chains) = AreByPair db chains

@@ -7,7 +7,7 @@ ghost use Rattle.ndb_index.specs.Near.{Finds};
 ghost use Rattle.ndb_index.specs.Nets.{HasPlaces, HasAllLengths};
 
 use crate::networks::{self, Networks};
-use crate::pairs::{chains_of, spots_found};
+use crate::pairs::{chains_of, spots_of};
 use crate::scan::places_at;
 use indexmap::{IndexMap, IndexSet};
 use ndb_chains::Chains;
@@ -22,7 +22,7 @@ use std::sync::ledger::{Blank, Ledger};
 #[derive(Drop)]
 pub struct Index {
     pub(crate) tuples: Tuples,
-    pub(crate) pairs: Option<Chains>,
+    pub(crate) pairs: Chains,
     pub(crate) networks: Networks,
     pub(crate) lengths: IndexSet<u32>,
 }
@@ -39,12 +39,15 @@ impl Model for Index {
     ghost invariant = { λ i. IsIndex i.tuples i.pairs i.networks.entries i.lengths.keys };
 }
 
-/// The places of all networks, and the numbers of bits that they share.
+/// The places of all networks, and the numbers of bits that they share. Where the attribute `ipnet` stands nowhere, no tuple is looked at.
 fn networks_of(alloc: Global, db: &Db) -> Result<(Networks, IndexSet<u32>), AllocError>
     ensures { IfOk result (λ kept. HasPlaces db.now kept.0.entries × HasAllLengths kept.1.keys db.now) }
 {
     let mut networks = IndexMap::new(alloc);
     let mut lengths = IndexSet::new(alloc);
+    if !db.names(b"ipnet") {
+        return Ok((networks, lengths));
+    }
     for place in 0..db.len() {
         let tuple = db.tuple(place);
         networks::add_tuple(alloc, &mut networks, &mut lengths, &tuple, place as u64)?;
@@ -61,20 +64,7 @@ impl Index {
         let (networks, lengths) = networks_of(alloc, &db)?;
         Ok(Index {
             tuples: Tuples::new(db),
-            pairs: Some(pairs),
-            networks,
-            lengths,
-        })
-    }
-
-    /// The same for one who asks a few times: each search goes once over all pairs.
-    pub fn scanned(alloc: Global, db: Db) -> Result<Index, AllocError>
-        ensures { IfOk result (λ index. index ≡ db) }
-    {
-        let (networks, lengths) = networks_of(alloc, &db)?;
-        Ok(Index {
-            tuples: Tuples::new(db),
-            pairs: None,
+            pairs,
             networks,
             lengths,
         })
@@ -100,7 +90,7 @@ impl Index {
     pub fn spots(&self, alloc: Global, attr: &[u8], value: &[u8]) -> Result<Vec<Spot>, AllocError>
         ensures { IfOk result (λ spots. spots.items ≡ spots_with attr.now value.now self.now) }
     {
-        let spots = spots_found(alloc, &self.tuples, &self.pairs, attr, value)?;
+        let spots = spots_of(alloc, &self.tuples, &self.pairs, attr, value)?;
         Ok(spots)
     }
 
@@ -114,23 +104,6 @@ impl Index {
         let spots = self.spots(alloc, attr, value)?;
         let places = places_at(alloc, &spots)?;
         Ok(places)
-    }
-
-    /// The places of the tuples that contain the pair, for no step.
-    pub fn search_counted<L: Ledger>(
-        &self,
-        alloc: Global,
-        attr: &[u8],
-        value: &[u8],
-        steps: &mut Steps<L>,
-    ) -> Result<Places, AllocError>
-        ensures places { IfOk result (λ places. places ≡ places_with attr.now value.now self.now) }
-        ensures tuples { IfOk result (λ places. filter_map (slice_get self.now) places
-            ≡ spec.tuples_with attr.now value.now self.now) }
-        ensures found { IfOk result (Finds self.now attr.now value.now) }
-        ensures cost { steps.new ≤ steps.old + 0 }
-    {
-        self.search(alloc, attr, value)
     }
 
     /// The values of an attribute beside the pair, in the tuple at a place that `search` gives, for one step.

@@ -5,7 +5,7 @@ ghost use Rattle.net_base.specs.Search.{is_pair};
 ghost use Rattle.net_base.specs.Spots.{pair_spots};
 ghost use Rattle.net_base.specs.Store.{all_pairs};
 ghost use Rattle.net_base.specs.declared.ndb.spot.Spot.{Spot as Seen};
-ghost use Rattle.ndb_index.specs.Chained.{AreByPair, HasPairs};
+ghost use Rattle.ndb_index.specs.Chained.{AreByPair};
 ghost use Rattle.ndb_index.specs.Kept as spec;
 
 use crate::hasher::bucket_of;
@@ -14,12 +14,12 @@ use ndb_reader::Tuples;
 use net_base::{Db, Spot};
 use std::alloc::{AllocError, Global};
 
-/// All pairs by their buckets, of which there are about half as many.
+/// All pairs by their buckets, of which there are about a quarter as many: a bucket takes memory even where no pair has it.
 pub fn chains_of(alloc: Global, db: &Db) -> Result<Chains, AllocError>
     ensures { IfOk result (AreByPair db.now) }
 {
     let count = db.pair_count();
-    let width = count / 2 + 1;
+    let width = count / 4 + 1;
     let mut chains = Chains::new(alloc, width, count)?;
     for back in 0..count {
         let pair = db.pair(count - 1 - back);
@@ -70,7 +70,7 @@ fn add_found(
 }
 
 /// The spots of a pair by chains. Pairs with its bucket are compared in the database itself.
-fn spots_of(
+pub fn spots_of(
     alloc: Global,
     tuples: &Tuples,
     chains: &Chains,
@@ -104,21 +104,4 @@ pub fn spots_scanned(
         add_found(tuples, number, attr, value, &mut spots)?;
     }
     Ok(spots)
-}
-
-/// The spots of a pair: by chains, or where there are none by one pass over all pairs.
-pub fn spots_found(
-    alloc: Global,
-    tuples: &Tuples,
-    chains: &Option<Chains>,
-    attr: &[u8],
-    value: &[u8],
-) -> Result<Vec<Spot>, AllocError>
-    requires { HasPairs tuples.now chains.now }
-    ensures { IfOk result (λ spots. spots.items ≡ spec.spots_with attr.now value.now tuples.now) }
-{
-    match chains {
-        Some(chains) => spots_of(alloc, tuples, chains, attr, value),
-        None => spots_scanned(alloc, tuples, attr, value),
-    }
 }

@@ -7,4 +7,4 @@ pub mod Among
 pub mod Spots
 pub mod Laid
 pub mod Texts
-pub mod Alike
+pub mod Kept

@@ -1,5 +1,5 @@
 //! A database in one piece.
-ghost use Rattle.std.specs.Prelude.{◌≡◌, ◌<◌, [], length, flat_map, get_or};
+ghost use Rattle.std.specs.Prelude.{◌≡◌, ◌<◌, [], length, take, flat_map, get_or};
 ghost use Rattle.std.specs.List.{list_any};
 ghost use Rattle.net_base.specs.Ndb.{NdbPair};
 ghost use Rattle.net_base.specs.Search as spec;
@@ -61,6 +61,13 @@ impl Db {
             first: begin_of(&self.runs.tuples, place),
             end: self.runs.tuples[place] as usize,
         }
+    }
+
+    /// Keeps the first tuples, so many, or all where there are fewer. It takes no memory.
+    pub fn truncate(&mut self, count: usize)
+        ensures { self.new ≡ take count self.old }
+    {
+        self.runs.truncate(count);
     }
 
     /// How many pairs all tuples have together.

@@ -49,10 +49,10 @@ impl<'a> NdbPair<'a> {
         self.attr.len() == attr.len() && self.attr == attr
     }
 
-    /// Whether it has this attribute and this value, each byte for byte.
+    /// Whether it has this attribute and this value, each byte for byte. Most values differ in length.
     pub fn is(&self, attr: &[u8], value: &[u8]) -> bool
         ensures { result ≡ spec.is_pair attr.now value.now self.now }
     {
-        self.attr == attr && self.value == value
+        self.value.len() == value.len() && self.has_attr(attr) && self.value == value
     }
 }

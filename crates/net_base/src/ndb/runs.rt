@@ -1,5 +1,5 @@
 //! The run of bytes and the runs of places.
-ghost use Rattle.std.specs.Prelude.{◌≡◌, ◌≤◌, ◌<◌, ◌+◌, ℕ, ◌∷◌, ◌++◌, [], length, take, get_or, IfOk, OnOk, OnErr};
+ghost use Rattle.std.specs.Prelude.{◌≡◌, ◌≤◌, ◌<◌, ◌+◌, ℕ, true, ◌∷◌, ◌++◌, [], length, take, get_or, IfOk, OnOk, OnErr};
 ghost use Rattle.net_base.specs.declared.ndb.spot.Spot.{Spot as Seen};
 ghost use Rattle.net_base.specs.Spots.{pair_spots, Owns};
 ghost use Rattle.net_base.specs.Parts.{start_at, last_end, Rise};
@@ -48,10 +48,32 @@ pub(crate) fn begin_of(ends: &[u32], number: usize) -> usize
     ends[number - 1] as usize
 }
 
-/// The number of the list in which the element with this number is.
+/// The number of the list in which the element with this number is, if all lists have the same length.
+fn guess_of(ends: &[u32], number: usize) -> usize {
+    match ends.last() {
+        Some(end) if *end > 0 => number.wrapping_mul(ends.len()) / *end as usize,
+        _ => 0,
+    }
+}
+
+/// Whether the element with this number is in the list with that one.
+fn owns(ends: &[u32], number: usize, list: usize) -> bool
+    ensures { result ≡ true → Owns ends.now number list }
+{
+    if list >= ends.len() {
+        return false;
+    }
+    begin_of(ends, list) <= number && number < ends[list] as usize
+}
+
+/// The number of the list in which the element with this number is. Mostly lists are about as long as one another.
 fn owner_of(ends: &[u32], number: usize) -> usize
     ensures { (count : ℕ) → Rise 0 ends.now count → number < last_end 0 ends.now → Owns ends.now number result }
 {
+    let guess = guess_of(ends, number);
+    if owns(ends, number, guess) {
+        return guess;
+    }
     ends.partition_point(|end| *end as usize <= number)
 }
 
@@ -170,7 +192,7 @@ impl Runs {
         self.pairs[number - 1].value as usize
     }
 
-    /// The line with the pair that has this number, counted in its tuple, and that tuple.
+    /// Where the pair with this number stands: its tuple, and its line, counted in that tuple.
     pub(crate) fn spot(&self, number: usize) -> Spot
         requires sound { AreSound self.now }
         requires whole { AreWhole self.now }
@@ -184,6 +206,23 @@ impl Runs {
             place: tuple as u64,
             line: (line - first) as u64,
         }
+    }
+
+    /// Keeps the first tuples, so many, with what they have.
+    pub(crate) fn truncate(&mut self, count: usize)
+        requires sound { AreSound self.old }
+        requires whole { AreWhole self.old }
+        ensures sound { AreSound self.new }
+        ensures whole { AreWhole self.new }
+        ensures kept { tuples_in self.new ≡ take count (tuples_in self.old) }
+    {
+        self.tuples.truncate(count);
+        let lines = begin_of(&self.tuples, self.tuples.len());
+        self.lines.truncate(lines);
+        let pairs = begin_of(&self.lines, self.lines.len());
+        self.pairs.truncate(pairs);
+        let bytes = self.start_of(self.pairs.len());
+        self.bytes.truncate(bytes);
     }
 
     /// A copy, in runs of its own.
