@@ -1,8 +1,8 @@
--- Files that stand in a row from the first one on.
-use Rattle.std.proofs.Common.{◌≡◌, ℕ, ◌+◌, ◌-◌, ◌≤◌, ◌<◌, List, [], ◌∷◌, ◌++◌, length, take, drop, get_or, Vec, vec_items, sym, ap, ◌∙◌, arith, append-nil, append_assoc}
+-- Files that stand in a row.
+use Rattle.std.proofs.Common.{◌≡◌, ℕ, ◌+◌, ◌-◌, ◌≤◌, ◌<◌, List, [], ◌∷◌, ◌++◌, length, take, drop, get_or, Vec, vec_items, refl, sym, ap, ◌∙◌, arith, append-nil, append_assoc}
 use Rattle.std.specs.Prelude.{zero, suc, slice_range}
 use Rattle.std.specs.List.{flat_map}
-use Rattle.std.proofs.lemmas.List.{take_all, take_more}
+use Rattle.std.proofs.lemmas.List.{take_all, take_more, append_cancel_left}
 use Rattle.std.proofs.lemmas.List.Folds.{drop_split}
 use Rattle.std.proofs.Math.Seq.{take-append-add}
 use Rattle.net_base.specs.NdbBundle.{File, tuples_named}
@@ -32,17 +32,33 @@ row-next files n k d same h =
 abbrev pub tuples_grown : Grown → Tuples
 tuples_grown g = g.tuples
 
-module _ {Z : Type 0} where
-  -- one name more
-  pub rows-next : (files : List File) (keys : List (Vec ℕ Z)) (n end next : ℕ) (key : Vec ℕ Z) (name : List ℕ) → n < length keys → key ≡ get_or keys n key → name ≡ vec_items key
-      → tuples_of (take next files) ≡ tuples_of (take end files) ++ tuples_named files name → row files end ≡ gathered files keys n → row files next ≡ gathered files keys (n + 1)
-  rows-next files keys n end next key name h is named en eo =
-      gathered-next files keys n key name (row files end) (row files next) h is named (ap (λ (ts : Tuples). with_tuples ts empty) en) eo
+-- the tuples of a row, by those before it and those up to its end
+pub row_found : (files : List File) (first end : ℕ) (row_is wanted : Tuples) → tuples_of (take first files) ++ row_is ≡ tuples_of (take end files) → tuples_of (take end files) ≡ tuples_of (take first files) ++ wanted → row_is ≡ wanted
+row_found files first end row_is wanted here all = append_cancel_left (tuples_of (take first files)) row_is wanted (here ∙ all)
 
-  pub rows-all : (files : List File) (keys items : List (Vec ℕ Z)) (n end : ℕ) → items ≡ keys → length items ≤ n → row files end ≡ gathered files items n → tuples_of (take end files) ≡ flat_map (tuples_named files) (names_seen keys)
-  rows-all files keys items n end is all eo =
-      ap tuples_grown eo
-      ∙ ap (λ (ks : List (Vec ℕ Z)). flat_map (tuples_named files) (names_seen ks)) (take_all n items all ∙ is)
+module _ {Z : Type 0} where
+  -- from the first file of the row to its end stand the tuples of the first names, so many
+  abbrev pub Rows : List File → List (Vec ℕ Z) → ℕ → ℕ → ℕ → Type 0
+  Rows files keys n first end = tuples_of (take end files) ≡ tuples_of (take first files) ++ flat_map (tuples_named files) (names_seen (take n keys))
+
+  pub rows-none : (files : List File) (keys : List (Vec ℕ Z)) (first : ℕ) → Rows files keys 0 first first
+  rows-none files keys first = sym (append-nil (tuples_of (take first files)))
+
+  -- one name more
+  pub rows-next : (files : List File) (keys : List (Vec ℕ Z)) (n first end next : ℕ) (key : Vec ℕ Z) (name : List ℕ) → n < length keys → key ≡ get_or keys n key → name ≡ vec_items key
+      → tuples_of (take next files) ≡ tuples_of (take end files) ++ tuples_named files name → Rows files keys n first end → Rows files keys (n + 1) first next
+  rows-next files keys n first end next key name h is named en eo =
+      let so_far : Tuples = flat_map (tuples_named files) (names_seen (take n keys)) in
+      let more : so_far ++ tuples_named files name ≡ flat_map (tuples_named files) (names_seen (take (n + 1) keys)) =
+      ap tuples_grown (gathered-next files keys n key name (gathered files keys n) (with_tuples (tuples_named files name) (gathered files keys n)) h is named refl refl) in
+      en ∙ ap (λ (ts : Tuples). ts ++ tuples_named files name) eo
+      ∙ append_assoc (tuples_of (take first files)) so_far (tuples_named files name)
+      ∙ ap (λ (ts : Tuples). tuples_of (take first files) ++ ts) more
+
+  pub rows-all : (files : List File) (keys items : List (Vec ℕ Z)) (n first end : ℕ) → items ≡ keys → length items ≤ n → Rows files items n first end
+      → tuples_of (take end files) ≡ tuples_of (take first files) ++ flat_map (tuples_named files) (names_seen keys)
+  rows-all files keys items n first end is all eo =
+      eo ∙ ap (λ (ks : List (Vec ℕ Z)). tuples_of (take first files) ++ flat_map (tuples_named files) (names_seen ks)) (take_all n items all ∙ is)
 
 -- The tuples of the first files are the first tuples.
 
@@ -74,3 +90,32 @@ first-row ends names db n end rise h is =
     let within : n ≤ length ends = omega (arith, h, files-length 0 0 ends names db) in
     let whole : tuple_at 0 ends n ≡ tuple_at 0 ends n - 0 = omega arith in
     ap (λ (k : ℕ). take k db) (is ∙ whole) ∙ files-first 0 0 ends names db n rise within
+
+-- a row ends where it begins or behind that
+pub row-rises : (name tuple : ℕ) (ends : List FileEnd) (bytes count n m : ℕ) → FilesRise name tuple ends bytes count → n ≤ m → m ≤ length ends → tuple_at tuple ends n ≤ tuple_at tuple ends m
+row-rises name tuple ends bytes count zero m rise le h = at-least name tuple ends bytes count m rise h
+row-rises name tuple ends bytes count (suc n) zero rise le h = absurd (omega (arith, le))
+row-rises name tuple [] bytes count (suc n) (suc m) rise le h = absurd (omega (arith, h))
+row-rises name tuple (end ∷ ends) bytes count (suc n) (suc m) rise le h = row-rises end.name end.tuple ends bytes count n m rise.2 (omega (arith, le)) (omega (arith, h))
+
+pub row-within : (name tuple : ℕ) (ends : List FileEnd) (bytes count n : ℕ) → FilesRise name tuple ends bytes count → n ≤ length ends → tuple_at tuple ends n ≤ count
+row-within name tuple ends bytes count zero rise h = (rise-starts name tuple ends bytes count rise).1
+row-within name tuple [] bytes count (suc n) rise h = absurd (omega (arith, h))
+row-within name tuple (end ∷ ends) bytes count (suc n) rise h = row-within end.name end.tuple ends bytes count n rise.2 (omega (arith, h))
+
+-- the tuples of a row behind those of the files before it
+pub row-kept : (ends : List FileEnd) (names : List ℕ) (db own : Tuples) (first end from to : ℕ) → FilesRise 0 0 ends (length names) (length db) → first ≤ end → end ≤ length (files_in 0 0 ends names db)
+    → from ≡ tuple_at 0 ends first → to ≡ tuple_at 0 ends end → own ≡ slice_range db from to → tuples_of (take first (files_in 0 0 ends names db)) ++ own ≡ tuples_of (take end (files_in 0 0 ends names db))
+row-kept ends names db own first end from to rise le h begins stops is =
+    let files : List File = files_in 0 0 ends names db in
+    let within : end ≤ length ends = omega (arith, h, files-length 0 0 ends names db) in
+    let rises : from ≤ to = omega (arith, begins, stops, row-rises 0 0 ends (length names) (length db) first end rise le within) in
+    let inside : from ≤ length db = omega (arith, begins, row-within 0 0 ends (length names) (length db) first rise (omega (arith, le, within))) in
+    let one : from ≡ from - 0 = omega arith in
+    let two : to - 0 ≡ to = omega arith in
+    ap (λ (ts : Tuples). ts ++ own) (sym (first-row ends names db first from rise (omega (arith, le, h)) begins))
+    ∙ ap (λ (ts : Tuples). take from db ++ ts) is
+    ∙ ap (λ (n : ℕ). take n db ++ slice_range db from to) one
+    ∙ sym (slice-join db 0 from to (omega arith) rises inside)
+    ∙ ap (λ (n : ℕ). take n db) two
+    ∙ first-row ends names db end to rise h stops

@@ -48,16 +48,18 @@ impl Bundle {
         Ok(())
     }
 
-    /// The tuples of the first files, so many. It copies nothing and takes no memory.
-    pub(crate) fn into_first(self, count: usize) -> Db
+    /// The tuples of the files from a number to another. It copies nothing and takes no memory.
+    pub(crate) fn into_row(self, first: usize, end: usize) -> Db
         requires sound { AreBundled self }
-        requires within { count ≤ length (files_of self) }
-        ensures { result ≡ tuples_of (take count (files_of self)) }
+        requires rise { first ≤ end }
+        requires within { end ≤ length (files_of self) }
+        ensures { tuples_of (take first (files_of self)) ++ result ≡ tuples_of (take end (files_of self)) }
     {
-        let end = tuple_begin(&self.ends, count);
+        let from = tuple_begin(&self.ends, first);
+        let to = tuple_begin(&self.ends, end);
         let Bundle { db, .. } = self;
         let mut db = db;
-        db.truncate(end);
+        db.keep(from, to);
         db
     }
 }

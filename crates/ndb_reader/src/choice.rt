@@ -160,6 +160,7 @@ fn row_of(
     requires within { first ≤ length (files_of bundle.now) }
     ensures tuples { IfSome result (λ end. tuples_of (take end (files_of bundle.now))
         ≡ tuples_of (take first (files_of bundle.now)) ++ spec.tuples_named (files_of bundle.now) name.now) }
+    ensures rise { IfSome result (λ end. first ≤ end) }
     ensures within { IfSome result (λ end. end ≤ length (files_of bundle.now)) }
 {
     let count = bundle.len();
@@ -175,14 +176,33 @@ fn row_of(
     Some(end)
 }
 
-/// How many of the first files have these names, if these are all and stand in the order of the names.
-fn rows_of(bundle: &Bundle, names: &IndexSet<Vec<u8>>, chains: &Chains) -> Option<usize>
+/// The number of the first file that has any of the names.
+fn first_of(bundle: &Bundle, names: &IndexSet<Vec<u8>>, chains: &Chains) -> usize
     requires { AreByName (names_seen names.now.keys) (files_of bundle.now) chains.now }
+    ensures { result ≤ length (files_of bundle.now) }
+{
+    let mut most = 0;
+    for name in names.as_slice() {
+        most = most.max(chains.first(bucket_of(names, name)));
+    }
+    bundle.len().saturating_sub(most)
+}
+
+/// Where the files with these names end, if they stand in a row from this one on, in the order of the names.
+fn rows_of(
+    bundle: &Bundle,
+    names: &IndexSet<Vec<u8>>,
+    chains: &Chains,
+    first: usize,
+) -> Option<usize>
+    requires files { AreByName (names_seen names.now.keys) (files_of bundle.now) chains.now }
+    requires within { first ≤ length (files_of bundle.now) }
     ensures tuples { IfSome result (λ end. tuples_of (take end (files_of bundle.now))
-        ≡ flat_map (spec.tuples_named (files_of bundle.now)) (names_seen names.now.keys)) }
+        ≡ tuples_of (take first (files_of bundle.now)) ++ flat_map (spec.tuples_named (files_of bundle.now)) (names_seen names.now.keys)) }
+    ensures rise { IfSome result (λ end. first ≤ end) }
     ensures within { IfSome result (λ end. end ≤ length (files_of bundle.now)) }
 {
-    let mut end = 0;
+    let mut end = first;
     for name in names.as_slice() {
         end = row_of(bundle, names, chains, name, end)?;
     }
@@ -207,14 +227,16 @@ fn copies_of(
     Ok(out.finish())
 }
 
-/// The tuples of all files with these names. Where these are the first files in order, nothing is copied.
+/// The tuples of all files with these names. Where they stand in a row, in the order of the names, nothing is copied.
+#[tactic(auto, using(crate::proofs::InRow::row_found))]
 fn all_named(alloc: Global, bundle: Bundle, names: &IndexSet<Vec<u8>>) -> Result<Db, AllocError>
     requires { AreBundled bundle }
     ensures { IfOk result (λ db. db ≡ flat_map (spec.tuples_named (files_of bundle)) (names_seen names.now.keys)) }
 {
     let chains = chains_of(alloc, &bundle, names)?;
-    if let Some(end) = rows_of(&bundle, names, &chains) {
-        return Ok(bundle.into_first(end));
+    let first = first_of(&bundle, names, &chains);
+    if let Some(end) = rows_of(&bundle, names, &chains, first) {
+        return Ok(bundle.into_row(first, end));
     }
     let db = copies_of(alloc, &bundle, names, &chains)?;
     Ok(db)
@@ -230,7 +252,7 @@ pub(crate) fn choose(alloc: Global, bundle: Bundle) -> Result<Db, AllocError>
     let end = bundle.ends[0].tuple as usize;
     let names = names_of(alloc, &bundle.db, end)?;
     if names.len() == 0 {
-        return Ok(bundle.into_first(1));
+        return Ok(bundle.into_row(0, 1));
     }
     let db = all_named(alloc, bundle, &names)?;
     Ok(db)

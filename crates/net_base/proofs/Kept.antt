@@ -5,11 +5,11 @@ use Rattle.std.proofs.lemmas.List.{length-take-le, take-append-drop}
 use Rattle.net_base.specs.Ndb.{NdbPair}
 use Rattle.net_base.specs.declared.ndb.runs.Mark.{Mark}
 use Rattle.net_base.specs.declared.ndb.runs.Runs.{Runs}
-use Rattle.net_base.specs.Parts.{start_at, last_end, parts, Rise}
+use Rattle.net_base.specs.Parts.{last_end, parts, Rise}
 use Rattle.net_base.specs.Store.{pair_between, marked, last_value, value_at, MarksRise, pairs_in, lines_in, tuples_in, AreSound, AreWhole}
 use Rattle.net_base.proofs.Cuts.{parts-more, rise-last}
 use Rattle.net_base.proofs.Marks.{pair-more, marked-length, marks-start}
-use Rattle.net_base.proofs.Found.{last-is, lines_len, pairs_len}
+use Rattle.net_base.proofs.Found.{lines_len, pairs_len}
 
 -- Lists.
 
@@ -73,10 +73,6 @@ marked-within marks bytes m rise within =
 pub value-last : (start : ℕ) (marks : List Mark) → value_at start marks (length marks) ≡ last_value start marks
 value-last start [] = refl
 value-last start (mark ∷ marks) = value-last mark.value marks
-
--- where the last list ends, as it is read from the ends that are seen
-pub begin-last : (seen ends : List ℕ) (n first : ℕ) → first ≡ start_at 0 seen n → seen ≡ ends → n ≡ length ends → first ≡ last_end 0 ends
-begin-last seen ends n first is same count = is ∙ ap (λ (es : List ℕ). start_at 0 es n) same ∙ ap (start_at 0 ends) count ∙ last-is 0 ends
 
 -- the first tuples, with what they have
 pub record Keeps (count : ℕ) (r s : Runs) : Type 0 where

@@ -8,3 +8,4 @@ pub mod Spots
 pub mod Laid
 pub mod Texts
 pub mod Kept
+pub mod Skipped

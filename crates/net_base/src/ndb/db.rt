@@ -1,5 +1,5 @@
 //! A database in one piece.
-ghost use Rattle.std.specs.Prelude.{◌≡◌, ◌<◌, [], length, take, flat_map, get_or};
+ghost use Rattle.std.specs.Prelude.{◌≡◌, ◌<◌, [], length, slice_range, get_or, ◌≤◌};
 ghost use Rattle.std.specs.List.{list_any};
 ghost use Rattle.net_base.specs.Ndb.{NdbPair};
 ghost use Rattle.net_base.specs.Search as spec;
@@ -63,11 +63,14 @@ impl Db {
         }
     }
 
-    /// Keeps the first tuples, so many, or all where there are fewer. It takes no memory.
-    pub fn truncate(&mut self, count: usize)
-        ensures { self.new ≡ take count self.old }
+    /// Keeps the tuples from a place to another. It takes no memory.
+    #[tactic(auto, using(crate::proofs::Found::tuples_len))]
+    pub fn keep(&mut self, first: usize, end: usize)
+        requires rise { first ≤ end }
+        requires within { end ≤ length self.old }
+        ensures { self.new ≡ slice_range self.old first end }
     {
-        self.runs.truncate(count);
+        self.runs.keep(first, end);
     }
 
     /// How many pairs all tuples have together.

@@ -12,6 +12,7 @@ loop-left-init c = (
   walk-none (names_seen c.args.names.now.keys) (files_of c.args.bundle.now) (bucket_in (names_seen c.args.names.now.keys) c.args.name.now) c.first-left.result (row (files_of c.args.bundle.now) c.args.first) refl refl
       (c.first-left.ensures (map (number_of (names_seen c.args.names.now.keys)) (files_of c.args.bundle.now)) c.requires.files.are
       ∙ ap (λ bucket. first_in bucket (map (number_of (names_seen c.args.names.now.keys)) (files_of c.args.bundle.now))) c.bucket_of.ensures.value),
+  omega arith,
   c.requires.within,
 )
 
@@ -43,6 +44,7 @@ loop-left-preserved c = (
     (omega (arith, c.loop-left-test.true)) c.requires.files c.len-count.ensures
     (λ d. row-next (files_of c.args.bundle.now) c.loop-left.end (c.len-count.result - c.loop-left.left) d (omega arith) (omega (arith, walk-within (names_seen c.args.names.now.keys) (files_of c.args.bundle.now) (bucket_in (names_seen c.args.names.now.keys) c.args.name.now) c.loop-left.left (row (files_of c.args.bundle.now) c.args.first) (row (files_of c.args.bundle.now) c.loop-left.end) c.loop-left.invariant.0 (omega (arith, c.loop-left-test.true)), c.len-count.ensures, c.loop-left-test.true)))
     c.next-left.ensures).0,
+  omega (arith, c.loop-left.invariant.1),
   omega (arith, c.len-count.ensures, c.loop-left-test.true),
 )
 

@@ -8,7 +8,7 @@ use Rattle.ndb_reader.proofs.choice.row_of.Given as goal
 abbrev pub invariant-loop-left : goal.invariant-loop-left
 invariant-loop-left l =
     Walk (names_seen l.names.keys) (files_of l.bundle) (bucket_in (names_seen l.names.keys) l.name) l.left (row (files_of l.bundle) l.first) (row (files_of l.bundle) l.end)
-    × (l.end ≤ length (files_of l.bundle))
+    × (l.first ≤ l.end) × (l.end ≤ length (files_of l.bundle))
 
 abbrev pub decreases-loop-left : goal.decreases-loop-left
 decreases-loop-left l = l.left
