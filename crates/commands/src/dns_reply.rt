@@ -17,7 +17,7 @@ use words::{put_hex_digits, read_hex_word};
 fn indexed(alloc: Global, db: Db, message: &[u8]) -> Result<Option<Octets>, AllocError>
     ensures { IfOk result (λ reply. reply ≡ dns_answer db message.now) }
 {
-    let index = Index::new(alloc, db)?;
+    let index = Index::scanned(alloc, db)?;
     dns_answer(alloc, &index, message)
 }
 

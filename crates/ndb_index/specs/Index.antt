@@ -1,16 +1,16 @@
 -- What an index keeps of a database, and how many tuples are looked at.
-use Rattle.std.specs.Prelude.{ℕ, ◌+◌, List, length, codes}
+use Rattle.std.specs.Prelude.{ℕ, ◌+◌, List, length, codes, Option}
 use Rattle.net_base.specs.Ndb.{NdbPair}
 use Rattle.net_base.specs.Search.{tuples_with}
 use Rattle.net_base.specs.Networks.{own_networks}
 use Rattle.ndb_tuple.specs.declared.prefixes.Prefix.{Prefix}
 use Rattle.ndb_chains.specs.declared.chains.Chains.{Chains}
-use Rattle.ndb_index.specs.Chained.{AreByPair}
+use Rattle.ndb_index.specs.Chained.{HasPairs}
 use Rattle.ndb_index.specs.Nets.{HasPlaces, HasAllLengths}
 
 -- the pairs, the networks and their lengths are those of the database
-pub record IsIndex (db : List (List (List NdbPair))) (chains : Chains) (networks : List (Prefix × List ℕ)) (lengths : List ℕ) : Type 0 where
-  pub pairs : AreByPair db chains
+pub record IsIndex (db : List (List (List NdbPair))) (chains : Option Chains) (networks : List (Prefix × List ℕ)) (lengths : List ℕ) : Type 0 where
+  pub pairs : HasPairs db chains
   pub places : HasPlaces db networks
   pub all_lengths : HasAllLengths lengths db
 

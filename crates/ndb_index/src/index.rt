@@ -7,7 +7,7 @@ ghost use Rattle.ndb_index.specs.Near.{Finds};
 ghost use Rattle.ndb_index.specs.Nets.{HasPlaces, HasAllLengths};
 
 use crate::networks::{self, Networks};
-use crate::pairs::{chains_of, spots_of};
+use crate::pairs::{chains_of, spots_found};
 use crate::scan::places_at;
 use indexmap::{IndexMap, IndexSet};
 use ndb_chains::Chains;
@@ -22,7 +22,7 @@ use std::sync::ledger::{Blank, Ledger};
 #[derive(Drop)]
 pub struct Index {
     pub(crate) tuples: Tuples,
-    pub(crate) pairs: Chains,
+    pub(crate) pairs: Option<Chains>,
     pub(crate) networks: Networks,
     pub(crate) lengths: IndexSet<u32>,
 }
@@ -64,7 +64,20 @@ impl Index {
         let (networks, lengths) = networks_of(alloc, &db)?;
         Ok(Index {
             tuples: Tuples::new(db),
-            pairs,
+            pairs: Some(pairs),
+            networks,
+            lengths,
+        })
+    }
+
+    /// The same for one who asks a few times: each search goes once over all pairs.
+    pub fn scanned(alloc: Global, db: Db) -> Result<Index, AllocError>
+        ensures { IfOk result (λ index. index ≡ db) }
+    {
+        let (networks, lengths) = networks_of(alloc, &db)?;
+        Ok(Index {
+            tuples: Tuples::new(db),
+            pairs: None,
             networks,
             lengths,
         })
@@ -90,7 +103,24 @@ impl Index {
     pub fn spots(&self, alloc: Global, attr: &[u8], value: &[u8]) -> Result<Vec<Spot>, AllocError>
         ensures { IfOk result (λ spots. spots.items ≡ spots_with attr.now value.now self.now) }
     {
-        let spots = spots_of(alloc, &self.tuples, &self.pairs, attr, value)?;
+        self.spots_by::<Brand>(alloc, attr, value, Blank::new(1))
+    }
+
+    /// The same by a counter of its own, of looks at pairs.
+    fn spots_by<P: Ledger>(
+        &self,
+        alloc: Global,
+        attr: &[u8],
+        value: &[u8],
+        blank: Blank,
+    ) -> Result<Vec<Spot>, AllocError>
+        requires name { blank.name ≡ P.name }
+        requires parts { blank.parts ≡ P.parts }
+        requires some { 0 < blank.parts }
+        ensures { IfOk result (λ spots. spots.items ≡ spots_with attr.now value.now self.now) }
+    {
+        let mut steps = Steps::<P>::new(blank);
+        let spots = spots_found(alloc, &self.tuples, &self.pairs, attr, value, &mut steps)?;
         Ok(spots)
     }
 
