@@ -51,6 +51,7 @@ fn add_spot(spot: Spot, spots: &mut Vec<Spot>) -> Result<(), AllocError>
 }
 
 /// Adds where the pair with this number stands, if it is the one that is asked for, for one step.
+#[inline(always)]
 fn add_found<P: Ledger>(
     tuples: &Tuples,
     number: usize,

@@ -181,7 +181,7 @@ fn first_of(bundle: &Bundle, names: &IndexSet<Vec<u8>>, chains: &Chains) -> usiz
     requires { AreByName (names_seen names.now.keys) (files_of bundle.now) chains.now }
     ensures { result ≤ length (files_of bundle.now) }
 {
-    let mut most = 0;
+    let mut most: usize = 0;
     for name in names.as_slice() {
         most = most.max(chains.first(bucket_of(names, name)));
     }

@@ -34,6 +34,7 @@ impl<L: Ledger> Steps<L> {
     }
 
     /// Counts one step.
+    #[inline(always)]
     pub(crate) fn tick(&mut self)
         ensures { self.new ≡ self.old + 1 }
     {

@@ -51,6 +51,7 @@ impl Tuples {
     }
 
     /// How many pairs all tuples have together.
+    #[inline(always)]
     pub fn pair_count(&self) -> usize
         ensures { result ≡ length (all_pairs self.now) }
     {
@@ -58,6 +59,7 @@ impl Tuples {
     }
 
     /// The pair with this number, where all pairs are counted in a row, for one step. It looks at no tuple.
+    #[inline(always)]
     pub fn pair<P: Ledger>(&self, number: usize, steps: &mut Steps<P>) -> NdbPair<'_>
         requires { number < length (all_pairs self.now) }
         ensures pair { (d : NdbPair) → result ≡ get_or (all_pairs self.now) number d }

@@ -75,6 +75,7 @@ impl Db {
 
     /// How many pairs all tuples have together.
     #[tactic(auto, using(crate::proofs::Flat::all_count))]
+    #[inline(always)]
     pub fn pair_count(&self) -> usize
         ensures { result ≡ length (all_pairs self.now) }
     {
@@ -83,6 +84,7 @@ impl Db {
 
     /// The pair with this number, where all pairs are counted in a row.
     #[tactic(auto, using(crate::proofs::Flat::all_within, crate::proofs::Flat::all_at))]
+    #[inline(always)]
     pub fn pair(&self, number: usize) -> NdbPair<'_>
         requires { number < length (all_pairs self.now) }
         ensures { (d : NdbPair) → result ≡ get_or (all_pairs self.now) number d }

@@ -50,6 +50,7 @@ fn place_of(count: usize) -> Result<u32, AllocError>
 
 /// Where the list with this number begins.
 #[tactic(auto, using(crate::proofs::Cuts::begin_is))]
+#[inline(always)]
 pub(crate) fn begin_of(ends: &[u32], number: usize) -> usize
     requires { number ≤ length ends.now }
     ensures { result ≡ start_at 0 ends.now number }
@@ -68,6 +69,7 @@ fn end_of(ends: &[u32]) -> usize
 }
 
 /// Where the pair with this number begins.
+#[inline(always)]
 fn value_begin(marks: &[Mark], number: usize) -> usize
     requires { number ≤ length marks.now }
     ensures { result ≡ value_at 0 marks.now number }
@@ -249,6 +251,7 @@ impl Runs {
     }
 
     /// The pair with this number.
+    #[inline(always)]
     pub(crate) fn pair(&self, number: usize) -> NdbPair<'_>
         requires sound { AreSound self.now }
         requires within { number < length self.now.pairs.items }
