@@ -1,4 +1,4 @@
-use Rattle.std.proofs.Common.{ℕ, drop, take, length, sym, ap, ◌∙◌, arith}
+use Rattle.std.proofs.Common.{◌≡◌, ℕ, drop, take, length, sym, ap, ◌∙◌, arith}
 use Rattle.std.proofs.lemmas.List.{length-take-le}
 use Rattle.net_base.specs.Store.{tuples_in}
 use Rattle.net_base.proofs.Found.{tuples_len}

@@ -6,7 +6,7 @@ use Rattle.net_base.proofs.ndb.runs.Runs.truncate.Goals as goal
 
 pub returns-clause-sound : goal.returns-clause-sound
 returns-clause-sound c =
-    kept-sound c.args.count c.args.self.now _ c.requires.sound
+    kept-sound c.args.count c.args.self.now (record { bytes = c.truncate-4.new.self; pairs = c.truncate-3.new.self; lines = c.truncate-2.new.self; tuples = c.truncate.new.self }) c.requires.sound
     record {
       tuples = c.truncate.ensures.items;
       lines = c.truncate-2.ensures.items ∙ ap (λ (n : ℕ). take n c.args.self.now.lines.items) (c.end_of.ensures ∙ ap (last_end 0) c.deref.ensures.value);
@@ -16,7 +16,7 @@ returns-clause-sound c =
 
 pub returns-clause-whole : goal.returns-clause-whole
 returns-clause-whole c =
-    kept-whole c.args.count c.args.self.now _ c.requires.sound
+    kept-whole c.args.count c.args.self.now (record { bytes = c.truncate-4.new.self; pairs = c.truncate-3.new.self; lines = c.truncate-2.new.self; tuples = c.truncate.new.self }) c.requires.sound
     record {
       tuples = c.truncate.ensures.items;
       lines = c.truncate-2.ensures.items ∙ ap (λ (n : ℕ). take n c.args.self.now.lines.items) (c.end_of.ensures ∙ ap (last_end 0) c.deref.ensures.value);
@@ -26,7 +26,7 @@ returns-clause-whole c =
 
 pub returns-clause-kept : goal.returns-clause-kept
 returns-clause-kept c =
-    tuples-kept c.args.count c.args.self.now _ c.requires.sound
+    tuples-kept c.args.count c.args.self.now (record { bytes = c.truncate-4.new.self; pairs = c.truncate-3.new.self; lines = c.truncate-2.new.self; tuples = c.truncate.new.self }) c.requires.sound
     record {
       tuples = c.truncate.ensures.items;
       lines = c.truncate-2.ensures.items ∙ ap (λ (n : ℕ). take n c.args.self.now.lines.items) (c.end_of.ensures ∙ ap (last_end 0) c.deref.ensures.value);
