@@ -45,7 +45,7 @@ loop-left-preserved c = (
     (λ d. row-next (files_of c.args.bundle.now) c.loop-left.end (c.len-count.result - c.loop-left.left) d (omega arith) (omega (arith, walk-within (names_seen c.args.names.now.keys) (files_of c.args.bundle.now) (bucket_in (names_seen c.args.names.now.keys) c.args.name.now) c.loop-left.left (row (files_of c.args.bundle.now) c.args.first) (row (files_of c.args.bundle.now) c.loop-left.end) c.loop-left.invariant.0 (omega (arith, c.loop-left-test.true)), c.len-count.ensures, c.loop-left-test.true)))
     c.next-left.ensures).0,
   omega (arith, c.loop-left.invariant.1),
-  omega (arith, c.len-count.ensures, c.loop-left-test.true),
+  omega (arith, walk-within (names_seen c.args.names.now.keys) (files_of c.args.bundle.now) (bucket_in (names_seen c.args.names.now.keys) c.args.name.now) c.loop-left.left (row (files_of c.args.bundle.now) c.args.first) (row (files_of c.args.bundle.now) c.loop-left.end) c.loop-left.invariant.0 (omega (arith, c.loop-left-test.true)), c.len-count.ensures, c.loop-left-test.true),
 )
 
 pub returns-clause-tuples : goal.returns-clause-tuples

@@ -17,10 +17,10 @@ row_of-requires-clause-one c =
 
 pub loop-name-preserved : goal.loop-name-preserved
 loop-name-preserved c = (
-  rows-next (files_of c.args.bundle.now) c.as_slice-name-items.result.now c.loop-name.name-index c.args.first c.loop-name.end c.in_some-row_of.value c.name-item.result c.deref.result.now
-      (omega (arith, c.loop-name-test.true)) c.name-item.is c.deref.ensures.value c.in_some-row_of.ensures.tuples c.loop-name.invariant.0,
-  omega (arith, c.loop-name.invariant.1, c.in_some-row_of.ensures.rise),
-  c.in_some-row_of.ensures.within,
+  rows-next (files_of c.args.bundle.now) c.as_slice-name-items.result.now c.loop-name.name-index c.args.first c.loop-name.end _ c.name-item.result c.deref.result.now
+      (omega (arith, c.loop-name-test.true)) c.name-item.is c.deref.ensures.value c.in_ok-end.ensures.tuples c.loop-name.invariant.0,
+  omega (arith, c.loop-name.invariant.1, c.in_ok-end.ensures.rise),
+  c.in_ok-end.ensures.within,
 )
 
 pub returns-clause-tuples : goal.returns-clause-tuples
