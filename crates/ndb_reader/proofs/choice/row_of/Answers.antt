@@ -41,9 +41,9 @@ loop-left-smaller c =
 pub loop-left-preserved : goal.loop-left-preserved
 loop-left-preserved c = (
   (walk-next (names_seen c.args.names.now.keys) (files_of c.args.bundle.now) (bucket_in (names_seen c.args.names.now.keys) c.args.name.now) c.loop-left.left c.len-count.result c.next-left.result c.args.chains.now (row (files_of c.args.bundle.now) c.args.first) (row (files_of c.args.bundle.now) c.loop-left.end) (row (files_of c.args.bundle.now) (c.loop-left.end + 1)) c.loop-left.invariant.0
-    (omega (arith, c.loop-left-test.true)) c.requires.files c.len-count.ensures
-    (λ d. row-next (files_of c.args.bundle.now) c.loop-left.end (c.len-count.result - c.loop-left.left) d (omega arith) (omega (arith, walk-within (names_seen c.args.names.now.keys) (files_of c.args.bundle.now) (bucket_in (names_seen c.args.names.now.keys) c.args.name.now) c.loop-left.left (row (files_of c.args.bundle.now) c.args.first) (row (files_of c.args.bundle.now) c.loop-left.end) c.loop-left.invariant.0 (omega (arith, c.loop-left-test.true)), c.len-count.ensures, c.loop-left-test.true)))
-    c.next-left.ensures).0,
+      (omega (arith, c.loop-left-test.true)) c.requires.files c.len-count.ensures
+      (λ d. row-next (files_of c.args.bundle.now) c.loop-left.end (c.len-count.result - c.loop-left.left) d (omega arith) (omega (arith, walk-within (names_seen c.args.names.now.keys) (files_of c.args.bundle.now) (bucket_in (names_seen c.args.names.now.keys) c.args.name.now) c.loop-left.left (row (files_of c.args.bundle.now) c.args.first) (row (files_of c.args.bundle.now) c.loop-left.end) c.loop-left.invariant.0 (omega (arith, c.loop-left-test.true)), c.len-count.ensures, c.loop-left-test.true)))
+      c.next-left.ensures).0,
   omega (arith, c.loop-left.invariant.1),
   omega (arith, walk-within (names_seen c.args.names.now.keys) (files_of c.args.bundle.now) (bucket_in (names_seen c.args.names.now.keys) c.args.name.now) c.loop-left.left (row (files_of c.args.bundle.now) c.args.first) (row (files_of c.args.bundle.now) c.loop-left.end) c.loop-left.invariant.0 (omega (arith, c.loop-left-test.true)), c.len-count.ensures, c.loop-left-test.true),
 )

@@ -15,18 +15,25 @@ tuple_begin-to-requires c =
 
 pub keep-requires-clause-rise : goal.keep-requires-clause-rise
 keep-requires-clause-rise c =
-    omega (arith,
-    c.tuple_begin-from.ensures, ap (λ (ends : List FileEnd). tuple_at 0 ends c.args.first) c.deref.ensures.value,
-    c.tuple_begin-to.ensures, ap (λ (ends : List FileEnd). tuple_at 0 ends c.args.end) c.deref-2.ensures.value,
-    row-rises 0 0 c.args.self.ends.items (length c.args.self.names.items) (length c.args.self.db) c.args.first c.args.end c.requires.sound c.requires.rise
-    (omega (arith, c.requires.within, files-length 0 0 c.args.self.ends.items c.args.self.names.items c.args.self.db)))
+    omega (
+      arith,
+      c.tuple_begin-from.ensures,
+      ap (λ (ends : List FileEnd). tuple_at 0 ends c.args.first) c.deref.ensures.value,
+      c.tuple_begin-to.ensures,
+      ap (λ (ends : List FileEnd). tuple_at 0 ends c.args.end) c.deref-2.ensures.value,
+      row-rises 0 0 c.args.self.ends.items (length c.args.self.names.items) (length c.args.self.db) c.args.first c.args.end c.requires.sound c.requires.rise
+          (omega (arith, c.requires.within, files-length 0 0 c.args.self.ends.items c.args.self.names.items c.args.self.db)),
+    )
 
 pub keep-requires-clause-within : goal.keep-requires-clause-within
 keep-requires-clause-within c =
-    omega (arith,
-    c.tuple_begin-to.ensures, ap (λ (ends : List FileEnd). tuple_at 0 ends c.args.end) c.deref-2.ensures.value,
-    row-within 0 0 c.args.self.ends.items (length c.args.self.names.items) (length c.args.self.db) c.args.end c.requires.sound
-    (omega (arith, c.requires.within, files-length 0 0 c.args.self.ends.items c.args.self.names.items c.args.self.db)))
+    omega (
+      arith,
+      c.tuple_begin-to.ensures,
+      ap (λ (ends : List FileEnd). tuple_at 0 ends c.args.end) c.deref-2.ensures.value,
+      row-within 0 0 c.args.self.ends.items (length c.args.self.names.items) (length c.args.self.db) c.args.end c.requires.sound
+          (omega (arith, c.requires.within, files-length 0 0 c.args.self.ends.items c.args.self.names.items c.args.self.db)),
+    )
 
 pub returns : goal.returns
 returns c =
