@@ -11,7 +11,6 @@ use ndb_index::Index;
 use ndb_reader::{NdbError, read_ndb};
 use net_base::{Db, Lines, Octets};
 use std::alloc::{AllocError, Global};
-use std::mem;
 use words::{put_hex_digits, read_hex_word};
 
 /// What a message is answered over a database, by an index of it.
@@ -19,10 +18,7 @@ fn indexed(alloc: Global, db: Db, message: &[u8]) -> Result<Option<Octets>, Allo
     ensures { IfOk result (λ reply. reply ≡ dns_answer db message.now) }
 {
     let index = Index::scanned(alloc, db)?;
-    let reply = dns_answer(alloc, &index, message);
-    // the program ends behind its one answer, and gives back all memory at once
-    mem::forget(index);
-    reply
+    dns_answer(alloc, &index, message)
 }
 
 /// A reply in hexadecimal, as the one line, or no line where there is none.

@@ -7,18 +7,25 @@ ghost use Rattle.commands.specs.Built.{cs_over};
 
 use crate::answer::{listed, refusal};
 use command_line::Answer;
-use cs_resolver::{CsError, answer_indexed};
+use cs_resolver::{CsError, answer_indexed, is_attribute, read_query};
 use ndb_index::Index;
 use ndb_reader::{NdbError, read_ndb};
 use net_base::{Db, Lines, Proto};
 use std::alloc::{AllocError, Global};
-use std::mem;
 
-/// The index for a query: by `$` it may ask for as many words as there are values, and else for a few.
+/// Whether a query may ask for as many words as there are values: those of an attribute that stands somewhere.
+fn asks_many(db: &Db, query: &[u8]) -> bool {
+    let Some(query) = read_query(query) else {
+        return false;
+    };
+    is_attribute(query.host) && db.names(&query.host[1..])
+}
+
+/// The index for a query, with chains of pairs where it may ask for many.
 fn index_for(alloc: Global, db: Db, query: &[u8]) -> Result<Index, AllocError>
     ensures { IfOk result (λ index. index ≡ db) }
 {
-    if query.contains(&b'$') {
+    if asks_many(&db, query) {
         return Index::new(alloc, db);
     }
     Index::scanned(alloc, db)
@@ -30,10 +37,7 @@ fn indexed(alloc: Global, db: Db, sys: &[u8], query: &[u8]) -> Result<Lines, CsE
     ensures err { IfErr result (λ error. Tells error (cs_list db sys.now (Il ∷ Udp ∷ []) query.now)) }
 {
     let index = index_for(alloc, db, query)?;
-    let lines = answer_indexed(alloc, &index, sys, &[Proto::Il, Proto::Udp], query);
-    // the program ends behind its one answer, and gives back all memory at once
-    mem::forget(index);
-    lines
+    answer_indexed(alloc, &index, sys, &[Proto::Il, Proto::Udp], query)
 }
 
 /// What a host is answered to a query over the database that an input is.

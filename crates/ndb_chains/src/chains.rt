@@ -1,5 +1,5 @@
 //! Chains of entries, one for each bucket.
-ghost use Rattle.std.specs.Prelude.{◌≡◌, ℕ, List, suc, ◌<◌, ◌≤◌, ◌∷◌, ◌++◌, [], length, IfOk, OnOk};
+ghost use Rattle.std.specs.Prelude.{◌≡◌, ℕ, List, suc, ◌<◌, ◌≤◌, ◌∷◌, ◌++◌, [], length, IfOk, OnOk, OnErr};
 ghost use Rattle.ndb_chains.specs.Chains.{first_in, width_of, AreChains};
 
 use std::alloc::{AllocError, Global};
@@ -35,6 +35,7 @@ impl Chains {
         requires { bucket < width_of self.old }
         ensures width { width_of self.new ≡ width_of self.old }
         ensures chains { OnOk result ((buckets : List ℕ) → AreChains self.old buckets → AreChains self.new (bucket ∷ buckets)) }
+        ensures err { OnErr result ((buckets : List ℕ) → AreChains self.old buckets → AreChains self.new buckets) }
     {
         let entry = self.nexts.len();
         if entry >= 0xffff_ffff {
@@ -53,7 +54,7 @@ impl Chains {
         self.heads[bucket] as usize
     }
 
-    /// The same of those behind the entry from which on so many stand.
+    /// How many entries stand from the next one of the same bucket on, 0 where it has none: behind the entry from which on so many stand.
     pub fn next(&self, left: usize) -> usize
         requires some { 0 < left }
         requires within { left ≤ length self.now.nexts.items }

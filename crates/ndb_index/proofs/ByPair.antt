@@ -16,7 +16,7 @@ use Rattle.ndb_chains.specs.declared.chains.Chains.{Chains}
 use Rattle.ndb_chains.specs.Chains.{first_in, width_of, AreChains}
 use Rattle.ndb_chains.proofs.Entries.{first-within}
 use Rattle.ndb_chains.proofs.Walks.{in_bucket, Met, met, none-met}
-use Rattle.ndb_index.specs.Chained.{AreByPair}
+use Rattle.ndb_index.specs.Chained.{width_for, AreByPair}
 use Rattle.ndb_index.specs.Hashing.{bucket_in, pair_bucket}
 use Rattle.ndb_index.specs.Kept.{noted, spots_with}
 use Rattle.ndb_index.proofs.Notes.{Placed, placed, pairs_noted, placed_noted, placed_length, spots_length, Notes, notes-one}
@@ -63,12 +63,12 @@ chaining-next db width count back bucket pair attr value chains new c counted h 
       are = subst (λ (bs : List ℕ). AreChains new bs) (sym keys) (pushed (map key (drop (length pairs - back) pairs)) c.are);
     }
 
-pub chaining-all : (db : Db) (width count back : ℕ) (chains : Chains) → Chaining db width back chains → 0 < width → count ≡ length (all_pairs db) → count ≤ back → AreByPair db chains
-chaining-all db width count back chains c some counted all =
+pub chaining-all : (db : Db) (width count back : ℕ) (chains : Chains) → Chaining db width back chains → width ≡ width_for db → count ≡ length (all_pairs db) → count ≤ back → AreByPair db chains
+chaining-all db width count back chains c wide counted all =
     let none : length (all_pairs db) - back ≡ 0 = omega (arith, counted, all) in
     record {
-      some = subst (λ (n : ℕ). 0 < n) (sym c.width_is) some;
-      are = subst (λ (n : ℕ). AreChains chains (map (pair_bucket n) (all_pairs db))) (sym c.width_is)
+      width = c.width_is ∙ wide;
+      are = subst (λ (n : ℕ). AreChains chains (map (pair_bucket n) (all_pairs db))) wide
           (subst (λ (k : ℕ). AreChains chains (map (pair_bucket width) (drop k (all_pairs db)))) none c.are);
     }
 
@@ -81,6 +81,17 @@ buckets_are : (width : ℕ) (pairs : List NdbPair) (spots : List Spot) → lengt
 buckets_are width [] spots same = refl
 buckets_are width (pair ∷ pairs) [] same = absurd (omega (arith, same))
 buckets_are width (pair ∷ pairs) (spot ∷ spots) same = ap (λ (bs : List ℕ). pair_bucket width pair ∷ bs) (buckets_are width pairs spots (omega (arith, same)))
+
+-- those of a bucket, with where they stand or without
+items_alike : (width bucket : ℕ) (pairs : List NdbPair) (spots : List Spot) → length spots ≡ length pairs → length (in_bucket (item_bucket width) bucket (zip pairs spots)) ≡ length (filter (λ pair. pair_bucket width pair == bucket) pairs)
+items_alike width bucket [] spots same = refl
+items_alike width bucket (pair ∷ pairs) [] same = absurd (omega (arith, same))
+items_alike width bucket (pair ∷ pairs) (spot ∷ spots) same = by (pair_bucket width pair == bucket) (items_alike width bucket pairs spots (omega (arith, same)))
+  where
+    by : (b : Bool) → length (in_bucket (item_bucket width) bucket (zip pairs spots)) ≡ length (filter (λ p. pair_bucket width p == bucket) pairs)
+        → length (cond b ((pair, spot) ∷ in_bucket (item_bucket width) bucket (zip pairs spots)) (in_bucket (item_bucket width) bucket (zip pairs spots))) ≡ length (cond b (pair ∷ filter (λ p. pair_bucket width p == bucket) pairs) (filter (λ p. pair_bucket width p == bucket) pairs))
+    by true e = ap suc e
+    by false e = e
 
 same_bucket : (width : ℕ) (attr value : List ℕ) (pair : NdbPair) → is_pair attr value pair ≡ true → pair_bucket width pair ≡ bucket_in width attr value
 same_bucket width attr value pair e =
@@ -105,39 +116,47 @@ bucket_noted width bucket attr value (item ∷ items) spots is =
         let still : noted (is_pair attr value item.0) item.1 spots ≡ spots = ap (λ (b : Bool). noted b item.1 spots) ep in
         ap (pairs_noted attr value (in_bucket (item_bucket width) bucket items)) (sym still) ∙ rest
 
--- so many pairs are left, and those before them are noted
-pub record Walk (db : Db) (width left : ℕ) (attr value : List ℕ) (spots : List Spot) : Type 0 where
+-- so many pairs are left, those before them are noted, and so many steps were made, with the others of the bucket at most so many
+pub record Walk (db : Db) (width left : ℕ) (attr value : List ℕ) (spots : List Spot) (steps most : ℕ) : Type 0 where
   pub before : Placed
   pub rest : Placed
   pub is : before ++ rest ≡ placed db
   pub count : left ≡ first_in (bucket_in width attr value) (map (item_bucket width) rest)
+  pub looks : steps + length (in_bucket (item_bucket width) (bucket_in width attr value) rest) ≤ most
   pub done : pairs_noted attr value (in_bucket (item_bucket width) (bucket_in width attr value) rest) spots ≡ spots_with attr value db
 
-pub walk-none : (db : Db) (width left bucket : ℕ) (attr value : List ℕ) (spots : List Spot) → spots ≡ [] → bucket ≡ bucket_in width attr value → left ≡ first_in bucket (map (pair_bucket width) (all_pairs db)) → Walk db width left attr value spots
-walk-none db width left bucket attr value spots none own is =
+pub walk-none : (db : Db) (width left bucket : ℕ) (attr value : List ℕ) (spots : List Spot) (steps most : ℕ) → most ≡ steps + length (filter (λ pair. pair_bucket width pair == bucket_in width attr value) (all_pairs db)) → spots ≡ [] → bucket ≡ bucket_in width attr value → left ≡ first_in bucket (map (pair_bucket width) (all_pairs db)) → Walk db width left attr value spots steps most
+walk-none db width left bucket attr value spots steps most all none own is =
     let keys : map (item_bucket width) (placed db) ≡ map (pair_bucket width) (all_pairs db) = buckets_are width (all_pairs db) (pair_spots db) (spots_length db) in
     record {
       before = [];
       rest = placed db;
       is = refl;
       count = is ∙ ap (λ (b : ℕ). first_in b (map (pair_bucket width) (all_pairs db))) own ∙ ap (first_in (bucket_in width attr value)) (sym keys);
+      looks = omega (arith, all, items_alike width (bucket_in width attr value) (all_pairs db) (pair_spots db) (spots_length db));
       done = bucket_noted width (bucket_in width attr value) attr value (placed db) spots refl ∙ ap (pairs_noted attr value (placed db)) none ∙ placed_noted attr value db;
     }
 
-abbrev meets : (db : Db) (width left : ℕ) (attr value : List ℕ) (spots : List Spot) → (w : Walk db width left attr value spots) → 0 < left → Met (item_bucket width) (bucket_in width attr value) w.rest left
-meets db width left attr value spots w some = met (item_bucket width) (bucket_in width attr value) w.rest left w.count some
+abbrev meets : (db : Db) (width left : ℕ) (attr value : List ℕ) (spots : List Spot) (steps most : ℕ) → (w : Walk db width left attr value spots steps most) → 0 < left → Met (item_bucket width) (bucket_in width attr value) w.rest left
+meets db width left attr value spots steps most w some = met (item_bucket width) (bucket_in width attr value) w.rest left w.count some
 
-pub walk-within : (db : Db) (width left : ℕ) (attr value : List ℕ) (spots : List Spot) → Walk db width left attr value spots → 0 < left → left ≤ length (all_pairs db)
-walk-within db width left attr value spots w some =
-    let m = meets db width left attr value spots w some in
+pub walk-within : (db : Db) (width left : ℕ) (attr value : List ℕ) (spots : List Spot) (steps most : ℕ) → Walk db width left attr value spots steps most → 0 < left → left ≤ length (all_pairs db)
+walk-within db width left attr value spots steps most w some =
+    let m = meets db width left attr value spots steps most w some in
     omega (arith, m.count, ap (λ (xs : Placed). length xs) w.is, length-append w.before w.rest, ap (λ (xs : Placed). length xs) m.is, length-append m.before (m.one ∷ m.behind), placed_length db)
 
-pub walk-next : (db : Db) (width left count next : ℕ) (attr value : List ℕ) (chains : Chains) (spots new : List Spot) → Walk db width left attr value spots → 0 < left → AreByPair db chains → width ≡ width_of chains → count ≡ length (all_pairs db)
+-- a step more is within those
+pub walk-costs : (db : Db) (width left : ℕ) (attr value : List ℕ) (spots : List Spot) (steps most : ℕ) → Walk db width left attr value spots steps most → 0 < left → steps + 1 ≤ most
+walk-costs db width left attr value spots steps most w some =
+    let m = meets db width left attr value spots steps most w some in
+    omega (arith, w.looks, ap (λ (xs : Placed). length xs) m.rest)
+
+pub walk-next : (db : Db) (width left count next : ℕ) (attr value : List ℕ) (chains : Chains) (spots new : List Spot) (steps later most : ℕ) → Walk db width left attr value spots steps most → 0 < left → AreByPair db chains → width ≡ width_for db → later ≡ steps + 1 → count ≡ length (all_pairs db)
     → Notes db (count - left) attr value spots new
     → ((before : List ℕ) (b : ℕ) (behind : List ℕ) → AreChains chains (before ++ b ∷ behind) → left ≡ suc (length behind) → next ≡ first_in b behind)
-    → Walk db width next attr value new × (next < left)
-walk-next db width left count next attr value chains spots new w some held wide counted noting nexts =
-    let m = meets db width left attr value spots w some in
+    → Walk db width next attr value new later most × (next < left)
+walk-next db width left count next attr value chains spots new steps later most w some held wide one_more counted noting nexts =
+    let m = meets db width left attr value spots steps most w some in
     let key : NdbPair × Spot → ℕ = item_bucket width in
     let front : Placed = w.before ++ m.before in
     let all : placed db ≡ front ++ m.one ∷ m.behind = sym w.is ∙ ap (λ (xs : Placed). w.before ++ xs) m.is ∙ sym (append_assoc w.before m.before (m.one ∷ m.behind)) in
@@ -157,6 +176,7 @@ walk-next db width left count next attr value chains spots new w some held wide 
         rest = m.behind;
         is = append_assoc front (m.one ∷ []) m.behind ∙ sym all;
         count = at;
+        looks = omega (arith, w.looks, ap (λ (xs : Placed). length xs) m.rest, one_more);
         done = ap (pairs_noted attr value (in_bucket key (bucket_in width attr value) m.behind)) (notes-one db (count - left) attr value spots new m.one noting within one)
             ∙ ap (λ (xs : Placed). pairs_noted attr value xs spots) (sym m.rest)
             ∙ w.done;
@@ -164,7 +184,7 @@ walk-next db width left count next attr value chains spots new w some held wide 
       omega (arith, at, m.count, first-within (bucket_in width attr value) (map key m.behind), length-map m.behind key),
     )
 
-pub walk-all : (db : Db) (width left : ℕ) (attr value : List ℕ) (spots : List Spot) → Walk db width left attr value spots → left ≡ 0 → spots ≡ spots_with attr value db
-walk-all db width left attr value spots w none =
+pub walk-all : (db : Db) (width left : ℕ) (attr value : List ℕ) (spots : List Spot) (steps most : ℕ) → Walk db width left attr value spots steps most → left ≡ 0 → spots ≡ spots_with attr value db
+walk-all db width left attr value spots steps most w none =
     let nothing : in_bucket (item_bucket width) (bucket_in width attr value) w.rest ≡ [] = none-met (item_bucket width) (bucket_in width attr value) w.rest (sym w.count ∙ none) in
     ap (λ (xs : Placed). pairs_noted attr value xs spots) (sym nothing) ∙ w.done

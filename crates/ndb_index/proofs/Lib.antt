@@ -3,3 +3,4 @@ pub mod Covering
 pub mod Nearby
 pub mod Notes
 pub mod Own
+pub mod Unnamed

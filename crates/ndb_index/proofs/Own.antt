@@ -29,21 +29,6 @@ Kept = List (Prefix × List ℕ)
 
 -- What is noted.
 
--- the map after these places are put by a prefix
-abbrev pub Puts : Prefix → List ℕ → Kept → Kept → Type 0
-Puts p places old new = (q : Prefix) → places_found q new ≡ cond (same_prefix p q) (Some places) (places_found q old)
-
--- one more place by a prefix
-pub put_noted : (p : Prefix) (before : Option (List ℕ)) (after : List ℕ) (place : ℕ) (old new : Kept) → places_found p old ≡ before → after ≡ unwrap_or before [] ++ place ∷ [] → Puts p after old new → (asked : Prefix) → places_kept asked new ≡ place_noted (same_prefix p asked) place (places_kept asked old)
-put_noted p before after place old new had is put asked =
-    ap (λ (o : Option (List ℕ)). unwrap_or o []) (put asked) ∙ at (same_prefix p asked) refl
-  where
-    at : (b : Bool) → same_prefix p asked ≡ b → unwrap_or (cond b (Some after) (places_found asked old)) [] ≡ place_noted b place (places_kept asked old)
-    at true e =
-        is ∙ ap (λ (o : Option (List ℕ)). unwrap_or o [] ++ place ∷ []) (sym had)
-        ∙ ap (λ (q : Prefix). places_kept q old ++ place ∷ []) (one_prefix p asked e)
-    at false e = refl
-
 places_push : (test : List (List NdbPair) → Bool) (number : ℕ) (db : Db) (tuple : List (List NdbPair)) (place : ℕ) → number + length db ≡ place → places_of test number (db ++ tuple ∷ []) ≡ place_noted (test tuple) place (places_of test number db)
 places_push test number [] tuple place at = by (test tuple)
   where

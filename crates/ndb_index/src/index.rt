@@ -39,12 +39,15 @@ impl Model for Index {
     ghost invariant = { λ i. IsIndex i.tuples i.pairs i.networks.entries i.lengths.keys };
 }
 
-/// The places of all networks, and the numbers of bits that they share.
+/// The places of all networks, and the numbers of bits that they share. Where the attribute `ipnet` stands nowhere, no tuple is looked at.
 fn networks_of(alloc: Global, db: &Db) -> Result<(Networks, IndexSet<u32>), AllocError>
     ensures { IfOk result (λ kept. HasPlaces db.now kept.0.entries × HasAllLengths kept.1.keys db.now) }
 {
     let mut networks = IndexMap::new(alloc);
     let mut lengths = IndexSet::new(alloc);
+    if !db.names(b"ipnet") {
+        return Ok((networks, lengths));
+    }
     for place in 0..db.len() {
         let tuple = db.tuple(place);
         networks::add_tuple(alloc, &mut networks, &mut lengths, &tuple, place as u64)?;
@@ -100,7 +103,24 @@ impl Index {
     pub fn spots(&self, alloc: Global, attr: &[u8], value: &[u8]) -> Result<Vec<Spot>, AllocError>
         ensures { IfOk result (λ spots. spots.items ≡ spots_with attr.now value.now self.now) }
     {
-        let spots = spots_found(alloc, &self.tuples, &self.pairs, attr, value)?;
+        self.spots_by::<Brand>(alloc, attr, value, Blank::new(1))
+    }
+
+    /// The same by a counter of its own, of looks at pairs.
+    fn spots_by<P: Ledger>(
+        &self,
+        alloc: Global,
+        attr: &[u8],
+        value: &[u8],
+        blank: Blank,
+    ) -> Result<Vec<Spot>, AllocError>
+        requires name { blank.name ≡ P.name }
+        requires parts { blank.parts ≡ P.parts }
+        requires some { 0 < blank.parts }
+        ensures { IfOk result (λ spots. spots.items ≡ spots_with attr.now value.now self.now) }
+    {
+        let mut steps = Steps::<P>::new(blank);
+        let spots = spots_found(alloc, &self.tuples, &self.pairs, attr, value, &mut steps)?;
         Ok(spots)
     }
 
@@ -114,23 +134,6 @@ impl Index {
         let spots = self.spots(alloc, attr, value)?;
         let places = places_at(alloc, &spots)?;
         Ok(places)
-    }
-
-    /// The places of the tuples that contain the pair, for no step.
-    pub fn search_counted<L: Ledger>(
-        &self,
-        alloc: Global,
-        attr: &[u8],
-        value: &[u8],
-        steps: &mut Steps<L>,
-    ) -> Result<Places, AllocError>
-        ensures places { IfOk result (λ places. places ≡ places_with attr.now value.now self.now) }
-        ensures tuples { IfOk result (λ places. filter_map (slice_get self.now) places
-            ≡ spec.tuples_with attr.now value.now self.now) }
-        ensures found { IfOk result (Finds self.now attr.now value.now) }
-        ensures cost { steps.new ≤ steps.old + 0 }
-    {
-        self.search(alloc, attr, value)
     }
 
     /// The values of an attribute beside the pair, in the tuple at a place that `search` gives, for one step.

@@ -1,25 +1,26 @@
 //! Where each pair of a database stands.
-ghost use Rattle.std.specs.Prelude.{◌≡◌, ◌<◌, length, get_or, IfOk, OnOk};
+ghost use Rattle.std.specs.Prelude.{◌≡◌, ◌+◌, ◌<◌, ◌≤◌, length, get_or, IfOk, OnOk};
 ghost use Rattle.net_base.specs.Ndb.{NdbPair};
 ghost use Rattle.net_base.specs.Search.{is_pair};
 ghost use Rattle.net_base.specs.Spots.{pair_spots};
 ghost use Rattle.net_base.specs.Store.{all_pairs};
 ghost use Rattle.net_base.specs.declared.ndb.spot.Spot.{Spot as Seen};
-ghost use Rattle.ndb_index.specs.Chained.{AreByPair, HasPairs};
+ghost use Rattle.ndb_index.specs.Chained.{alike, looks, AreByPair, HasPairs};
 ghost use Rattle.ndb_index.specs.Kept as spec;
 
 use crate::hasher::bucket_of;
 use ndb_chains::Chains;
-use ndb_reader::Tuples;
+use ndb_reader::{Steps, Tuples};
 use net_base::{Db, Spot};
 use std::alloc::{AllocError, Global};
+use std::sync::ledger::Ledger;
 
-/// All pairs by their buckets, of which there are about half as many.
+/// All pairs by their buckets, of which there are about a quarter as many: a bucket takes memory even where no pair has it.
 pub fn chains_of(alloc: Global, db: &Db) -> Result<Chains, AllocError>
     ensures { IfOk result (AreByPair db.now) }
 {
     let count = db.pair_count();
-    let width = count / 2 + 1;
+    let width = count / 4 + 1;
     let mut chains = Chains::new(alloc, width, count)?;
     for back in 0..count {
         let pair = db.pair(count - 1 - back);
@@ -49,76 +50,85 @@ fn add_spot(spot: Spot, spots: &mut Vec<Spot>) -> Result<(), AllocError>
     Ok(())
 }
 
-/// Adds where the pair with this number stands, if it is the one that is asked for.
-fn add_found(
+/// Adds where the pair with this number stands, if it is the one that is asked for, for one step.
+#[inline(always)]
+fn add_found<P: Ledger>(
     tuples: &Tuples,
     number: usize,
     attr: &[u8],
     value: &[u8],
     spots: &mut Vec<Spot>,
+    steps: &mut Steps<P>,
 ) -> Result<(), AllocError>
     requires { number < length (all_pairs tuples.now) }
-    ensures { OnOk result ((p : NdbPair) (s : Seen) → spots.new.items
+    ensures noted { OnOk result ((p : NdbPair) (s : Seen) → spots.new.items
         ≡ spec.noted (is_pair attr.now value.now (get_or (all_pairs tuples.now) number p))
         (get_or (pair_spots tuples.now) number s) spots.old.items) }
+    ensures cost { steps.new ≡ steps.old + 1 }
 {
-    if !tuples.pair(number).is(attr, value) {
+    if !tuples.pair(number, steps).is(attr, value) {
         return Ok(());
     }
     add_spot(tuples.spot(number), spots)?;
     Ok(())
 }
 
-/// The spots of a pair by chains. Pairs with its bucket are compared in the database itself.
-fn spots_of(
+/// The spots of a pair by chains, for a step for each pair with its bucket: these are compared in the database itself.
+fn spots_of<P: Ledger>(
     alloc: Global,
     tuples: &Tuples,
     chains: &Chains,
     attr: &[u8],
     value: &[u8],
+    steps: &mut Steps<P>,
 ) -> Result<Vec<Spot>, AllocError>
     requires { AreByPair tuples.now chains.now }
-    ensures { IfOk result (λ spots. spots.items ≡ spec.spots_with attr.now value.now tuples.now) }
+    ensures spots { IfOk result (λ spots. spots.items ≡ spec.spots_with attr.now value.now tuples.now) }
+    ensures cost { steps.new ≤ steps.old + alike attr.now value.now tuples.now }
 {
     let count = tuples.pair_count();
     let mut spots = Vec::new(alloc);
     let mut left = chains.first(bucket_of(chains.width(), attr, value));
     while left != 0 {
-        add_found(tuples, count - left, attr, value, &mut spots)?;
+        add_found(tuples, count - left, attr, value, &mut spots, steps)?;
         left = chains.next(left);
     }
     Ok(spots)
 }
 
-/// The same by one pass over all pairs.
-pub fn spots_scanned(
+/// The same by one pass over all pairs, for a step for each.
+pub fn spots_scanned<P: Ledger>(
     alloc: Global,
     tuples: &Tuples,
     attr: &[u8],
     value: &[u8],
+    steps: &mut Steps<P>,
 ) -> Result<Vec<Spot>, AllocError>
-    ensures { IfOk result (λ spots. spots.items ≡ spec.spots_with attr.now value.now tuples.now) }
+    ensures spots { IfOk result (λ spots. spots.items ≡ spec.spots_with attr.now value.now tuples.now) }
+    ensures cost { steps.new ≤ steps.old + length (all_pairs tuples.now) }
 {
     let mut spots = Vec::new(alloc);
     for number in 0..tuples.pair_count() {
-        add_found(tuples, number, attr, value, &mut spots)?;
+        add_found(tuples, number, attr, value, &mut spots, steps)?;
     }
     Ok(spots)
 }
 
 /// The spots of a pair: by chains, or where there are none by one pass over all pairs.
-pub fn spots_found(
+pub fn spots_found<P: Ledger>(
     alloc: Global,
     tuples: &Tuples,
     chains: &Option<Chains>,
     attr: &[u8],
     value: &[u8],
+    steps: &mut Steps<P>,
 ) -> Result<Vec<Spot>, AllocError>
     requires { HasPairs tuples.now chains.now }
-    ensures { IfOk result (λ spots. spots.items ≡ spec.spots_with attr.now value.now tuples.now) }
+    ensures spots { IfOk result (λ spots. spots.items ≡ spec.spots_with attr.now value.now tuples.now) }
+    ensures cost { steps.new ≤ steps.old + looks attr.now value.now tuples.now chains.now }
 {
     match chains {
-        Some(chains) => spots_of(alloc, tuples, chains, attr, value),
-        None => spots_scanned(alloc, tuples, attr, value),
+        Some(chains) => spots_of(alloc, tuples, chains, attr, value, steps),
+        None => spots_scanned(alloc, tuples, attr, value, steps),
     }
 }

@@ -12,6 +12,7 @@ use Rattle.net_base.specs.Store.{Grown, with_tuples, empty}
 use Rattle.ndb_chains.specs.declared.chains.Chains.{Chains}
 use Rattle.ndb_chains.specs.Chains.{first_in, width_of, AreChains}
 use Rattle.ndb_chains.proofs.Walks.{in_bucket, Met, met, none-met}
+use Rattle.ndb_reader.specs.Filed.{tuples_of}
 use Rattle.ndb_reader.specs.Names.{names_seen, bucket_in, AreByName}
 use Rattle.ndb_reader.proofs.Once.{is_one, turned, itself}
 
@@ -33,9 +34,6 @@ module _ {Z : Type 0} where
       at_or : (at : ℕ) (b : Bool) → nat_lt at (length keys) ≡ b → at ≤ length keys → unwrap_or (cond b (Some at) None) (length keys) ≡ at
       at_or at true e le = refl
       at_or at false e le = grind (arith, nat_tests, le, e)
-
-pub bucket-within : (names : List (List ℕ)) (name : List ℕ) → bucket_in names name < length names + 1
-bucket-within names name = omega (arith, prefix_len-le-length (λ other. not (bytes_eq name other)) names)
 
 next-same : (a b : ℕ) → (1 + a == 1 + b) ≡ (a == b)
 next-same a b = by (a == b) refl
@@ -70,9 +68,6 @@ filter-alike p q alike (f ∷ files) =
 
 abbrev pub number_of : List (List ℕ) → File → ℕ
 number_of names file = bucket_in names file.name
-
-abbrev pub tuples_of : List File → Tuples
-tuples_of files = flat_map (λ (file : File). file.tuples) files
 
 bucket-named : (names : List (List ℕ)) (name : List ℕ) (files : List File) → list_any (bytes_eq name) names ≡ true → tuples_of (in_bucket (number_of names) (bucket_in names name) files) ≡ tuples_named files name
 bucket-named names name files among =
@@ -223,8 +218,3 @@ module _ {Z : Type 0} where
       flat-push : (ns : List (List ℕ)) (a : List ℕ) → flat_map (tuples_named files) (ns ++ a ∷ []) ≡ flat_map (tuples_named files) ns ++ tuples_named files a
       flat-push [] a = append-nil (tuples_named files a)
       flat-push (m ∷ ns) a = ap (λ (ts : Tuples). tuples_named files m ++ ts) (flat-push ns a) ∙ sym (append_assoc (tuples_named files m) (flat_map (tuples_named files) ns) (tuples_named files a))
-
-  pub gathered-all : (files : List File) (keys items : List (Vec ℕ Z)) (n : ℕ) (out : Grown) → items ≡ keys → length items ≤ n → out ≡ gathered files items n → out ≡ gathered files keys (length keys)
-  gathered-all files keys items n out is all eo =
-      eo
-      ∙ ap (λ (ks : List (Vec ℕ Z)). with_tuples (flat_map (tuples_named files) (names_seen ks)) empty) (take_all n items all ∙ is ∙ sym (take_all (length keys) keys (omega arith)))

@@ -50,15 +50,6 @@ files_on line = values_on (codes "file") line
 abbrev pub OnLine : Names → List NdbPair → ℕ → Names → Type 0
 OnLine first line n names = with_names first (files_on line) ≡ with_names names (files_on (drop n line))
 
--- the names with those that one pair gives
-pub one-yes : (names new : Names) (pair : NdbPair) (value : List ℕ) → has_attr (codes "file") pair ≡ true → value ≡ pair.value → new ≡ with_name names value → new ≡ with_names names (files_on (pair ∷ []))
-one-yes names new pair value file ev en =
-    en ∙ ap (with_name names) ev
-    ∙ sym (ap (λ (b : Bool). with_names names (map (λ (p : NdbPair). p.value) (cond b (pair ∷ []) []))) file)
-
-pub one-no : (names : Names) (pair : NdbPair) → has_attr (codes "file") pair ≡ false → names ≡ with_names names (files_on (pair ∷ []))
-one-no names pair file = sym (ap (λ (b : Bool). with_names names (map (λ (p : NdbPair). p.value) (cond b (pair ∷ []) []))) file)
-
 front-on : (pair : NdbPair) (rest : List NdbPair) → files_on (pair ∷ rest) ≡ files_on (pair ∷ []) ++ files_on rest
 front-on pair rest = by (has_attr (codes "file") pair)
   where

@@ -170,7 +170,3 @@ name-filed ends names new name g f rise is so =
 pub name-rise : (ends : List FileEnd) (names new name : List ℕ) (count : ℕ) → FilesRise 0 0 ends (length names) count → new ≡ names ++ name → FilesRise 0 0 ends (length new) count
 name-rise ends names new name count rise is =
     rise-grown 0 0 ends (length names) count (length new) count (omega (arith, ap length is, length-append names name)) (omega arith) rise
-
--- all files
-pub all-filed : (f : Filed) (files : List File) → files ≡ (file_begun [] (last_ended f)).closed → files ≡ f.closed ++ file_grown f ∷ []
-all-filed f files is = is ∙ ap (λ (ts : Tuples). f.closed ++ record { name = f.name; tuples = ts } ∷ []) (append-nil (f.whole ++ tuple_of f.last))

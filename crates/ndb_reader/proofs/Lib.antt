@@ -13,3 +13,4 @@ pub mod Turns
 pub mod Lined
 pub mod Breaks
 pub mod Choosing
+pub mod InRow

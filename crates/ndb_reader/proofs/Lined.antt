@@ -19,11 +19,6 @@ nothing (p ∷ pairs) none =
 push-first : (pairs : List NdbPair) (pair : NdbPair) → pairs ≡ [] → pair_text pair ≡ line_text (pairs ++ pair ∷ [])
 push-first pairs pair none = sym (append-nil (pair_text pair)) ∙ ap (λ (ps : List NdbPair). line_text (ps ++ pair ∷ [])) (sym none)
 
-pub next-first : (out new : List ℕ) (pairs : List NdbPair) (pair : NdbPair) → out ≡ line_text pairs → length out ≡ 0 → new ≡ out ++ pair_text pair → new ≡ line_text (pairs ++ pair ∷ [])
-next-first out new pairs pair is none en =
-    let empty : pairs ≡ [] = nothing pairs (sym (ap (λ (text : List ℕ). length text) is) ∙ none) in
-    en ∙ ap (λ (text : List ℕ). text ++ pair_text pair) (is ∙ ap line_text empty) ∙ push-first pairs pair empty
-
 pub next-more : (out blank new : List ℕ) (pairs : List NdbPair) (pair : NdbPair) → out ≡ line_text pairs → (length out ≡ 0 → ⊥) → blank ≡ out ++ codes " " → new ≡ blank ++ pair_text pair → new ≡ line_text (pairs ++ pair ∷ [])
 next-more out blank new [] pair is some eb en = absurd (some (ap (λ (text : List ℕ). length text) is))
 next-more out blank new (p ∷ pairs) pair is some eb en =
@@ -37,17 +32,11 @@ next-more out blank new (p ∷ pairs) pair is some eb en =
 abbrev pub Put : List ℕ → List NdbPair → ℕ → List ℕ → Type 0
 Put first line n out = (pairs : List NdbPair) → first ≡ line_text pairs → out ≡ line_text (pairs ++ take n line)
 
-pub put-none : (first : List ℕ) (line : List NdbPair) → Put first line 0 first
-put-none first line pairs is = is ∙ ap line_text (sym (append-nil pairs))
-
 pub put-next : (first : List ℕ) (line : List NdbPair) (n : ℕ) (pair : NdbPair) (out new : List ℕ) → n < length line → pair ≡ get_or line n pair
     → ((pairs : List NdbPair) → out ≡ line_text pairs → new ≡ line_text (pairs ++ pair ∷ [])) → Put first line n out → Put first line (n + 1) new
 put-next first line n pair out new h here step put pairs is =
     step (pairs ++ take n line) (put pairs is)
     ∙ ap line_text (append_assoc pairs (take n line) (pair ∷ []) ∙ ap (λ (p : NdbPair). pairs ++ (take n line ++ p ∷ [])) here ∙ ap (λ (ps : List NdbPair). pairs ++ ps) (sym (take_more line n pair h)))
-
-pub put-all : (first : List ℕ) (line : List NdbPair) (n : ℕ) (out : List ℕ) → length line ≤ n → Put first line n out → (pairs : List NdbPair) → first ≡ line_text pairs → out ≡ line_text (pairs ++ line)
-put-all first line n out all put pairs is = put pairs is ∙ ap (λ (ps : List NdbPair). line_text (pairs ++ ps)) (take_all n line all)
 
 -- The lines of a file.
 

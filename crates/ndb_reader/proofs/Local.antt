@@ -1,9 +1,9 @@
 -- What the first file of a bundle chooses.
-use Rattle.std.proofs.Common.{◌≡◌, ℕ, ◌<◌, ◌-◌, List, [], ◌∷◌, length, take, get_or, Vec, refl, sym, ap, ◌∙◌, arith}
+use Rattle.std.proofs.Common.{◌≡◌, ℕ, ◌<◌, ◌-◌, List, [], ◌∷◌, length, take, get_or, Vec, refl, sym, ap, ◌∙◌, arith, append-nil}
 use Rattle.std.specs.List.{flat_map}
 use Rattle.net_base.specs.NdbBundle.{File, tuples_named, tuples_chosen, names_of, choosing, chosen}
 use Rattle.ndb_reader.specs.declared.files.FileEnd.{FileEnd}
-use Rattle.ndb_reader.specs.Filed.{files_in}
+use Rattle.ndb_reader.specs.Filed.{files_in, tuples_of}
 use Rattle.ndb_reader.specs.Names.{names_seen}
 use Rattle.ndb_reader.proofs.Filing.{Tuples}
 
@@ -23,9 +23,9 @@ choosing-same ends names db seen end local others some is files named = ap (λ (
 
 -- no name is given
 pub own-chosen : (ends : List FileEnd) (names : List ℕ) (db own : Tuples) (seen : List (List ℕ)) (end : FileEnd) (local : File) (others : List File) → 0 < length ends → end ≡ get_or ends 0 end → files_in 0 0 ends names db ≡ local ∷ others
-    → seen ≡ names_of (choosing (take end.tuple db)) → seen ≡ [] → own ≡ take end.tuple db → own ≡ chosen local others
+    → seen ≡ names_of (choosing (take end.tuple db)) → seen ≡ [] → own ≡ tuples_of (take 1 (files_in 0 0 ends names db)) → own ≡ chosen local others
 own-chosen ends names db own seen end local others some is files named none own_is =
-    own_is ∙ sym (local-tuples ends names db end local others some is files)
+    own_is ∙ ap (λ (fs : List File). tuples_of (take 1 fs)) files ∙ append-nil local.tuples
     ∙ sym (ap (tuples_chosen local others) (choosing-same ends names db seen end local others some is files named ∙ none))
 
 -- some names are given

@@ -1,5 +1,5 @@
 -- The files of a bundle in one row of tuples and one row of names, each known by where it ends.
-use Rattle.std.specs.Prelude.{ℕ, zero, suc, ◌≤◌, List, [], ◌∷◌, ◌++◌, length, drop, slice_range}
+use Rattle.std.specs.Prelude.{ℕ, zero, suc, ◌≤◌, List, [], ◌∷◌, ◌++◌, length, drop, flat_map, slice_range}
 use Rattle.net_base.specs.Ndb.{NdbPair}
 use Rattle.net_base.specs.NdbBundle.{File}
 use Rattle.net_base.specs.Store.{Grown}
@@ -91,6 +91,10 @@ file_grown f = record { name = f.name; tuples = f.whole ++ tuple_of f.last }
 -- with a file of this name that grows
 abbrev pub file_begun : List ℕ → Filed → Filed
 file_begun name f = record { closed = f.closed ++ file_grown f ∷ []; name = name; whole = []; last = []; pairs = f.pairs }
+
+-- the tuples of files in a row
+abbrev pub tuples_of : List File → List (List (List NdbPair))
+tuples_of files = flat_map (λ file. file.tuples) files
 
 -- all files of a bundle
 abbrev pub files_of : Bundle → List File

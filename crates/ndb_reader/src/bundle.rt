@@ -1,8 +1,8 @@
 //! The files of a bundle, of which some are chosen.
-ghost use Rattle.std.specs.Prelude.{◌≡◌, ◌≤◌, ◌<◌, ◌∷◌, ◌++◌, [], length, get_or, slice_range, OnOk, IfOk};
+ghost use Rattle.std.specs.Prelude.{◌≡◌, ◌≤◌, ◌<◌, ◌∷◌, ◌++◌, [], length, take, get_or, slice_range, OnOk, IfOk};
 ghost use Rattle.net_base.specs.NdbBundle.{File};
 ghost use Rattle.net_base.specs.Store.{with_tuples};
-ghost use Rattle.ndb_reader.specs.Filed.{files_of, name_at, tuple_at, AreBundled};
+ghost use Rattle.ndb_reader.specs.Filed.{files_of, tuples_of, name_at, tuple_at, AreBundled};
 
 use crate::copy::add_tuples;
 use crate::files::FileEnd;
@@ -46,6 +46,21 @@ impl Bundle {
         let first = tuple_begin(&self.ends, number);
         add_tuples(&self.db, first, self.ends[number].tuple as usize, out)?;
         Ok(())
+    }
+
+    /// The tuples of the files from a number to another. It copies nothing and takes no memory.
+    pub(crate) fn into_row(self, first: usize, end: usize) -> Db
+        requires sound { AreBundled self }
+        requires rise { first ≤ end }
+        requires within { end ≤ length (files_of self) }
+        ensures { tuples_of (take first (files_of self)) ++ result ≡ tuples_of (take end (files_of self)) }
+    {
+        let from = tuple_begin(&self.ends, first);
+        let to = tuple_begin(&self.ends, end);
+        let Bundle { db, .. } = self;
+        let mut db = db;
+        db.keep(from, to);
+        db
     }
 }
 

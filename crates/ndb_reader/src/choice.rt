@@ -1,14 +1,13 @@
 //! The choice of a bundle's files.
-ghost use Rattle.std.specs.Prelude.{◌≡◌, ◌≤◌, ◌<◌, ◌∷◌, ◌+◌, [], List, Some, None, true, length, take, flat_map, get_or, codes, bytes_eq, MatchOption, IfOk, OnOk};
+ghost use Rattle.std.specs.Prelude.{◌≡◌, ◌≤◌, ◌<◌, ◌∷◌, ◌++◌, ◌+◌, [], List, Some, None, true, length, take, flat_map, get_or, codes, bytes_eq, MatchOption, IfOk, OnOk, IfSome};
 ghost use Rattle.net_base.specs.NdbBundle as spec;
 ghost use Rattle.net_base.specs.Search.{has_attr, values_in, values_on};
 ghost use Rattle.net_base.specs.Store.{all_pairs, with_tuples};
 ghost use Rattle.std.specs.List.{list_any};
-ghost use Rattle.ndb_reader.specs.Filed.{files_of, AreBundled};
+ghost use Rattle.ndb_reader.specs.Filed.{files_of, tuples_of, AreBundled};
 ghost use Rattle.ndb_reader.specs.Names.{with_name, with_names, names_seen, bucket_in, AreByName};
 
 use crate::bundle::Bundle;
-use crate::copy::add_tuples;
 use indexmap::IndexSet;
 use ndb_chains::Chains;
 use net_base::{Db, Growing, Line, NdbPair, Tuple};
@@ -148,30 +147,99 @@ fn add_named(
     Ok(())
 }
 
-/// The tuples of all files with these names.
-fn all_named(alloc: Global, bundle: &Bundle, names: &IndexSet<Vec<u8>>) -> Result<Db, AllocError>
-    requires { AreBundled bundle.now }
+/// Where the files with one of the names end, if they stand in a row from this one on.
+fn row_of(
+    bundle: &Bundle,
+    names: &IndexSet<Vec<u8>>,
+    chains: &Chains,
+    name: &[u8],
+    first: usize,
+) -> Option<usize>
+    requires files { AreByName (names_seen names.now.keys) (files_of bundle.now) chains.now }
+    requires one { list_any (bytes_eq name.now) (names_seen names.now.keys) ≡ true }
+    requires within { first ≤ length (files_of bundle.now) }
+    ensures tuples { IfSome result (λ end. tuples_of (take end (files_of bundle.now))
+        ≡ tuples_of (take first (files_of bundle.now)) ++ spec.tuples_named (files_of bundle.now) name.now) }
+    ensures rise { IfSome result (λ end. first ≤ end) }
+    ensures within { IfSome result (λ end. end ≤ length (files_of bundle.now)) }
+{
+    let count = bundle.len();
+    let mut end = first;
+    let mut left = chains.first(bucket_of(names, name));
+    while left != 0 {
+        if count - left != end {
+            return None;
+        }
+        end += 1;
+        left = chains.next(left);
+    }
+    Some(end)
+}
+
+/// The number of the first file that has any of the names.
+fn first_of(bundle: &Bundle, names: &IndexSet<Vec<u8>>, chains: &Chains) -> usize
+    requires { AreByName (names_seen names.now.keys) (files_of bundle.now) chains.now }
+    ensures { result ≤ length (files_of bundle.now) }
+{
+    let mut most: usize = 0;
+    for name in names.as_slice() {
+        most = most.max(chains.first(bucket_of(names, name)));
+    }
+    bundle.len().saturating_sub(most)
+}
+
+/// Where the files with these names end, if they stand in a row from this one on, in the order of the names.
+fn rows_of(
+    bundle: &Bundle,
+    names: &IndexSet<Vec<u8>>,
+    chains: &Chains,
+    first: usize,
+) -> Option<usize>
+    requires files { AreByName (names_seen names.now.keys) (files_of bundle.now) chains.now }
+    requires within { first ≤ length (files_of bundle.now) }
+    ensures tuples { IfSome result (λ end. tuples_of (take end (files_of bundle.now))
+        ≡ tuples_of (take first (files_of bundle.now)) ++ flat_map (spec.tuples_named (files_of bundle.now)) (names_seen names.now.keys)) }
+    ensures rise { IfSome result (λ end. first ≤ end) }
+    ensures within { IfSome result (λ end. end ≤ length (files_of bundle.now)) }
+{
+    let mut end = first;
+    for name in names.as_slice() {
+        end = row_of(bundle, names, chains, name, end)?;
+    }
+    Some(end)
+}
+
+/// Copies of the tuples of all files with these names.
+fn copies_of(
+    alloc: Global,
+    bundle: &Bundle,
+    names: &IndexSet<Vec<u8>>,
+    chains: &Chains,
+) -> Result<Db, AllocError>
+    requires sound { AreBundled bundle.now }
+    requires files { AreByName (names_seen names.now.keys) (files_of bundle.now) chains.now }
     ensures { IfOk result (λ db. db ≡ flat_map (spec.tuples_named (files_of bundle.now)) (names_seen names.now.keys)) }
 {
-    let chains = chains_of(alloc, bundle, names)?;
     let mut out = Growing::new(alloc);
     for name in names.as_slice() {
-        add_named(bundle, names, &chains, name, &mut out)?;
+        add_named(bundle, names, chains, name, &mut out)?;
     }
     Ok(out.finish())
 }
 
-/// The first tuples of a database, so many.
-fn first_of(alloc: Global, db: Db, end: usize) -> Result<Db, AllocError>
-    requires { end ≤ length db }
-    ensures { IfOk result (λ first. first ≡ take end db) }
+/// The tuples of all files with these names. Where they stand in a row, in the order of the names, nothing is copied.
+#[tactic(auto, using(crate::proofs::InRow::row_found))]
+fn all_named(alloc: Global, bundle: Bundle, names: &IndexSet<Vec<u8>>) -> Result<Db, AllocError>
+    requires { AreBundled bundle }
+    ensures { IfOk result (λ db. db ≡ flat_map (spec.tuples_named (files_of bundle)) (names_seen names.now.keys)) }
 {
-    if end == db.len() {
-        return Ok(db);
+    let chains = chains_of(alloc, &bundle, names)?;
+    let first = first_of(&bundle, names, &chains);
+    if let Some(end) = rows_of(&bundle, names, &chains, first) {
+        return Ok(bundle.into_row(first, end));
     }
-    let mut out = Growing::new(alloc);
-    add_tuples(&db, 0, end, &mut out)?;
-    Ok(out.finish())
+    let db = copies_of(alloc, &bundle, names, &chains)?;
+    Ok(db)
 }
 
 /// The tuples of the files that the first one chooses, or its own.
@@ -184,10 +252,8 @@ pub(crate) fn choose(alloc: Global, bundle: Bundle) -> Result<Db, AllocError>
     let end = bundle.ends[0].tuple as usize;
     let names = names_of(alloc, &bundle.db, end)?;
     if names.len() == 0 {
-        let Bundle { db, .. } = bundle;
-        let first = first_of(alloc, db, end)?;
-        return Ok(first);
+        return Ok(bundle.into_row(0, 1));
     }
-    let db = all_named(alloc, &bundle, &names)?;
+    let db = all_named(alloc, bundle, &names)?;
     Ok(db)
 }

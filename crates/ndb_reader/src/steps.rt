@@ -1,10 +1,10 @@
-//! A counter of looks at tuples.
+//! A counter of looks at tuples, or at pairs.
 ghost use Rattle.std.specs.Prelude.{◌≡◌, ◌+◌, ◌<◌};
 
 use std::marker::Model;
 use std::sync::ledger::{Blank, Book, Ledger, Share};
 
-/// How many tuples were looked at. It takes no bytes, and only `Tuples::at` changes it.
+/// How many tuples were looked at, or how many pairs. It takes no bytes, and only `Tuples::at` and `Tuples::pair` change it.
 #[derive(Drop)]
 pub struct Steps<L: Ledger> {
     book: Book<L>,
@@ -34,6 +34,7 @@ impl<L: Ledger> Steps<L> {
     }
 
     /// Counts one step.
+    #[inline(always)]
     pub(crate) fn tick(&mut self)
         ensures { self.new ≡ self.old + 1 }
     {

@@ -10,7 +10,7 @@ use net_base::{Db, NdbPair, Spot, Tuple};
 use std::marker::Model;
 use std::sync::ledger::Ledger;
 
-/// The tuples of a database, which contracts see as a list. The only way to one costs a step; a pair alone costs none.
+/// The tuples of a database, which contracts see as a list. The only way to one costs a step, and the only way to a pair alone a step of its own kind.
 #[derive(Drop)]
 pub struct Tuples {
     tuples: Db,
@@ -51,17 +51,21 @@ impl Tuples {
     }
 
     /// How many pairs all tuples have together.
+    #[inline(always)]
     pub fn pair_count(&self) -> usize
         ensures { result ≡ length (all_pairs self.now) }
     {
         self.tuples.pair_count()
     }
 
-    /// The pair with this number, where all pairs are counted in a row. It looks at no tuple.
-    pub fn pair(&self, number: usize) -> NdbPair<'_>
+    /// The pair with this number, where all pairs are counted in a row, for one step. It looks at no tuple.
+    #[inline(always)]
+    pub fn pair<P: Ledger>(&self, number: usize, steps: &mut Steps<P>) -> NdbPair<'_>
         requires { number < length (all_pairs self.now) }
-        ensures { (d : NdbPair) → result ≡ get_or (all_pairs self.now) number d }
+        ensures pair { (d : NdbPair) → result ≡ get_or (all_pairs self.now) number d }
+        ensures cost { steps.new ≡ steps.old + 1 }
     {
+        steps.tick();
         self.tuples.pair(number)
     }
 

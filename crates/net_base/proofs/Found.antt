@@ -36,7 +36,7 @@ line_found r first end number within h =
 pub line_within : (r : Runs) (first end number : ℕ) → AreSound r → end ≤ length r.lines.items → number < end - first → (start_at 0 r.lines.items (first + number) ≤ get_or r.lines.items (first + number) 0) × (get_or r.lines.items (first + number) 0 ≤ length r.pairs.items)
 line_within r first end number sound within h = rise-at 0 r.lines.items (length r.pairs.items) (first + number) sound.lines (omega (arith, within, h))
 
-last-is : (start : ℕ) (ends : List ℕ) → start_at start ends (length ends) ≡ last_end start ends
+pub last-is : (start : ℕ) (ends : List ℕ) → start_at start ends (length ends) ≡ last_end start ends
 last-is start [] = refl
 last-is start (end ∷ ends) = last-is end ends
 

@@ -7,4 +7,5 @@ pub mod Among
 pub mod Spots
 pub mod Laid
 pub mod Texts
-pub mod Alike
+pub mod Kept
+pub mod Skipped

@@ -36,7 +36,7 @@ pair-is start bytes attr value e =
     ∙ ap (λ (a : List ℕ). pair_of a (slice_range (bytes ++ (attr ++ value)) (length bytes + length attr) (length bytes + length attr + length value))) (attr-is bytes attr value)
     ∙ ap (pair_of attr) (value-is bytes attr value)
 
-pair-more : (start : ℕ) (mark : Mark) (bytes more : List ℕ) → start ≤ mark.attr → mark.attr ≤ mark.value → mark.value ≤ length bytes → pair_between start mark (bytes ++ more) ≡ pair_between start mark bytes
+pub pair-more : (start : ℕ) (mark : Mark) (bytes more : List ℕ) → start ≤ mark.attr → mark.attr ≤ mark.value → mark.value ≤ length bytes → pair_between start mark (bytes ++ more) ≡ pair_between start mark bytes
 pair-more start mark bytes more first second within =
     ap (λ (a : List ℕ). pair_of a (slice_range (bytes ++ more) mark.attr mark.value)) (slice-more bytes more start mark.attr first (omega (arith, second, within)))
     ∙ ap (pair_of (slice_range bytes start mark.attr)) (slice-more bytes more mark.attr mark.value second within)

@@ -1,5 +1,5 @@
 -- Lists that stand one behind the other in one list, each known by where it ends.
-use Rattle.std.specs.Prelude.{ℕ, zero, suc, ◌≤◌, List, [], ◌∷◌, slice_range}
+use Rattle.std.specs.Prelude.{ℕ, zero, suc, ◌≤◌, ◌-◌, List, [], ◌∷◌, map, slice_range}
 
 -- where the last of these lists ends, the first of which begins here
 abbrev pub last_end : ℕ → List ℕ → ℕ
@@ -21,3 +21,7 @@ parts start (end ∷ ends) items = slice_range items start end ∷ parts end end
 abbrev pub Rise : ℕ → List ℕ → ℕ → Type 0
 Rise start [] count = start ≤ count
 Rise start (end ∷ ends) count = (start ≤ end) × Rise end ends count
+
+-- the ends where so many elements in front are gone
+abbrev pub lowered : ℕ → List ℕ → List ℕ
+lowered count ends = map (λ end. end - count) ends

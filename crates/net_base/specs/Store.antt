@@ -1,5 +1,5 @@
 -- A database in one run of bytes, in which pairs stand one behind the other, each value right behind its attribute.
-use Rattle.std.specs.Prelude.{◌≡◌, ℕ, zero, suc, ◌≤◌, List, [], ◌∷◌, ◌++◌, length, drop, flat_map, slice_range}
+use Rattle.std.specs.Prelude.{◌≡◌, ℕ, zero, suc, ◌≤◌, ◌-◌, List, [], ◌∷◌, ◌++◌, length, drop, map, flat_map, slice_range}
 use Rattle.net_base.specs.Ndb.{NdbPair}
 use Rattle.net_base.specs.declared.ndb.runs.Mark.{Mark}
 use Rattle.net_base.specs.declared.ndb.runs.Runs.{Runs}
@@ -33,6 +33,13 @@ value_at start (mark ∷ marks) (suc i) = value_at mark.value marks i
 abbrev pub MarksRise : ℕ → List Mark → ℕ → Type 0
 MarksRise start [] count = start ≡ count
 MarksRise start (mark ∷ marks) count = (start ≤ mark.attr) × (mark.attr ≤ mark.value) × MarksRise mark.value marks count
+
+-- the marks where so many bytes in front are gone
+abbrev pub mark_lowered : ℕ → Mark → Mark
+mark_lowered count mark = record { attr = mark.attr - count; value = mark.value - count }
+
+abbrev pub marks_lowered : ℕ → List Mark → List Mark
+marks_lowered count marks = map (mark_lowered count) marks
 
 -- all pairs of the runs
 abbrev pub pairs_in : Runs → List NdbPair

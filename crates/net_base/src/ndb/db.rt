@@ -1,5 +1,5 @@
 //! A database in one piece.
-ghost use Rattle.std.specs.Prelude.{◌≡◌, ◌<◌, [], length, flat_map, get_or};
+ghost use Rattle.std.specs.Prelude.{◌≡◌, ◌<◌, [], length, slice_range, get_or, ◌≤◌};
 ghost use Rattle.std.specs.List.{list_any};
 ghost use Rattle.net_base.specs.Ndb.{NdbPair};
 ghost use Rattle.net_base.specs.Search as spec;
@@ -63,8 +63,19 @@ impl Db {
         }
     }
 
+    /// Keeps the tuples from a place to another. It takes no memory.
+    #[tactic(auto, using(crate::proofs::Found::tuples_len))]
+    pub fn keep(&mut self, first: usize, end: usize)
+        requires rise { first ≤ end }
+        requires within { end ≤ length self.old }
+        ensures { self.new ≡ slice_range self.old first end }
+    {
+        self.runs.keep(first, end);
+    }
+
     /// How many pairs all tuples have together.
     #[tactic(auto, using(crate::proofs::Flat::all_count))]
+    #[inline(always)]
     pub fn pair_count(&self) -> usize
         ensures { result ≡ length (all_pairs self.now) }
     {
@@ -73,6 +84,7 @@ impl Db {
 
     /// The pair with this number, where all pairs are counted in a row.
     #[tactic(auto, using(crate::proofs::Flat::all_within, crate::proofs::Flat::all_at))]
+    #[inline(always)]
     pub fn pair(&self, number: usize) -> NdbPair<'_>
         requires { number < length (all_pairs self.now) }
         ensures { (d : NdbPair) → result ≡ get_or (all_pairs self.now) number d }

@@ -31,6 +31,7 @@ impl<'a> Model for Line<'a> {
 impl<'a> Line<'a> {
     /// How many pairs it has.
     #[tactic(auto, using(crate::proofs::Found::line_len))]
+    #[inline(always)]
     pub fn len(&self) -> usize
         ensures { result ≡ length self.now }
     {
@@ -38,6 +39,7 @@ impl<'a> Line<'a> {
     }
 
     /// The pair with this number, from 0.
+    #[inline(always)]
     pub fn pair(&self, number: usize) -> NdbPair<'a>
         requires { number < length self.now }
         ensures { (d : NdbPair) → result ≡ get_or self.now number d }

@@ -22,6 +22,7 @@ impl<'a> Model for NdbPair<'a> {
 
 impl<'a> NdbPair<'a> {
     /// The pair of these texts.
+    #[inline(always)]
     pub fn new(attr: &'a [u8], value: &'a [u8]) -> NdbPair<'a>
         ensures { result ≡ pair_of attr.now value.now }
     {
@@ -29,6 +30,7 @@ impl<'a> NdbPair<'a> {
     }
 
     /// Its attribute.
+    #[inline(always)]
     pub fn attr(&self) -> &'a [u8]
         ensures { result.now ≡ self.now.attr }
     {
@@ -36,6 +38,7 @@ impl<'a> NdbPair<'a> {
     }
 
     /// Its value.
+    #[inline(always)]
     pub fn value(&self) -> &'a [u8]
         ensures { result.now ≡ self.now.value }
     {
@@ -43,16 +46,18 @@ impl<'a> NdbPair<'a> {
     }
 
     /// Whether it has this attribute. Most attributes differ in length.
+    #[inline(always)]
     pub fn has_attr(&self, attr: &[u8]) -> bool
         ensures { result ≡ spec.has_attr attr.now self.now }
     {
         self.attr.len() == attr.len() && self.attr == attr
     }
 
-    /// Whether it has this attribute and this value, each byte for byte.
+    /// Whether it has this attribute and this value, each byte for byte. Most values differ in length.
+    #[inline(always)]
     pub fn is(&self, attr: &[u8], value: &[u8]) -> bool
         ensures { result ≡ spec.is_pair attr.now value.now self.now }
     {
-        self.attr == attr && self.value == value
+        self.value.len() == value.len() && self.has_attr(attr) && self.value == value
     }
 }

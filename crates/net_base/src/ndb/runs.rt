@@ -1,9 +1,9 @@
 //! The run of bytes and the runs of places.
-ghost use Rattle.std.specs.Prelude.{◌≡◌, ◌≤◌, ◌<◌, ◌+◌, ℕ, ◌∷◌, ◌++◌, [], length, take, get_or, IfOk, OnOk, OnErr};
+ghost use Rattle.std.specs.Prelude.{◌≡◌, ◌≤◌, ◌<◌, ◌+◌, ◌-◌, ℕ, slice_set, true, ◌∷◌, ◌++◌, [], length, take, drop, slice_range, get_or, IfOk, OnOk, OnErr};
 ghost use Rattle.net_base.specs.declared.ndb.spot.Spot.{Spot as Seen};
 ghost use Rattle.net_base.specs.Spots.{pair_spots, Owns};
-ghost use Rattle.net_base.specs.Parts.{start_at, last_end, Rise};
-ghost use Rattle.net_base.specs.Store.{pair_of, grown, with_pair, line_ended, tuple_ended, pairs_in, tuples_in, value_at, AreSound, AreWhole};
+ghost use Rattle.net_base.specs.Parts.{start_at, last_end, lowered, Rise};
+ghost use Rattle.net_base.specs.Store.{pair_of, grown, with_pair, line_ended, tuple_ended, pairs_in, tuples_in, value_at, last_value, mark_lowered, marks_lowered, AreSound, AreWhole};
 ghost use Rattle.net_base.specs.Ndb.{NdbPair};
 
 use crate::ndb::pair::NdbPair;
@@ -15,6 +15,18 @@ use std::alloc::{AllocError, Global};
 pub(crate) struct Mark {
     pub(crate) attr: u32,
     pub(crate) value: u32,
+}
+
+impl Mark {
+    /// The mark where so many bytes in front are gone.
+    fn lowered(self, count: usize) -> Mark
+        ensures { result ≡ mark_lowered count self }
+    {
+        Mark {
+            attr: (self.attr as usize).saturating_sub(count) as u32,
+            value: (self.value as usize).saturating_sub(count) as u32,
+        }
+    }
 }
 
 /// All pairs in a row, where lines end among the pairs, and where tuples end among the lines.
@@ -38,6 +50,7 @@ fn place_of(count: usize) -> Result<u32, AllocError>
 
 /// Where the list with this number begins.
 #[tactic(auto, using(crate::proofs::Cuts::begin_is))]
+#[inline(always)]
 pub(crate) fn begin_of(ends: &[u32], number: usize) -> usize
     requires { number ≤ length ends.now }
     ensures { result ≡ start_at 0 ends.now number }
@@ -48,10 +61,101 @@ pub(crate) fn begin_of(ends: &[u32], number: usize) -> usize
     ends[number - 1] as usize
 }
 
-/// The number of the list in which the element with this number is.
+/// Where the last list ends.
+fn end_of(ends: &[u32]) -> usize
+    ensures { result ≡ last_end 0 ends.now }
+{
+    begin_of(ends, ends.len())
+}
+
+/// Where the pair with this number begins.
+#[inline(always)]
+fn value_begin(marks: &[Mark], number: usize) -> usize
+    requires { number ≤ length marks.now }
+    ensures { result ≡ value_at 0 marks.now number }
+{
+    if number == 0 {
+        return 0;
+    }
+    marks[number - 1].value as usize
+}
+
+/// Where the last pair ends.
+fn value_end(marks: &[Mark]) -> usize
+    ensures { result ≡ last_value 0 marks.now }
+{
+    value_begin(marks, marks.len())
+}
+
+/// Drops the first elements, so many. It takes no memory.
+fn drop_first<T: Copy + Drop>(list: &mut Vec<T>, count: usize)
+    requires { count ≤ length list.old.items }
+    ensures { list.new.items ≡ drop count list.old.items }
+{
+    list.rotate_left(count);
+    list.truncate(list.len() - count);
+}
+
+/// The ends where so many elements in front are gone.
+fn lower(ends: &mut Vec<u32>, count: usize)
+    ensures { ends.new.items ≡ lowered count ends.old.items }
+{
+    for place in 0..ends.len() {
+        lower_at(ends, place, count);
+    }
+}
+
+/// The same of one end.
+fn lower_at(ends: &mut Vec<u32>, place: usize, count: usize)
+    requires { place < length ends.old.items }
+    ensures { (d : ℕ) → ends.new.items ≡ slice_set ends.old.items place (get_or ends.old.items place d - count) }
+{
+    ends[place] = (ends[place] as usize).saturating_sub(count) as u32;
+}
+
+/// The marks where so many bytes in front are gone.
+fn lower_marks(marks: &mut Vec<Mark>, count: usize)
+    ensures { marks.new.items ≡ marks_lowered count marks.old.items }
+{
+    for place in 0..marks.len() {
+        lower_mark(marks, place, count);
+    }
+}
+
+/// The same of one mark.
+fn lower_mark(marks: &mut Vec<Mark>, place: usize, count: usize)
+    requires { place < length marks.old.items }
+    ensures { (d : Mark) → marks.new.items ≡ slice_set marks.old.items place (mark_lowered count (get_or marks.old.items place d)) }
+{
+    marks[place] = marks[place].lowered(count);
+}
+
+/// The number of the list in which the element with this number is, if all lists have the same length.
+fn guess_of(ends: &[u32], number: usize) -> usize {
+    match ends.last() {
+        Some(end) if *end > 0 => number.wrapping_mul(ends.len()) / *end as usize,
+        _ => 0,
+    }
+}
+
+/// Whether the element with this number is in the list with that one.
+fn owns(ends: &[u32], number: usize, list: usize) -> bool
+    ensures { result ≡ true → Owns ends.now number list }
+{
+    if list >= ends.len() {
+        return false;
+    }
+    begin_of(ends, list) <= number && number < ends[list] as usize
+}
+
+/// The number of the list in which the element with this number is. Mostly lists are about as long as one another.
 fn owner_of(ends: &[u32], number: usize) -> usize
     ensures { (count : ℕ) → Rise 0 ends.now count → number < last_end 0 ends.now → Owns ends.now number result }
 {
+    let guess = guess_of(ends, number);
+    if owns(ends, number, guess) {
+        return guess;
+    }
     ends.partition_point(|end| *end as usize <= number)
 }
 
@@ -147,30 +251,20 @@ impl Runs {
     }
 
     /// The pair with this number.
+    #[inline(always)]
     pub(crate) fn pair(&self, number: usize) -> NdbPair<'_>
         requires sound { AreSound self.now }
         requires within { number < length self.now.pairs.items }
         ensures { (d : NdbPair) → result ≡ get_or (pairs_in self.now) number d }
     {
-        let start = self.start_of(number);
+        let start = value_begin(&self.pairs, number);
         let mark = self.pairs[number];
         let middle = mark.attr as usize;
         let end = mark.value as usize;
         NdbPair::new(&self.bytes[start..middle], &self.bytes[middle..end])
     }
 
-    /// Where the pair with this number begins.
-    fn start_of(&self, number: usize) -> usize
-        requires { number ≤ length self.now.pairs.items }
-        ensures { result ≡ value_at 0 self.now.pairs.items number }
-    {
-        if number == 0 {
-            return 0;
-        }
-        self.pairs[number - 1].value as usize
-    }
-
-    /// The line with the pair that has this number, counted in its tuple, and that tuple.
+    /// Where the pair with this number stands: its tuple, and its line, counted in that tuple.
     pub(crate) fn spot(&self, number: usize) -> Spot
         requires sound { AreSound self.now }
         requires whole { AreWhole self.now }
@@ -184,6 +278,58 @@ impl Runs {
             place: tuple as u64,
             line: (line - first) as u64,
         }
+    }
+
+    /// Keeps the first tuples, so many, with what they have.
+    fn truncate(&mut self, count: usize)
+        requires sound { AreSound self.old }
+        requires whole { AreWhole self.old }
+        ensures sound { AreSound self.new }
+        ensures whole { AreWhole self.new }
+        ensures kept { tuples_in self.new ≡ take count (tuples_in self.old) }
+    {
+        self.tuples.truncate(count);
+        self.lines.truncate(end_of(&self.tuples));
+        self.pairs.truncate(end_of(&self.lines));
+        self.bytes.truncate(value_end(&self.pairs));
+    }
+
+    /// Drops the first tuples, so many, with what they have.
+    fn skip(&mut self, count: usize)
+        requires sound { AreSound self.old }
+        requires whole { AreWhole self.old }
+        requires within { count ≤ length self.old.tuples.items }
+        ensures sound { AreSound self.new }
+        ensures whole { AreWhole self.new }
+        ensures rest { tuples_in self.new ≡ drop count (tuples_in self.old) }
+    {
+        let lines = begin_of(&self.tuples, count);
+        let pairs = begin_of(&self.lines, lines);
+        let bytes = value_begin(&self.pairs, pairs);
+        drop_first(&mut self.tuples, count);
+        lower(&mut self.tuples, lines);
+        drop_first(&mut self.lines, lines);
+        lower(&mut self.lines, pairs);
+        drop_first(&mut self.pairs, pairs);
+        lower_marks(&mut self.pairs, bytes);
+        drop_first(&mut self.bytes, bytes);
+    }
+
+    /// Keeps the tuples from a place to another, with what they have.
+    pub(crate) fn keep(&mut self, first: usize, end: usize)
+        requires sound { AreSound self.old }
+        requires whole { AreWhole self.old }
+        requires rise { first ≤ end }
+        requires within { end ≤ length self.old.tuples.items }
+        ensures sound { AreSound self.new }
+        ensures whole { AreWhole self.new }
+        ensures kept { tuples_in self.new ≡ slice_range (tuples_in self.old) first end }
+    {
+        self.truncate(end);
+        if first == 0 {
+            return;
+        }
+        self.skip(first);
     }
 
     /// A copy, in runs of its own.

@@ -7,7 +7,7 @@ ghost use Rattle.net_base.specs.Spots.{same_spot};
 
 use std::hash::{Hash, Hasher};
 
-/// A tuple that contains a pair, and the first of its lines on which the pair stands. Both count from 0.
+/// Where a pair stands: a tuple, counted in the database, and a line, counted in that tuple. Both count from 0.
 #[derive(Clone, Copy, Debug, Default)]
 pub struct Spot {
     pub place: u64,

@@ -41,6 +41,7 @@ impl<'a> Tuple<'a> {
 
     /// How many lines it has.
     #[tactic(auto, using(crate::proofs::Found::tuple_len))]
+    #[inline(always)]
     pub fn len(&self) -> usize
         ensures { result ≡ length self.now }
     {
@@ -49,6 +50,7 @@ impl<'a> Tuple<'a> {
 
     /// The line with this number, from 0.
     #[tactic(auto, using(crate::proofs::Found::tuple_len, crate::proofs::Found::line_found, crate::proofs::Found::line_within))]
+    #[inline(always)]
     pub fn line(&self, number: usize) -> Line<'a>
         requires { number < length self.now }
         ensures { result ≡ get_or self.now number [] }

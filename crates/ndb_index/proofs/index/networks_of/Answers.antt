@@ -1,10 +1,17 @@
-use Rattle.std.proofs.Common.{List, nat_eq, [], arith, ◌<◌, length}
+use Rattle.std.proofs.Common.{List, nat_eq, [], arith, ◌<◌, length, sym, ap, ◌∙◌}
 use Rattle.std.specs.List.{list_any}
 use Rattle.net_base.proofs.Among.{own-default}
 use Rattle.ndb_index.specs.Nets.{has_prefix, has_length, places_kept}
 use Rattle.ndb_index.proofs.Notes.{taken}
-use Rattle.ndb_index.proofs.Own.{places_more, any_more}
+use Rattle.ndb_index.proofs.Own.{Kept, places_more, any_more}
+use Rattle.ndb_index.proofs.Unnamed.{none_placed, none_long}
 use Rattle.ndb_index.proofs.index.networks_of.Goals as goal
+
+pub returns-then-not-names : goal.returns-then-not-names
+returns-then-not-names c = (
+  λ asked. ap (λ (kept : Kept). places_kept asked kept) c.new-networks.ensures.entries ∙ sym (none_placed asked 0 c.args.db.now (sym c.names.ensures ∙ c.if-not-names.true)),
+  λ bits. ap (list_any (nat_eq bits)) c.new-lengths.ensures.keys ∙ sym (none_long bits c.args.db.now (sym c.names.ensures ∙ c.if-not-names.true)),
+)
 
 pub loop-place-preserved : goal.loop-place-preserved
 loop-place-preserved c =

@@ -3,6 +3,9 @@ use Rattle.std.proofs.lemmas.List.Sorted.{IsPartitionPoint-from_clause, IsPartit
 use Rattle.net_base.proofs.Spots.{owner-found, rise-between}
 use Rattle.net_base.proofs.ndb.runs.owner_of.Goals as goal
 
+pub returns-then-owns : goal.returns-then-owns
+returns-then-owns c = λ count rise below. c.owns.ensures c.if-owns.true
+
 pub returns : goal.returns
 returns c = λ count rise below.
     let parted = IsPartitionedBy-leb (λ (e : ℕ). e) c.args.ends.now c.args.number (λ i j d le lt. rise-between 0 c.args.ends.now count i j d rise le lt) in

@@ -3,7 +3,7 @@ use Rattle.std.specs.List.{list_any}
 use Rattle.ndb_reader.specs.Filed.{files_of}
 use Rattle.ndb_reader.specs.Names.{names_seen}
 use Rattle.ndb_reader.proofs.Chained.{among-at, gathered-next}
-use Rattle.ndb_reader.proofs.choice.all_named.Goals as goal
+use Rattle.ndb_reader.proofs.choice.copies_of.Goals as goal
 
 pub add_named-requires-clause-one : goal.add_named-requires-clause-one
 add_named-requires-clause-one c =
