@@ -87,10 +87,10 @@ impl<J: Naming, M: Machine> Guarded<J, M> {
         requires moment { asked.now ≡ moment pass.old.seen }
         requires now { asked.now < 2 ^ 63 }
         requires timely { IsTimely J.run.roster self.old.actor pass.old }
-        ensures acted { Acted M.begin M.answer J.run.roster self.old.actor asked.caller asked.now asked.work.now asked.cites
-            pass.old result pass.new }
-        ensures book { Leaves self.old.actor asked.caller asked.now asked.work.now asked.cites
-            self.old result pass.new self.new }
+        ensures acted { Acted M.begin M.answer J.run.roster self.old.actor asked.entry.caller asked.entry.now
+            asked.entry.work.now asked.entry.cites pass.old result pass.new }
+        ensures book { Leaves self.old.actor asked.entry.caller asked.entry.now
+            asked.entry.work.now asked.entry.cites self.old result pass.new self.new }
         ensures actor { (self.new.actor ≡ self.old.actor) × (self.new.number ≡ self.old.number) }
     {
         if !self.machine.ready(asked.now, asked.work) {
@@ -160,8 +160,9 @@ fn prepare<J: Naming, M: Machine>(
     ensures book { (book.new.actor ≡ book.old.actor) × (book.new.number ≡ book.old.number)
         × (book.new.seen ≡ book.old.seen) × (book.new.list ≡ book.old.list) }
     ensures ok { IfOk result (λ r. (0 < book.new.room)
-        × (o : Outcome) × (M.answer machine.old asked.now asked.work.now ≡ Some record { state = machine.new; outcome = o })
-        × (r.1 ≡ without_copy o) × (r.0 ≡ (made book.old.actor asked.caller asked.now asked.work.now asked.cites o).entry)) }
+        × (o : Outcome) × (M.answer machine.old asked.entry.now asked.entry.work.now ≡ Some record { state = machine.new; outcome = o })
+        × (r.1 ≡ without_copy o) × (r.0 ≡ (made book.old.actor asked.entry.caller asked.entry.now
+        asked.entry.work.now asked.entry.cites o).entry)) }
     ensures err { OnErr result (machine.new ≡ machine.old) }
 {
     book.reserve()?;

@@ -124,8 +124,8 @@ impl<J: Naming, M: Machine> Locked<J, M> {
         requires moment { asked.now ≡ moment pass.old.seen }
         requires now { asked.now < 2 ^ 63 }
         requires timely { IsTimely J.run.roster self.now.actor pass.old }
-        ensures { Acted M.begin M.answer J.run.roster self.now.actor asked.caller asked.now asked.work.now asked.cites
-            pass.old result pass.new }
+        ensures { Acted M.begin M.answer J.run.roster self.now.actor asked.entry.caller asked.entry.now
+            asked.entry.work.now asked.entry.cites pass.old result pass.new }
     {
         // The copy that the entry keeps is made before the lock is taken.
         let Ok(event) = asked.work.event.clone() else {
