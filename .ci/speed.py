@@ -106,14 +106,20 @@ def made(binary, messages):
     return subprocess.run([binary, "make", str(messages)], stdout=subprocess.PIPE, check=True).stdout.decode()
 
 
+def peak(words):
+    """The most memory of a command in bytes, by a process that has little itself: what a child had includes what its parent ever had."""
+    code = "import os, subprocess, sys; p = subprocess.Popen(sys.argv[1:], stdout=subprocess.DEVNULL); print(os.wait4(p.pid, 0)[2].ru_maxrss)"
+    return 1024 * int(subprocess.run([sys.executable, "-c", code, *words], stdin=subprocess.DEVNULL, stdout=subprocess.PIPE, check=True).stdout)
+
+
 def entry_bytes(binary):
-    """The bytes of memory of an entry beside its text: of `big`, which makes no text, at two lengths of the made world."""
+    """The bytes of memory that `big`, which makes no text, takes for an entry more, with its share of the made world."""
     entries, peaks = [], []
     for messages in (LONG // 2, LONG):
         text = subprocess.run([binary, "run", "1"], input=made(binary, messages).encode(), stdout=subprocess.PIPE, check=True).stdout
         entries.append(sum(line[:1].isdigit() for line in text.splitlines()))
-        peaks.append(measure([binary, "big", str(messages)], [], 1)[2][0])
-    return 1e6 * (peaks[1] - peaks[0]) / (entries[1] - entries[0])
+        peaks.append(peak([binary, "big", str(messages)]))
+    return (peaks[1] - peaks[0]) / (entries[1] - entries[0])
 
 
 def measure(words, pieces, runs, room=None):

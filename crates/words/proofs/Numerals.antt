@@ -53,6 +53,15 @@ numeral_four n hundred =
     ∙ ap (λ digit. numeral (n / 100) ++ (48 + digit) ∷ (48 + n % 10) ∷ []) middle
     ∙ ap (λ digit. numeral (n / 100) ++ (48 + n % 100 / 10) ∷ (48 + digit) ∷ []) last
 
+-- they are put behind the others
+pub two_more : (n : ℕ) (out front new : List ℕ) → 100 ≤ n → front ≡ out ++ numeral (n / 100)
+    → new ≡ front ++ (48 + n % 100 / 10) ∷ (48 + n % 100 % 10) ∷ [] → new ≡ out ++ numeral n
+two_more n out front new hundred before is =
+    is
+    ∙ ap (λ digits. digits ++ (48 + n % 100 / 10) ∷ (48 + n % 100 % 10) ∷ []) before
+    ∙ append_assoc out (numeral (n / 100)) ((48 + n % 100 / 10) ∷ (48 + n % 100 % 10) ∷ [])
+    ∙ ap (λ digits. out ++ digits) (sym (numeral_four n hundred))
+
 -- what holds of one digit, and of a digit more, holds of all numbers
 module _ (P : ℕ → List ℕ → Type 0) (one : (n : ℕ) → n < 10 → P n ((48 + n) ∷ [])) (more : (n : ℕ) (digits : List ℕ) → 10 ≤ n → P (n / 10) digits → P n (digits ++ ((48 + n % 10) ∷ []))) where
   step : (n : ℕ) → ((n < 10) ⊎ (10 ≤ n)) → (10 ≤ n → P (n / 10) (numeral (n / 10))) → P n (numeral n)

@@ -10,7 +10,7 @@ use net_base::Octets;
 use std::alloc::AllocError;
 
 /// Adds a number's digits.
-#[tactic(auto, using(crate::proofs::Numerals::decimal_is_numeral, crate::proofs::Numerals::numeral_four))]
+#[tactic(auto, using(crate::proofs::Numerals::decimal_is_numeral))]
 pub fn put_decimal(out: &mut Octets, n: u64) -> Result<(), AllocError>
     ensures numeral { OnOk result (out.new ≡ out.old ++ numeral n) }
     ensures decimal { OnOk result (out.new ≡ out.old ++ decimal n) }
