@@ -13,12 +13,13 @@ pub struct Run {
     pub end: RunEnd,
 }
 
-/// The same with the history in the books.
+/// The same with the history in the books, and whether a thread that was asked for couldn't be had.
 #[derive(Debug, Drop)]
 pub struct BookedRun {
     pub books: ClosedBooks,
     pub answered: u128,
     pub end: RunEnd,
+    pub lacks_threads: bool,
 }
 
 /// The history of a run with tasks of one's own, the tasks as they are in the end, each in its place, and how it ends.

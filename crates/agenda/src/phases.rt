@@ -52,6 +52,7 @@ pub fn run<R: Threads + Wait + Sync, G: Gate + Sync>(
         books,
         answered,
         end,
+        lacks_threads: _,
     } = run_in_books(rt, alloc, world, workers, gate)?;
     let history = books.into_history(alloc)?;
     Ok(Run {
@@ -111,12 +112,14 @@ fn run_named<J: Naming + Placing + Send + Sync, R: Threads + Wait + Sync, G: Gat
     let Some(answered) = players.answered(world) else {
         return Err(AllocError);
     };
+    let lacks_threads = players.lacks_threads();
     let played = players.into_guests(alloc)?;
     let books = net.finish_in_books(alloc, played)?;
     Ok(BookedRun {
         books,
         answered,
         end,
+        lacks_threads,
     })
 }
 

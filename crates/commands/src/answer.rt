@@ -15,7 +15,7 @@ ghost use Rattle.commands.specs.Runs.{status_of};
 ghost use Rattle.run_record.specs.Ends.{EndsSo};
 
 use crate::answer_lines::put_sessions;
-use agenda::{BookedRun, Run, RunEnd};
+use agenda::{BookedRun, RunEnd};
 use command_line::Answer;
 use cs_resolver::CsError;
 use journal::ClosedBooks;
@@ -84,7 +84,7 @@ pub fn of_run<R: Threads + Sync>(
     ensures { IfOk result (λ answer. IsRun world.now answer) }
 {
     let lines = summary_of_run(alloc, world, run)?;
-    let text = text_by(rt, alloc, workers, &run.books)?;
+    let text = text_by(rt, alloc, writers(workers, run), &run.books)?;
     of_books(world, &run.books, text, &lines, run.end)
 }
 
@@ -95,22 +95,27 @@ pub fn of_export<R: Threads + Sync>(
     workers: u32,
     world: &World,
     sessions: &Sessions,
-    run: &Run,
+    run: &BookedRun,
 ) -> Result<Answer, AllocError>
     requires played { ArePlayed world.now sessions.now }
-    requires legal { IsLegal world.now run.now.history }
-    requires timed { IsTimed world.now run.now.history }
-    requires answered { run.now.answered ≡ answered_steps world.now run.now.history }
-    requires headline { Headline world.now run.now.history }
-    requires end { EndsSo world.now (after world.now run.now.history) run.now.end }
+    requires legal { IsLegal world.now run.now.books }
+    requires timed { IsTimed world.now run.now.books }
+    requires answered { run.now.answered ≡ answered_steps world.now run.now.books }
+    requires headline { Headline world.now run.now.books }
+    requires end { EndsSo world.now (after world.now run.now.books) run.now.end }
     ensures { IfOk result (λ answer. IsExported world.now sessions.now answer) }
 {
-    let all = answers_by_caller(alloc, world, sessions, &run.history)?;
-    let mut text = text_by(rt, alloc, workers, &run.history)?;
+    let all = answers_by_caller(alloc, world, sessions, &run.books)?;
+    let mut text = text_by(rt, alloc, writers(workers, run), &run.books)?;
     put_ending(alloc, &mut text, world, run)?;
     put_sessions(&mut text, sessions.as_slice(), all.as_slice())?;
     let end = run.end;
     Ok(Answer::new(run_status(end), text))
+}
+
+/// How many workers make the text of a run on so many: one where a thread couldn't be had.
+fn writers(workers: u32, run: &BookedRun) -> u32 {
+    if run.lacks_threads { 1 } else { workers }
 }
 
 /// The summary of a run alone.
@@ -176,18 +181,19 @@ fn summary_of_run(alloc: Global, world: &World, run: &BookedRun) -> Result<Octet
     summary_by(alloc, world, &run.books, status)
 }
 
-/// Adds the summary of a run, by what it knows.
-fn put_ending(alloc: Global, text: &mut Octets, world: &World, run: &Run) -> Result<(), AllocError>
-    requires legal { IsLegal world.now run.now.history }
-    requires answered { run.now.answered ≡ answered_steps world.now run.now.history }
-    requires end { EndsSo world.now (after world.now run.now.history) run.now.end }
-    ensures { OnOk result (text.new ≡ text.old ++ summary world.now run.now.history) }
+/// Adds the summary of a run.
+fn put_ending(
+    alloc: Global,
+    text: &mut Octets,
+    world: &World,
+    run: &BookedRun,
+) -> Result<(), AllocError>
+    requires legal { IsLegal world.now run.now.books }
+    requires answered { run.now.answered ≡ answered_steps world.now run.now.books }
+    requires end { EndsSo world.now (after world.now run.now.books) run.now.end }
+    ensures { OnOk result (text.new ≡ text.old ++ summary world.now run.now.books) }
 {
-    let status = RunStatus {
-        answered: run.answered,
-        end: Some(run.end),
-    };
-    let lines = summary_by(alloc, world, &run.history, status)?;
+    let lines = summary_of_run(alloc, world, run)?;
     text.append(lines.as_slice())
 }
 

@@ -109,7 +109,7 @@ fn export_world<R: Threads + Wait + Sync, G: Gate + Sync>(
     requires few { workers ≤ 16 }
     ensures { IfOk result (λ answer. IsExported world.now sessions.now answer) }
 {
-    match agenda::run(rt, alloc, world, workers, gate) {
+    match agenda::run_in_books(rt, alloc, world, workers, gate) {
         Ok(run) => {
             let answer = of_export(rt, alloc, workers, world, sessions, &run);
             // the same as above

@@ -160,6 +160,11 @@ impl<J: Naming + Placing, T: Task + Drop> Players<J, T> {
         Ok(())
     }
 
+    /// Whether threads were asked for and one couldn't be had.
+    pub fn lacks_threads(&self) -> bool {
+        self.pace.lacks_threads()
+    }
+
     /// Whether memory ran out in a turn.
     pub fn is_short(&self) -> bool
         ensures { result ≡ list_any (λ g. g.memory) self.now.groups }

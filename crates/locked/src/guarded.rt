@@ -97,14 +97,17 @@ impl<J: Naming, M: Machine> Guarded<J, M> {
             let front = journal.look_with(&mut self.book, pass);
             return Answer::NotReady { front };
         }
-        match prepare(&mut self.machine, &mut self.book, asked, event) {
-            Ok((entry, outcome)) => {
-                gate.at(2 * self.book.number());
-                let stamp = record(journal, &mut self.book, pass, entry, asked.work);
-                Answer::Done { stamp, outcome }
-            }
-            Err(AllocError) => Answer::Memory,
+        if self.book.reserve().is_err() {
+            return Answer::Memory;
         }
+        let Ok(mut outcome) = self.machine.step(asked.now, asked.work) else {
+            return Answer::Memory;
+        };
+        let entry = entry_of(self.book.actor(), asked, event, &mut outcome);
+        gate.at(2 * self.book.number());
+        let stamp = record(journal, &mut self.book, pass, entry, asked.work);
+        // what the step gave is moved here once; each value that bore it on the way would be one copy more
+        Answer::Done { stamp, outcome }
     }
 
     /// What the actor is now, for this work.
@@ -146,27 +149,13 @@ impl<J: Naming, M: Machine> Guarded<J, M> {
     }
 }
 
-// The entry of a step that was done, and what the step gave. All memory is taken before the step, or by it.
-fn prepare<J: Naming, M: Machine>(
-    machine: &mut M,
-    book: &mut Book<J>,
-    asked: Asked<'_>,
-    event: Event,
-) -> Result<(Entry, Outcome), AllocError>
+// The entry of a step that was done, which takes the copy of the reply.
+fn entry_of(actor: ActorName, asked: Asked<'_>, event: Event, outcome: &mut Outcome) -> Entry
     requires copy { event ≡ asked.work.now.event }
-    requires stands { Stands M.begin M.answer machine.old book.old }
-    requires ready { is_some (M.answer machine.old asked.now asked.work.now) ≡ true }
-    requires now { asked.now < 2 ^ 63 }
-    ensures book { (book.new.actor ≡ book.old.actor) × (book.new.number ≡ book.old.number)
-        × (book.new.seen ≡ book.old.seen) × (book.new.list ≡ book.old.list) }
-    ensures ok { IfOk result (λ r. (0 < book.new.room)
-        × (o : Outcome) × (M.answer machine.old asked.entry.now asked.entry.work.now ≡ Some record { state = machine.new; outcome = o })
-        × (r.1 ≡ without_copy o) × (r.0 ≡ (made book.old.actor asked.entry.caller asked.entry.now
-        asked.entry.work.now asked.entry.cites o).entry)) }
-    ensures err { OnErr result (machine.new ≡ machine.old) }
+    requires twice { outcome.old.copy ≡ Some outcome.old.reply }
+    ensures outcome { outcome.new ≡ without_copy outcome.old }
+    ensures entry { result ≡ (made actor asked.entry.caller asked.entry.now asked.entry.work.now asked.entry.cites outcome.old).entry }
 {
-    book.reserve()?;
-    let mut outcome = machine.step(asked.now, asked.work)?;
     let Some(copy) = outcome.copy.take() else {
         unreachable!()
     };
@@ -174,8 +163,8 @@ fn prepare<J: Naming, M: Machine>(
         Some(packet) => Some(packet.header()),
         None => None,
     };
-    let entry = Entry {
-        actor: book.actor(),
+    Entry {
+        actor,
         caller: asked.caller,
         moment: asked.now,
         event,
@@ -183,8 +172,7 @@ fn prepare<J: Naming, M: Machine>(
         reply: copy,
         emits,
         ended: outcome.ended,
-    };
-    Ok((entry, outcome))
+    }
 }
 
 // Records an entry at its actor, which isn't the clock, or by a pass that holds every caller's number.

@@ -9,7 +9,7 @@ ghost use Rattle.locked.specs.Acts.{Acted, IsTimely, Stands, state_at};
 use crate::guarded::{Answer, Asked, Guarded, View};
 use crate::machine::Machine;
 use journal::{Book, Journal, Naming, Pass};
-use net_base::{ActorName, Work, same_actor};
+use net_base::{ActorName, Event, Work, same_actor};
 use outside::Gate;
 use std::hint::spin_loop;
 use std::sync::{Mutex, MutexGuard, Wait};
@@ -131,18 +131,36 @@ impl<J: Naming, M: Machine> Locked<J, M> {
         let Ok(event) = asked.work.event.clone() else {
             return Answer::Memory;
         };
-        let answer = {
-            let mut guard = self.take(rt);
-            let guarded = &mut *guard;
-            // Nothing is known of what lies behind a lock but its type, so the actor is compared here. It is always this one.
-            if same_actor(guarded.actor(), self.actor) {
-                guarded.act(journal, gate, pass, asked, event)
-            } else {
-                Answer::Memory
-            }
-        };
+        let answer = self.act_locked(rt, journal, gate, pass, asked, event);
         self.leave(gate, &answer);
         answer
+    }
+
+    // The same within the lock, with the copy that the entry keeps.
+    fn act_locked<R: Wait, G: Gate>(
+        &self,
+        rt: &R,
+        journal: &Journal<J>,
+        gate: &G,
+        pass: &mut Pass<J>,
+        asked: Asked<'_>,
+        event: Event,
+    ) -> Answer
+        requires copy { event ≡ asked.work.now.event }
+        requires room { (es : List (ℕ × Noted)) × Holds pass.old asked.caller es × (length es < 131072) }
+        requires moment { asked.now ≡ moment pass.old.seen }
+        requires now { asked.now < 2 ^ 63 }
+        requires timely { IsTimely J.run.roster self.now.actor pass.old }
+        ensures { Acted M.begin M.answer J.run.roster self.now.actor asked.entry.caller asked.entry.now
+            asked.entry.work.now asked.entry.cites pass.old result pass.new }
+    {
+        let mut guard = self.take(rt);
+        let guarded = &mut *guard;
+        // Nothing is known of what lies behind a lock but its type, so the actor is compared here. It is always this one.
+        if !same_actor(guarded.actor(), self.actor) {
+            return Answer::Memory;
+        }
+        guarded.act(journal, gate, pass, asked, event)
     }
 
     // The lock. It is held for one step of the actor, so that a thread that sleeps for it mostly loses more than it waits.

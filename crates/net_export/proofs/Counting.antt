@@ -1,9 +1,9 @@
 -- The number of events that a script owes is the count by its entries.
-use Rattle.std.proofs.Common.{◌≡◌, ℕ, zero, suc, ◌+◌, ◌-◌, ◌<◌, ◌==◌, Bool, true, false, List, [], ◌∷◌, ◌++◌, length, drop, Option, Some, None, slice_get, if◌then◌else◌, refl, sym, ap, subst, ◌∙◌, length-append, arith}
+use Rattle.std.proofs.Common.{◌≡◌, ℕ, zero, suc, ◌+◌, ◌-◌, ◌<◌, ◌≤◌, ◌==◌, Bool, true, false, List, [], ◌∷◌, ◌++◌, length, drop, Option, Some, None, slice_get, if◌then◌else◌, refl, sym, ap, subst, ◌∙◌, length-append, arith}
 use Rattle.std.specs.Prelude.{IsSome}
 use Rattle.std.specs.Option.{option_map, option_map_or}
 use Rattle.std.proofs.lemmas.Bool.{eqb-true, false≢true}
-use Rattle.std.proofs.lemmas.List.{length-drop}
+use Rattle.std.proofs.lemmas.List.{drop_all, length-drop}
 use Rattle.std.proofs.lemmas.Option.{none-some, same_Some}
 use Rattle.net_base.specs.declared.history.Entry.{Entry}
 use Rattle.net_base.specs.declared.world.Script.{Script}
@@ -20,6 +20,7 @@ use Rattle.net_base.specs.Steps.{Ask}
 use Rattle.history_laws.proofs.Histories.{after_push, by_entries}
 use Rattle.history_laws.proofs.Ordered.{Each, each_append}
 use Rattle.history_laws.proofs.StepEvents.{IsNextEvent}
+use Rattle.session_answers.proofs.OwnReplies.{drop_next}
 use Rattle.net_export.specs.Counted.{brought, count_after, follow_ups, puts, releases}
 use Rattle.net_export.proofs.FreeEvents.{IsFree, IsFreeDuty, duties_free, script_free}
 use Rattle.net_export.proofs.Lengths.{duties_length}
@@ -32,6 +33,15 @@ counted w c n x = if x.caller == c then (n - 1) + brought w x else n
 count_push : (w : World) (c n : ℕ) (h : List Entry) (x : Entry) → count_after w c n (h ++ x ∷ []) ≡ counted w c (count_after w c n h) x
 count_push w c n [] x = refl
 count_push w c n (y ∷ h) x = count_push w c (counted w c n y) h x
+
+-- .. of the one at a stamp
+pub counted_next : (w : World) (c n : ℕ) (h : List Entry) (k : ℕ) (x : Entry) → slice_get h k ≡ Some x
+    → count_after w c n (drop k h) ≡ count_after w c (if x.caller == c then (n - 1) + brought w x else n) (drop (k + 1) h)
+counted_next w c n h k x is = ap (count_after w c n) (drop_next h k x is)
+
+-- .. and behind the last
+pub counted_all : (w : World) (c n : ℕ) (h : List Entry) (k : ℕ) → length h ≤ k → count_after w c n (drop k h) ≡ n
+counted_all w c n h k past = ap (count_after w c n) (drop_all k h past)
 
 -- What a script records is free.
 

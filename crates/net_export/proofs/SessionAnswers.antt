@@ -37,14 +37,12 @@ are_in w h bytes c host owing lines owed told hosts by ms s are stands =
     ∙ (ap (λ (n : ℕ). answers_to (session n) first ms (answered_of owing h c)) (hosts s stands)
     ∙ ap (λ (b : Bool). answers_to (session s.host) first ms (answered_of b h c)) owed)
 
--- the entries are those of the history
-pub in_history : {E : Type 0} (w : World) (entries h : List Entry) (bytes : List ℕ) (c host : ℕ) (owing : Bool) (r : Result (List (List ℕ)) E)
-    → entries ≡ h → owing ≡ owes (after w entries) c → AreTold (own_replies h c)
-    → ((s : Script) → slice_get w.scripts c ≡ Some s → host ≡ s.host) → IfOk r (AreBy host bytes owing entries c) → IfOk r (AreIn w bytes h c)
-in_history w entries h bytes c host owing r same owed told hosts by =
-    let entries_told : AreTold (own_replies entries c) = subst (λ (k : List Entry). AreTold (own_replies k c)) (sym same) told in
-    subst (λ (k : List Entry). IfOk r (AreIn w bytes k c)) same
-    (IfOk-weaker r (AreBy host bytes owing entries c) (AreIn w bytes entries c) (λ lines. are_in w entries bytes c host owing lines owed entries_told hosts) by)
+-- by the replies in a history
+pub in_history : {E : Type 0} (w : World) (h : List Entry) (bytes : List ℕ) (c host : ℕ) (owing : Bool) (r : Result (List (List ℕ)) E)
+    → owing ≡ owes (after w h) c → AreTold (own_replies h c)
+    → ((s : Script) → slice_get w.scripts c ≡ Some s → host ≡ s.host) → IfOk r (AreBy host bytes owing h c) → IfOk r (AreIn w bytes h c)
+in_history w h bytes c host owing r owed told hosts by =
+    IfOk-weaker r (AreBy host bytes owing h c) (AreIn w bytes h c) (λ lines. are_in w h bytes c host owing lines owed told hosts) by
 
 -- A session of the world.
 

@@ -8,27 +8,27 @@ ghost use Rattle.net_base.specs.SessionScript.{AreMessages};
 ghost use Rattle.sessions.specs.InHistory as spec;
 
 use crate::owing::owes_after;
-use net_base::{History, Lines, World};
+use net_base::{Lines, World};
+use run_record::Entries;
 use session_answers::answers_by;
 use sessions::{Session, Sessions};
 use std::alloc::{AllocError, Global};
 
 /// The answers to the messages of a session, which is this caller of a translated world, as far as the history has them.
-pub fn answers(
+pub fn answers<E: Entries>(
     alloc: Global,
     world: &World,
     bytes: &[u8],
     caller: u32,
-    history: &History,
+    history: &E,
 ) -> Result<Lines, AllocError>
     requires session { spec.IsSessionOf world.now caller bytes.now }
-    requires legal { IsLegal world.now history.now }
+    requires legal { IsLegal world.now (E.list history.now) }
     ensures { IfOk result (λ lines. (ms : List AnyTmsg) (s : AnyScript) → AreMessages bytes.now ms → slice_get world.now.scripts caller ≡ Some s
-        → lines ≡ spec.answers world.now s.host ms caller history.now) }
+        → lines ≡ spec.answers world.now s.host ms caller (E.list history.now)) }
 {
-    let entries = history.as_slice();
-    let owes = owes_after(alloc, world, entries, caller)?;
-    answers_by(alloc, host_of(world, caller), bytes, caller, entries, owes)
+    let owes = owes_after(alloc, world, history, caller)?;
+    answers_by(alloc, host_of(world, caller), bytes, caller, history, owes)
 }
 
 // The host of a script.
@@ -40,15 +40,15 @@ fn host_of(world: &World, caller: u32) -> u32
 }
 
 /// The answers of each session in turn, by a history of the translated world.
-pub fn answers_by_caller(
+pub fn answers_by_caller<E: Entries>(
     alloc: Global,
     world: &World,
     sessions: &Sessions,
-    history: &History,
+    history: &E,
 ) -> Result<Vec<Lines>, AllocError>
     requires played { ArePlayed world.now sessions.now }
-    requires legal { IsLegal world.now history.now }
-    ensures { IfOk result (λ all. AreAnswersOf world.now history.now sessions.now all.items) }
+    requires legal { IsLegal world.now (E.list history.now) }
+    ensures { IfOk result (λ all. AreAnswersOf world.now (E.list history.now) sessions.now all.items) }
 {
     let mut all = Vec::with_capacity(alloc, sessions.len())?;
     for session in sessions.as_slice() {
@@ -59,15 +59,15 @@ pub fn answers_by_caller(
 }
 
 // The answers of a session.
-fn answers_to(
+fn answers_to<E: Entries>(
     alloc: Global,
     world: &World,
     session: &Session,
-    history: &History,
+    history: &E,
 ) -> Result<Lines, AllocError>
     requires played { IsPlayed world.now session.now }
-    requires legal { IsLegal world.now history.now }
-    ensures { IfOk result (λ lines. AreAnswersTo world.now history.now session.now lines) }
+    requires legal { IsLegal world.now (E.list history.now) }
+    ensures { IfOk result (λ lines. AreAnswersTo world.now (E.list history.now) session.now lines) }
 {
     answers(
         alloc,

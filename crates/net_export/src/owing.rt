@@ -11,18 +11,19 @@ ghost use Rattle.net_export.specs.Counted as spec;
 use crate::law::what_is_owed_is_counted;
 use duties::WorldWays;
 use net_base::{ActorName, Entry, Event, Reply, World};
+use run_record::Entries;
 use std::alloc::{AllocError, Global};
 
 /// Whether a script owes an event after a history.
-pub fn owes_after(
+pub fn owes_after<E: Entries>(
     alloc: Global,
     world: &World,
-    history: &[Entry],
+    history: &E,
     caller: u32,
 ) -> Result<bool, AllocError>
     requires caller { caller < length world.now.scripts }
-    requires legal { IsLegal world.now history.now }
-    ensures { IfOk result (λ b. b ≡ owes (after world.now history.now) caller) }
+    requires legal { IsLegal world.now (E.list history.now) }
+    ensures { IfOk result (λ b. b ≡ owes (after world.now (E.list history.now)) caller) }
 {
     what_is_owed_is_counted();
     let ways = WorldWays::new(alloc, world)?;
@@ -30,11 +31,13 @@ pub fn owes_after(
 }
 
 // How many events a script owes: an entry does the first of them, and brings its own.
-fn owed_count(ways: &WorldWays, history: &[Entry], caller: u32) -> u128
-    ensures { (w : AnyWorld) → AreWaysOfWorld w ways.now → result ≡ spec.count_after w caller 0 history.now }
+#[tactic(auto, using(crate::proofs::Counting::counted_next, crate::proofs::Counting::counted_all))]
+fn owed_count<E: Entries>(ways: &WorldWays, history: &E, caller: u32) -> u128
+    ensures { (w : AnyWorld) → AreWaysOfWorld w ways.now → result ≡ spec.count_after w caller 0 (E.list history.now) }
 {
     let mut owed: u128 = 0;
-    for entry in history {
+    for stamp in 0..history.count() {
+        let entry = history.entry(stamp);
         if entry.caller == caller {
             owed = owed.saturating_sub(1) + brought(ways, entry);
         }

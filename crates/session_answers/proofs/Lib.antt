@@ -1,3 +1,4 @@
+pub mod OwnReplies
 mod Plays
 mod Walks
 mod Fits

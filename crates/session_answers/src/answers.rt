@@ -12,21 +12,22 @@ ghost use Rattle.net_base.specs.Session as spec;
 
 use crate::replies::Replies;
 use crate::session::Session;
-use net_base::{Entry, Lines, Octets, Sequence};
+use net_base::{Lines, Octets, Sequence};
+use run_record::Entries;
 use session_script::{ExportError, first_message};
 use std::alloc::{AllocError, Global};
 
 /// The answers to the messages of a session of a host, which is this caller, by its entries in a history.
-pub fn answers_by(
+pub fn answers_by<E: Entries>(
     alloc: Global,
     host: u32,
     bytes: &[u8],
     caller: u32,
-    entries: &[Entry],
+    entries: &E,
     owes: bool,
 ) -> Result<Lines, AllocError>
-    ensures { IfOk result (λ lines. (ms : List AnyTmsg) → AreMessages bytes.now ms → AreTold (own_replies entries.now caller)
-        → lines ≡ answers_to (spec.session host) spec.first ms (answered_of owes entries.now caller)) }
+    ensures { IfOk result (λ lines. (ms : List AnyTmsg) → AreMessages bytes.now ms → AreTold (own_replies (E.list entries.now) caller)
+        → lines ≡ answers_to (spec.session host) spec.first ms (answered_of owes (E.list entries.now) caller)) }
 {
     let mut session = Session::new(alloc, host)?;
     let mut replies = Replies::new(entries, caller, owes);
@@ -43,11 +44,11 @@ pub fn answers_by(
 }
 
 // Serves the first message: its answer, and the bytes behind it.
-fn serve_first<'a>(
+fn serve_first<'a, E: Entries>(
     alloc: Global,
     session: &mut Session,
     bytes: &'a [u8],
-    replies: &mut Replies<'_>,
+    replies: &mut Replies<'_, E>,
 ) -> Result<Option<(Octets, &'a [u8])>, AllocError>
     requires sound { IsSound (seen session.old.table) }
     ensures served { IfOk result (λ first. MatchOption first

@@ -1,39 +1,43 @@
 //! The replies to a caller's own events.
-ghost use Rattle.std.specs.Prelude.{◌≡◌, ◌==◌, ◌&&◌, ◌∷◌, [], MatchOption, length, is_none};
+ghost use Rattle.std.specs.Prelude.{◌≡◌, ◌==◌, ◌&&◌, ◌∷◌, [], MatchOption, drop, length, is_none};
 ghost use Rattle.net_base.specs.Next.{own_replies};
 ghost use Rattle.session_answers.specs.Served.{answered_of};
 
 use net_base::{Entry, Reply};
+use run_record::Entries;
 use std::marker::Model;
 
 /// The replies to a caller's own events that are left, but for the last one where the caller owes something.
 #[derive(Drop)]
-pub struct Replies<'a> {
-    entries: &'a [Entry],
+pub struct Replies<'a, E: Entries> {
+    entries: &'a E,
     caller: u32,
+    // the stamp from which entries weren't looked at
+    next: usize,
     left: usize,
 }
 
-impl<'a> Model for Replies<'a> {
-    ghost use Rattle.std.specs.Prelude.{List, take};
+impl<'a, E: Entries> Model for Replies<'a, E> {
+    ghost use Rattle.std.specs.Prelude.{List, drop, take};
     ghost use Rattle.net_base.specs.declared.reply.Reply.{Reply};
     ghost use Rattle.net_base.specs.Next.{own_replies};
 
     ghost Value = { List Reply };
 
-    ghost view = { λ r. take r.left (own_replies r.entries.now r.caller) };
+    ghost view = { λ r. take r.left (own_replies (drop r.next (E.list r.entries.now)) r.caller) };
 }
 
-impl<'a> Replies<'a> {
+impl<'a, E: Entries> Replies<'a, E> {
     /// Those of a whole history.
-    pub fn new(entries: &'a [Entry], caller: u32, owes: bool) -> Replies<'a>
-        ensures { result ≡ answered_of owes entries.now caller }
+    pub fn new(entries: &'a E, caller: u32, owes: bool) -> Replies<'a, E>
+        ensures { result ≡ answered_of owes (E.list entries.now) caller }
     {
         let count = own_count(entries, caller);
         let left = if owes { count.saturating_sub(1) } else { count };
         Replies {
             entries,
             caller,
+            next: 0,
             left,
         }
     }
@@ -45,10 +49,10 @@ impl<'a> Replies<'a> {
         if self.left == 0 {
             return None;
         }
-        let (entry, rest) = next_own(self.entries, self.caller)?;
-        self.entries = rest;
+        let (reply, next) = next_own(self.entries, self.caller, self.next)?;
+        self.next = next;
         self.left -= 1;
-        Some(&entry.reply)
+        Some(reply)
     }
 }
 
@@ -59,29 +63,30 @@ fn is_own(entry: &Entry, caller: u32) -> bool
     entry.caller == caller && entry.cites.is_none()
 }
 
-fn own_count(entries: &[Entry], caller: u32) -> usize
-    ensures { result ≡ length (own_replies entries.now caller) }
+#[tactic(auto, using(crate::proofs::OwnReplies::own_at, crate::proofs::OwnReplies::other_at, crate::proofs::OwnReplies::none_behind))]
+fn own_count<E: Entries>(entries: &E, caller: u32) -> usize
+    ensures { result ≡ length (own_replies (E.list entries.now) caller) }
 {
     let mut count = 0;
-    for entry in entries {
-        if is_own(entry, caller) {
+    for stamp in 0..entries.count() {
+        if is_own(entries.entry(stamp), caller) {
             count += 1;
         }
     }
     count
 }
 
-// The first of a caller's own entries, and the entries behind it.
-fn next_own(entries: &[Entry], caller: u32) -> Option<(&Entry, &[Entry])>
-    ensures { MatchOption result (own_replies entries.now caller ≡ [])
-        (λ x. own_replies entries.now caller ≡ x.0.now.reply ∷ own_replies x.1.now caller) }
+// The reply to the first of a caller's own entries from a stamp on, and the stamp behind it.
+#[tactic(auto, using(crate::proofs::OwnReplies::own_at, crate::proofs::OwnReplies::other_at, crate::proofs::OwnReplies::none_behind))]
+fn next_own<E: Entries>(entries: &E, caller: u32, first: usize) -> Option<(&Reply, usize)>
+    ensures { MatchOption result (own_replies (drop first (E.list entries.entry.now)) caller ≡ [])
+        (λ x. own_replies (drop first (E.list entries.entry.now)) caller ≡ x.0.now ∷ own_replies (drop x.1 (E.list entries.entry.now)) caller) }
 {
-    let mut rest = entries;
-    while let Some((first, behind)) = rest.split_first() {
-        if is_own(first, caller) {
-            return Some((first, behind));
+    for stamp in first..entries.count() {
+        let entry = entries.entry(stamp);
+        if is_own(entry, caller) {
+            return Some((&entry.reply, stamp + 1));
         }
-        rest = behind;
     }
     None
 }

@@ -20,6 +20,7 @@ use crate::said::said_bytes;
 use ndb_versions::IndexedVersions;
 use net_base::{Db, Event, Mode, Octets, Reply, Step, Version};
 use ninep_wire::Tmsg;
+use run_record::Entries;
 use script_task::{Effect, Names, Request, effects_settle, is_accepted, plan};
 use session_script::{Table, step_of};
 use std::alloc::{AllocError, Global};
@@ -51,10 +52,10 @@ impl Session {
     }
 
     /// Serves a message: the bytes of its answer, or none where its step isn't answered.
-    pub fn serve(
+    pub fn serve<E: Entries>(
         &mut self,
         message: &Tmsg,
-        replies: &mut Replies<'_>,
+        replies: &mut Replies<'_, E>,
     ) -> Result<Option<Octets>, AllocError>
         requires message { IsTmsg message.now }
         requires short { self.old.table.msize ≤ longest }
@@ -83,11 +84,11 @@ impl Session {
     }
 
     // Plays the step of a message and answers it.
-    fn play_and_answer(
+    fn play_and_answer<E: Entries>(
         &mut self,
         step: Step,
         message: &Tmsg,
-        replies: &mut Replies<'_>,
+        replies: &mut Replies<'_, E>,
     ) -> Result<Option<Octets>, AllocError>
         requires message { IsTmsg message.now }
         requires short { self.old.table.msize ≤ longest }
@@ -130,10 +131,10 @@ impl Session {
     }
 
     // Plays a step: the reply to its last event.
-    fn play<'r>(
+    fn play<'r, E: Entries>(
         &mut self,
         step: Step,
-        replies: &mut Replies<'r>,
+        replies: &mut Replies<'r, E>,
     ) -> Result<Option<&'r Reply>, AllocError>
         requires { IsServed step }
         ensures plays { IfOk result (λ reply. Plays self.old.host self.old.names.names step replies.old self.new.names.names (option_copied reply) replies.new) }

@@ -1,5 +1,5 @@
 -- Numbers in decimal, a digit more at a time.
-use Rattle.std.proofs.Common.{◌≡◌, ℕ, zero, suc, ◌+◌, ◌/◌, ◌%◌, ◌^◌, ◌<◌, ◌≤◌, ◌⊎◌, inl, inr, List, [], ◌∷◌, ◌++◌, map, refl, sym, ◌∙◌, ap, subst, arith, decimal}
+use Rattle.std.proofs.Common.{◌≡◌, ℕ, zero, suc, ◌+◌, ◌/◌, ◌%◌, ◌^◌, ◌<◌, ◌≤◌, ◌⊎◌, inl, inr, List, [], ◌∷◌, ◌++◌, map, refl, sym, ◌∙◌, ap, subst, append_assoc, arith, decimal}
 use Rattle.std.specs.Int.Digits.{digits_of}
 use Rattle.std.proofs.lemmas.Bool.{cases_lt}
 use Rattle.std.proofs.lemmas.Fmt.{decimal_by_steps_wide}
@@ -35,6 +35,32 @@ numeral_more n ten =
     ∙ ap shown (digits_of_step 10 n (omega arith) (omega (arith, ten)))
     ∙ map_push (λ digit. 48 + digit) (digits_of 10 (n / 10)) (n % 10)
     ∙ ap (λ digits. digits ++ ((48 + n % 10) ∷ [])) (sym (numeral_is (n / 10) (omega (arith, ten))))
+
+-- two digits
+pub numeral_two : (n : ℕ) → 10 ≤ n → n < 100 → numeral n ≡ (48 + n / 10) ∷ (48 + n % 10) ∷ []
+numeral_two n ten lt = numeral_more n ten ∙ ap (λ digits. digits ++ ((48 + n % 10) ∷ [])) (numeral_one (n / 10) (omega (arith, lt)))
+
+-- two digits more
+pub numeral_four : (n : ℕ) → 100 ≤ n → numeral n ≡ numeral (n / 100) ++ (48 + n % 100 / 10) ∷ (48 + n % 100 % 10) ∷ []
+numeral_four n hundred =
+    let front : n / 10 / 10 ≡ n / 100 = omega arith in
+    let middle : n / 10 % 10 ≡ n % 100 / 10 = omega arith in
+    let last : n % 10 ≡ n % 100 % 10 = omega arith in
+    numeral_more n (omega (arith, hundred))
+    ∙ ap (λ digits. digits ++ ((48 + n % 10) ∷ [])) (numeral_more (n / 10) (omega (arith, hundred)))
+    ∙ append_assoc (numeral (n / 10 / 10)) ((48 + n / 10 % 10) ∷ []) ((48 + n % 10) ∷ [])
+    ∙ ap (λ k. numeral k ++ (48 + n / 10 % 10) ∷ (48 + n % 10) ∷ []) front
+    ∙ ap (λ digit. numeral (n / 100) ++ (48 + digit) ∷ (48 + n % 10) ∷ []) middle
+    ∙ ap (λ digit. numeral (n / 100) ++ (48 + n % 100 / 10) ∷ (48 + digit) ∷ []) last
+
+-- they are put behind the others
+pub two_more : (n : ℕ) (out front new : List ℕ) → 100 ≤ n → front ≡ out ++ numeral (n / 100)
+    → new ≡ front ++ (48 + n % 100 / 10) ∷ (48 + n % 100 % 10) ∷ [] → new ≡ out ++ numeral n
+two_more n out front new hundred before is =
+    is
+    ∙ ap (λ digits. digits ++ (48 + n % 100 / 10) ∷ (48 + n % 100 % 10) ∷ []) before
+    ∙ append_assoc out (numeral (n / 100)) ((48 + n % 100 / 10) ∷ (48 + n % 100 % 10) ∷ [])
+    ∙ ap (λ digits. out ++ digits) (sym (numeral_four n hundred))
 
 -- what holds of one digit, and of a digit more, holds of all numbers
 module _ (P : ℕ → List ℕ → Type 0) (one : (n : ℕ) → n < 10 → P n ((48 + n) ∷ [])) (more : (n : ℕ) (digits : List ℕ) → 10 ≤ n → P (n / 10) digits → P n (digits ++ ((48 + n % 10) ∷ []))) where

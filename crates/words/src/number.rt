@@ -1,5 +1,5 @@
 //! Numbers in decimal.
-ghost use Rattle.std.specs.Prelude.{◌≡◌, ◌≤◌, ◌<◌, ◌+◌, ◌*◌, ◌^◌, ◌++◌, ◌⊎◌, decimal, min, IfSome, OnOk};
+ghost use Rattle.std.specs.Prelude.{◌≡◌, ◌≤◌, ◌<◌, ◌+◌, ◌*◌, ◌/◌, ◌%◌, ◌^◌, ◌++◌, ◌∷◌, ◌⊎◌, [], decimal, min, IfSome, OnOk};
 ghost use Rattle.std.specs.Char.{digit_value};
 ghost use Rattle.std.specs.Str.Parse.{digits_value};
 ghost use Rattle.net_base.specs.Addresses as spec;
@@ -10,17 +10,44 @@ use net_base::Octets;
 use std::alloc::AllocError;
 
 /// Adds a number's digits.
-#[tactic(auto, using(crate::proofs::Numerals::decimal_is_numeral, crate::proofs::Numerals::numeral_one))]
+#[tactic(auto, using(crate::proofs::Numerals::decimal_is_numeral))]
 pub fn put_decimal(out: &mut Octets, n: u64) -> Result<(), AllocError>
     ensures numeral { OnOk result (out.new ≡ out.old ++ numeral n) }
     ensures decimal { OnOk result (out.new ≡ out.old ++ decimal n) }
 {
-    // most numbers have one digit
-    if n < 10 {
-        return out.push(b'0' + n as u8);
+    // most numbers have few digits
+    if n < 100 {
+        return put_short(out, n);
+    }
+    if n < 10000 {
+        put_short(out, n / 100)?;
+        return put_two(out, n % 100);
     }
     let mut buffer = Buffer::new();
     out.append(buffer.format(n).as_bytes())
+}
+
+// Adds one digit or two.
+#[inline(always)]
+#[tactic(auto, using(crate::proofs::Numerals::numeral_one, crate::proofs::Numerals::numeral_two))]
+fn put_short(out: &mut Octets, n: u64) -> Result<(), AllocError>
+    requires { n < 100 }
+    ensures { OnOk result (out.new ≡ out.old ++ numeral n) }
+{
+    if n < 10 {
+        return out.push(b'0' + n as u8);
+    }
+    put_two(out, n)
+}
+
+// Adds two digits, the first of which may be 0.
+#[inline(always)]
+fn put_two(out: &mut Octets, n: u64) -> Result<(), AllocError>
+    requires { n < 100 }
+    ensures { OnOk result (out.new ≡ out.old ++ (48 + n / 10) ∷ (48 + n % 10) ∷ []) }
+{
+    out.push(b'0' + (n / 10) as u8)?;
+    out.push(b'0' + (n % 10) as u8)
 }
 
 /// Adds the digits of a number of 128 bits.

@@ -97,6 +97,13 @@ impl Pace {
         there
     }
 
+    /// Whether threads were asked for and one couldn't be had.
+    pub fn lacks_threads(&self) -> bool
+        ensures { (s : Story) → IsPaceOf s self.now → IsTrue result ↔ (s.threads ≡ Some false) }
+    {
+        self.threads == Some(false)
+    }
+
     /// The workers have played, and it paid or was in vain.
     pub fn learn(&mut self, paid: bool)
         ensures { (s : Story) → IsPaceOf s self.old → IsPaceOf (after_call paid s) self.new }

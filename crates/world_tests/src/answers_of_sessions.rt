@@ -1,6 +1,6 @@
 //! Answers to sessions of 9P.
 use crate::messages::{ATTACH, OPEN, READ, VERSION, WALK, stream};
-use net_base::{ActorName, Entry, Event, FileName, Lines, Octets, Proto, Reply};
+use net_base::{ActorName, Entry, Event, FileName, History, Lines, Octets, Proto, Reply};
 use session_answers::answers_by;
 use std::test::*;
 
@@ -37,21 +37,21 @@ fn entry(actor: ActorName, event: Event, cites: Option<u64>, reply: Reply) -> En
 }
 
 // A ctl file is reserved and begun.
-fn opened(rt: &HostRuntime) -> Result<Vec<Entry>, Fail> {
+fn opened(rt: &HostRuntime) -> Result<History, Fail> {
     let dir = ActorName::Dir(0, Proto::Udp);
     let conv = ActorName::Conv(0, Proto::Udp, 0);
     let slot = Reply::Slot {
         slot: 0,
         generation: 1,
     };
-    let mut entries = Vec::new(rt.alloc());
+    let mut entries = History::new(rt.alloc());
     entries.push(entry(dir, Event::Reserve, None, slot))?;
     entries.push(entry(conv, Event::Begin { generation: 1 }, Some(0), Reply::Ok))?;
     Ok(entries)
 }
 
 // .. and read.
-fn history(rt: &HostRuntime) -> Result<Vec<Entry>, Fail> {
+fn history(rt: &HostRuntime) -> Result<History, Fail> {
     let conv = ActorName::Conv(0, Proto::Udp, 0);
     let read = Event::File {
         generation: 1,
@@ -64,7 +64,7 @@ fn history(rt: &HostRuntime) -> Result<Vec<Entry>, Fail> {
     Ok(entries)
 }
 
-fn answered(rt: &HostRuntime, bytes: &[u8], entries: &[Entry], owes: bool) -> Result<Lines, Fail> {
+fn answered(rt: &HostRuntime, bytes: &[u8], entries: &History, owes: bool) -> Result<Lines, Fail> {
     Ok(answers_by(rt.alloc(), 0, bytes, 0, entries, owes)?)
 }
 

@@ -7,12 +7,12 @@ use Rattle.commands.proofs.answer.of_export.Goals as goal
 
 pub put_sessions-requires : goal.put_sessions-requires
 put_sessions-requires g c =
-    rw (c.as_slice-2.ensures.value, c.as_slice.ensures) (same_count c.args.world.now c.args.run.now.history c.args.sessions.now c.in_ok-all.all.items c.in_ok-all.ensures)
+    rw (c.as_slice-2.ensures.value, c.as_slice.ensures) (same_count c.args.world.now c.args.run.now.books c.args.sessions.now c.in_ok-all.all.items c.in_ok-all.ensures)
 
 pub returns : goal.returns
 returns g c =
     let w = c.args.world.now in
-    let h = c.args.run.now.history in
+    let h = c.args.run.now.books in
     rw (c.new.ensures) (record {
       history = h;
       legal = c.requires.legal;

@@ -7,11 +7,11 @@ use Rattle.session_answers.proofs.answers.answers_by.Given as goal
 
 -- the answers so far stand before those to what is left
 abbrev pub invariant-loop-replies : goal.invariant-loop-replies
-invariant-loop-replies l = record {
-  so_far : Answering l.host l.bytes (answered_of l.owes l.entries l.caller) l.answers (state_of l.session) l.rest l.replies;
+invariant-loop-replies g l = record {
+  so_far : Answering l.host l.bytes (answered_of l.owes (g.E.Entries.list l.entries) l.caller) l.answers (state_of l.session) l.rest l.replies;
   sound : IsSound (seen l.session.table);
   host : l.session.host ≡ l.host;
 }
 
 abbrev pub decreases-loop-replies : goal.decreases-loop-replies
-decreases-loop-replies l = length l.rest
+decreases-loop-replies g l = length l.rest

@@ -1,10 +1,7 @@
-use Rattle.std.proofs.Common.{◌≡◌, length}
+use Rattle.std.proofs.Common.{◌≡◌, drop}
 use Rattle.net_base.specs.Next.{own_replies}
 use Rattle.session_answers.proofs.replies.next_own.Given as goal
 
--- none of the entries before these is the caller's own
-abbrev pub invariant-loop-first : goal.invariant-loop-first
-invariant-loop-first l = own_replies l.rest l.caller ≡ own_replies l.entries l.caller
-
-abbrev pub decreases-loop-first : goal.decreases-loop-first
-decreases-loop-first l = length l.rest
+-- none of the entries from the first stamp up to this one is the caller's own
+abbrev pub invariant-loop-stamp : goal.invariant-loop-stamp
+invariant-loop-stamp g l = own_replies (drop l.stamp (g.E.Entries.list l.entries)) l.caller ≡ own_replies (drop l.first (g.E.Entries.list l.entries)) l.caller
