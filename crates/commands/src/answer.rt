@@ -1,5 +1,5 @@
 //! The answers of the commands, made whole.
-ghost use Rattle.std.specs.Prelude.{◌≡◌, ◌≢◌, ◌++◌, flat_map, true, IfOk, OnOk};
+ghost use Rattle.std.specs.Prelude.{◌≡◌, ◌≢◌, ◌++◌, flat_map, IfOk, OnOk};
 ghost use Rattle.net_model.specs.Answers as spec;
 ghost use Rattle.net_model.specs.Headline.{Headline};
 ghost use Rattle.net_base.specs.Cs.{Lines as ListOf, Refused};

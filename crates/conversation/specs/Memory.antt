@@ -1,15 +1,12 @@
 -- What memory is taken for: only there may a step say that there is none.
-use Rattle.std.specs.Prelude.{ℕ, ◌+◌, ◌==◌, Bool, false, List, length, nat_le, nat_lt, ◌&&◌}
+use Rattle.std.specs.Prelude.{ℕ, ◌+◌, ◌==◌, Bool, false, length, nat_le, nat_lt, ◌&&◌}
 use Rattle.net_base.specs.declared.event.Event.{Event}
 use Rattle.net_base.specs.declared.event.Event.TheVariants as event
 use Rattle.net_base.specs.declared.history.Work.{Work}
 use Rattle.net_base.specs.declared.history.With.{With}
 use Rattle.net_base.specs.declared.history.With.TheVariants as given
-use Rattle.net_base.specs.declared.il.IlState.{IlState}
-use Rattle.net_base.specs.declared.il.IlState.TheVariants.{Established}
 use Rattle.net_base.specs.declared.packet.Body.{Body}
 use Rattle.net_base.specs.declared.packet.Body.TheVariants as body
-use Rattle.net_base.specs.declared.udp.UdpState.{UdpState}
 use Rattle.net_base.specs.Conversation.{Conv, Core, Il, Udp, Stage, Connected}
 use Rattle.net_base.specs.IlTable.{has_unread}
 use Rattle.net_base.specs.UdpEnd.{takes_datagram}

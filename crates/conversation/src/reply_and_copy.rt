@@ -1,5 +1,5 @@
 //! A reply with its copy.
-ghost use Rattle.std.specs.Prelude.{◌≡◌, ◌<◌, [], length, IfOk, OnErr};
+ghost use Rattle.std.specs.Prelude.{◌≡◌, ◌<◌, length, IfOk, OnErr};
 ghost use Rattle.net_base.specs.declared.reply.Reply.TheVariants as reply;
 
 use net_base::{Cause, Lines, Octets, Reply, StateName};

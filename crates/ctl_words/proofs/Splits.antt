@@ -1,9 +1,7 @@
 -- The parts of a text between the occurrences of a byte.
-use Rattle.std.proofs.Common.{◌≡◌, ℕ, ◌+◌, ◌<◌, true, false, ◌==◌, None, refl, arith, List, [], ◌∷◌, ◌++◌, length, get_or, take, drop, sym, ap, subst, ◌∙◌, add-one}
-use Rattle.std.specs.List.{All, slice_split}
-use Rattle.std.proofs.lemmas.List.{take-append-drop}
-use Rattle.std.proofs.lemmas.List.Splits.{slice_split_at, length-slice_split}
-use Rattle.std.proofs.Math.Seq.{drop-cons}
+use Rattle.std.proofs.Common.{◌≡◌, ℕ, ◌<◌, ◌==◌, None, refl, arith, List, [], ◌∷◌, length, sym, ap, subst}
+use Rattle.std.specs.List.{slice_split}
+use Rattle.std.proofs.lemmas.List.Splits.{length-slice_split}
 use Rattle.net_base.specs.ControlWords.{address_of, place_of}
 use Rattle.ctl_words.specs.Kept.{kept_ip, kept_place, AreMany}
 

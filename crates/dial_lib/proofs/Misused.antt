@@ -1,11 +1,10 @@
 -- What is asked where headers aren't those of the datagram that was heard.
-use Rattle.std.proofs.Common.{◌≡◌, ◌∙◌, ℕ, Bool, true, false, List, Option, Some, None, option_map, is_some, refl, sym, ap, if◌then◌else◌}
+use Rattle.std.proofs.Common.{◌≡◌, ◌∙◌, ℕ, Bool, true, false, List, Option, Some, None, option_map, is_some, sym, ap, if◌then◌else◌}
 use Rattle.std.proofs.lemmas.Bool.{false≢true}
 use Rattle.net_base.specs.DatagramHeaders.{text_behind}
 use Rattle.net_base.specs.Steps.{Names, data_name, is_answer, open_call}
 use Rattle.net_tree.specs.Bindings.{file_of}
 use Rattle.net_tree.specs.declared.fids.Fid.{Fid}
-use Rattle.net_base.specs.declared.request.Request.{Request}
 use Rattle.net_base.specs.declared.request.Request.TheVariants as request
 use Rattle.dial_lib.specs.Hwrite.{writes_by, writes_so}
 

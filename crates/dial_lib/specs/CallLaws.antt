@@ -1,5 +1,5 @@
 -- A call asks and moves as its play does.
-use Rattle.std.proofs.Common.{◌≡◌, ℕ, ◌<◌, Bool, true, false, List, [], ◌∷◌, Option, Some, None, if◌then◌else◌, refl, sym, subst, rules}
+use Rattle.std.proofs.Common.{◌≡◌, ℕ, ◌<◌, Bool, true, false, List, [], Option, Some, None, if◌then◌else◌, refl, sym, subst, rules}
 use Rattle.std.proofs.lemmas.Option.{none-some}
 use Rattle.net_base.specs.declared.address.Addr.{Addr}
 use Rattle.net_base.specs.declared.address.Proto.{Proto}
@@ -11,7 +11,7 @@ use Rattle.net_base.specs.declared.names.Node.TheVariants as node
 use Rattle.net_base.specs.declared.reply.Reply.{Reply}
 use Rattle.net_base.specs.declared.reply.Reply.TheVariants as reply
 use Rattle.net_base.specs.Paths.{walk, path_of, is_read_alone}
-use Rattle.net_base.specs.Steps.{Names, Fid, Play, Ends, fid_of, is_bound, bind, unbind, uses, on_fid, is_accepted, if_accepted, opened_fid, openable, opens_node, data_name, call_name, remote_name, local_name, taken_name, on_taken, bytes_in, address_told, takes_call}
+use Rattle.net_base.specs.Steps.{Names, Fid, Play, Ends, fid_of, is_bound, bind, unbind, uses, on_fid, opened_fid, openable, opens_node, data_name, call_name, remote_name, local_name, taken_name, on_taken, takes_call}
 use Rattle.dial_lib.specs.declared.call.CallPhase.{CallPhase}
 use Rattle.dial_lib.specs.declared.call.CallPhase.TheVariants as phase
 use Rattle.dial_lib.specs.AnnounceLaws.{front_left}

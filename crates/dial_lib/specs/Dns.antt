@@ -1,12 +1,12 @@
 -- Answering questions: the requests, the phases, and the play that they stand for.
-use Rattle.std.specs.Prelude.{◌≡◌, ℕ, zero, suc, ◌-◌, ◌&&◌, Bool, true, false, nat_lt, List, [], ◌∷◌, Option, Some, None, if◌then◌else◌}
+use Rattle.std.specs.Prelude.{◌≡◌, ℕ, zero, suc, ◌-◌, ◌&&◌, Bool, true, false, nat_lt, List, [], ◌∷◌, Option, Some, None}
 use Rattle.net_base.specs.declared.address.Addr.{Addr}
 use Rattle.net_base.specs.declared.address.Proto.{Proto}
 use Rattle.net_base.specs.declared.event.Event.TheVariants as event
 use Rattle.net_base.specs.declared.reply.Reply.{Reply}
 use Rattle.net_base.specs.declared.world.Step.{Step}
 use Rattle.net_base.specs.DomainAnswers.{dns_answer, is_answered}
-use Rattle.net_base.specs.Steps.{Names, Fid, Play, Asks, Ends, is_accepted, if_accepted, conversation_of, closes, data_name, bytes_in, closes_all, leaves_call, answers_call, serves, play_of}
+use Rattle.net_base.specs.Steps.{Names, Play, Asks, Ends, is_accepted, if_accepted, conversation_of, closes, data_name, bytes_in, closes_all, leaves_call, answers_call, serves, play_of}
 use Rattle.dial_lib.specs.declared.call.CallPhase.{CallPhase}
 use Rattle.dial_lib.specs.declared.call.CallPhase.TheVariants as phase
 use Rattle.dial_lib.specs.declared.dns.Dns.{Dns}

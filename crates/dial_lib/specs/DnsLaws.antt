@@ -1,5 +1,5 @@
 -- Answering questions asks and moves as its play does.
-use Rattle.std.proofs.Common.{◌≡◌, ℕ, zero, suc, ◌-◌, ◌<◌, Bool, true, false, ◌&&◌, nat_lt, List, [], ◌∷◌, Option, Some, None, if◌then◌else◌, refl, sym, subst, rules, tests, arith}
+use Rattle.std.proofs.Common.{◌≡◌, ℕ, zero, suc, ◌-◌, ◌<◌, Bool, true, false, ◌&&◌, nat_lt, List, [], Option, Some, None, if◌then◌else◌, refl, sym, subst, rules, tests, arith}
 use Rattle.net_base.specs.declared.address.Addr.{Addr}
 use Rattle.net_base.specs.declared.address.Proto.{Proto}
 use Rattle.net_base.specs.declared.names.FileName.TheVariants as file
@@ -7,7 +7,7 @@ use Rattle.net_base.specs.declared.reply.Reply.{Reply}
 use Rattle.net_base.specs.declared.world.Step.TheVariants as step
 use Rattle.net_base.specs.DomainAnswers.{dns_answer, is_answered, answer_read}
 use Rattle.net_base.specs.DomainQuestions.{question_of}
-use Rattle.net_base.specs.Steps.{Names, Play, Ends, unbind, is_accepted, if_accepted, closes, data_name, call_name, taken_name, remote_name, local_name, bytes_in, address_told, nowhere, closes_all, leaves_call, answers_call, serves, serves_call, with_call, play_of}
+use Rattle.net_base.specs.Steps.{Names, Play, Ends, unbind, is_accepted, closes, data_name, call_name, taken_name, remote_name, local_name, bytes_in, address_told, nowhere, leaves_call, answers_call, serves, with_call, play_of}
 use Rattle.net_base.specs.Versions.{Tuples}
 use Rattle.dial_lib.specs.declared.call.CallPhase.{CallPhase}
 use Rattle.dial_lib.specs.declared.call.CallPhase.TheVariants as phase

@@ -1,10 +1,10 @@
 -- An hread: its requests, its phases, and the play that it stands for.
-use Rattle.std.specs.Prelude.{◌≡◌, ℕ, List, Option, Some}
+use Rattle.std.specs.Prelude.{ℕ, List, Option, Some}
 use Rattle.net_base.specs.declared.address.Addr.{Addr}
 use Rattle.net_base.specs.declared.headers.Heard.{Heard}
 use Rattle.net_base.specs.declared.reply.Reply.{Reply}
 use Rattle.net_base.specs.declared.world.Step.{Step}
-use Rattle.net_base.specs.Steps.{Names, Fid, Play, data_name, hears, nowhere, play_of}
+use Rattle.net_base.specs.Steps.{Names, Play, data_name, hears, nowhere, play_of}
 use Rattle.dial_lib.specs.declared.call.CallPhase.TheVariants as phase
 use Rattle.dial_lib.specs.declared.hread.Hread.{Hread}
 use Rattle.dial_lib.specs.Calls as calls

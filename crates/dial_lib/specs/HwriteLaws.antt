@@ -1,5 +1,5 @@
 -- An hwrite asks and moves as its play does.
-use Rattle.std.proofs.Common.{◌≡◌, ℕ, Bool, true, false, ◌&&◌, List, Option, Some, None, if◌then◌else◌, refl, sym, subst, ap, rules}
+use Rattle.std.proofs.Common.{◌≡◌, ℕ, Bool, true, false, ◌&&◌, List, Option, Some, None, if◌then◌else◌, refl, sym, subst}
 use Rattle.std.proofs.lemmas.Bool.{and_parts, false≢true}
 use Rattle.std.proofs.lemmas.Option.{none-some, same_Some}
 use Rattle.std.specs.Option.{option_and_then}
@@ -11,7 +11,7 @@ use Rattle.net_base.specs.declared.names.Mode.TheVariants as mode
 use Rattle.net_base.specs.declared.reply.Reply.{Reply}
 use Rattle.net_base.specs.declared.world.Step.TheVariants as step
 use Rattle.net_base.specs.DatagramHeaders.{text_behind}
-use Rattle.net_base.specs.Steps.{Ask, Names, Fid, Play, Ends, conversation_of, ends_with, fid_of, unbind, on_fid, uses, misuses, data_name, call_name, closes_name, answers, if_call, is_answer, is_both, is_data, open_call, was_on, play_of}
+use Rattle.net_base.specs.Steps.{Ask, Names, Fid, Play, Ends, conversation_of, ends_with, fid_of, unbind, on_fid, uses, misuses, data_name, call_name, answers, if_call, is_answer, is_both, is_data, open_call, was_on, play_of}
 use Rattle.dial_lib.specs.declared.hwrite.Hwrite.{Hwrite}
 use Rattle.dial_lib.specs.declared.hwrite.HwritePhase.{HwritePhase}
 use Rattle.dial_lib.specs.declared.hwrite.HwritePhase.TheVariants as phase

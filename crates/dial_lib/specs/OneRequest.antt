@@ -1,5 +1,5 @@
 -- A step of one request.
-use Rattle.std.specs.Prelude.{◌≡◌, ℕ, Bool, true, false, List, Option, Some, None, if◌then◌else◌}
+use Rattle.std.specs.Prelude.{◌≡◌, ℕ, Bool, true, false, Option, Some, None, if◌then◌else◌}
 use Rattle.net_base.specs.declared.reply.Reply.{Reply}
 use Rattle.net_base.specs.Steps.{Ask, Names, Play, Ends}
 use Rattle.dial_lib.specs.declared.one_request.OneRequest.{OneRequest}

@@ -1,5 +1,5 @@
 -- A step of one request asks for its play's event and ends after the reply.
-use Rattle.std.proofs.Common.{◌≡◌, ℕ, Bool, true, List, Some, refl, sym, subst}
+use Rattle.std.proofs.Common.{◌≡◌, ℕ, Bool, true, Some, refl, sym, subst}
 use Rattle.net_base.specs.declared.reply.Reply.{Reply}
 use Rattle.net_base.specs.Steps.{Names, Play}
 use Rattle.dial_lib.specs.declared.one_request.OneRequest.{OneRequest}

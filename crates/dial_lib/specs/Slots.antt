@@ -1,5 +1,5 @@
 -- Names that are bound to files of slots that there are.
-use Rattle.std.specs.Prelude.{◌≡◌, Bool, true, List, nat_lt}
+use Rattle.std.specs.Prelude.{◌≡◌, Bool, true, nat_lt}
 use Rattle.std.specs.List.{list_all}
 use Rattle.net_base.specs.Steps.{Bound, Names}
 

@@ -1,7 +1,5 @@
 //! When conversations are due, in the order of these.
-ghost use Rattle.std.specs.Prelude.{◌≡◌, ℕ, ◌+◌, ◌<◌, ◌≤◌, ◌++◌, ◌∷◌, ◌==◌, [], Option, List, length, take, drop, slice_get, option_to_list, nat_lt, OnErr, OnOk};
-ghost use Rattle.std.specs.Option.{option_map_or};
-ghost use Rattle.duties.specs.declared.due.Due.{Due as AnyDue};
+ghost use Rattle.std.specs.Prelude.{◌≡◌, ◌+◌, ◌<◌, ◌≤◌, ◌++◌, ◌∷◌, ◌==◌, [], length, take, drop, slice_get, OnErr, OnOk};
 ghost use Rattle.due_moments.specs.Places as spec;
 ghost use Rattle.due_moments.specs.Places.{Moments, before, is_at, place_of, put_at, Holds};
 

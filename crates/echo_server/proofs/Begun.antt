@@ -1,7 +1,7 @@
 -- What is claimed of each task holds as it is given.
-use Rattle.std.proofs.Common.{◌≡◌, ℕ, zero, suc, List, [], ◌∷◌, ◌++◌, Option, Some, None, IfSome, subst}
+use Rattle.std.proofs.Common.{◌≡◌, zero, suc, List, [], ◌∷◌, ◌++◌, Option, Some, None, IfSome, subst}
 use Rattle.std.proofs.lemmas.Option.{none-some, same_Some}
-use Rattle.agenda.specs.Given.{AreBegun, task_at}
+use Rattle.agenda.specs.Given.{AreBegun}
 use Rattle.whole_script.specs.declared.either.EitherTask.{EitherTask}
 use Rattle.echo_server.specs.declared.client.EchoClient.{EchoClient}
 use Rattle.echo_server.specs.declared.server.EchoServer.{EchoServer}

@@ -1,7 +1,6 @@
 //! Events.
 ghost use Rattle.std.specs.Prelude.{◌≡◌, ◌++◌, OnOk};
-ghost use Rattle.net_base.specs.Transcript.{event_words};
-ghost use Rattle.entry_labels.specs.Labels.{event_label, first_word};
+ghost use Rattle.entry_labels.specs.Labels.{event_label};
 
 use crate::text::{put_beside, put_numbered};
 use net_base::{Event, Octets};

@@ -1,7 +1,6 @@
 //! Replies.
 ghost use Rattle.std.specs.Prelude.{◌≡◌, ◌++◌, OnOk};
-ghost use Rattle.net_base.specs.Transcript.{reply_words};
-ghost use Rattle.entry_labels.specs.Labels.{first_word, reply_label};
+ghost use Rattle.entry_labels.specs.Labels.{reply_label};
 
 use crate::text::{put_beside, put_numbered};
 use net_base::{Octets, Reply};

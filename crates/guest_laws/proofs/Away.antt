@@ -1,5 +1,5 @@
 -- No duty is one at the clock.
-use Rattle.std.proofs.Common.{◌≡◌, ℕ, ◌==◌, nat_lt, Bool, true, false, List, [], ◌∷◌, ◌++◌, map, drop, flat_map, Option, Some, None, if◌then◌else◌, inl, inr, refl, ap, sym, ◌∙◌}
+use Rattle.std.proofs.Common.{◌≡◌, ℕ, ◌==◌, nat_lt, Bool, true, false, List, [], ◌∷◌, ◌++◌, map, drop, flat_map, Option, Some, None, if◌then◌else◌, inl, inr, refl, ap, ◌∙◌}
 use Rattle.std.specs.List.{range_with_len}
 use Rattle.net_base.specs.declared.actor.ActorName.{ActorName}
 use Rattle.net_base.specs.declared.actor.ActorName.TheVariants as name
@@ -23,7 +23,7 @@ use Rattle.net_base.specs.Duties.{Duty, close_calls, conversations, courier_duty
 use Rattle.net_base.specs.Net.{Net, opening_net}
 use Rattle.net_base.specs.Routes.{Way, way, has_address}
 use Rattle.net_base.specs.Stamped.{In, same_actor}
-use Rattle.guest_laws.specs.Works.{noted_after, next_noted, noted_from, noted_net, owed_in, step_by}
+use Rattle.guest_laws.specs.Works.{noted_after, next_noted, noted_from, owed_in, step_by}
 
 abbrev IsAway : ActorName → Type 0
 IsAway a = same_actor a name.Clock ≡ false

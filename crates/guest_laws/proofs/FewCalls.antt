@@ -1,5 +1,5 @@
 -- At most ten calls wait at a slot, whatever works were done, so no reply tells of more.
-use Rattle.std.proofs.Common.{◌≡◌, ℕ, zero, suc, ◌+◌, ◌≤◌, nat_lt, Bool, true, false, List, [], ◌∷◌, ◌++◌, length, Option, Some, None, replicate, refl, ap, sym, subst, arith, length-append}
+use Rattle.std.proofs.Common.{◌≡◌, ℕ, zero, suc, ◌+◌, ◌≤◌, nat_lt, Bool, true, false, List, [], ◌∷◌, length, Option, Some, None, replicate, refl, ap, sym, subst, arith, length-append}
 use Rattle.std.specs.Prelude.{IfSome}
 use Rattle.std.proofs.lemmas.Bool.Decides.{nat_tests}
 use Rattle.net_base.specs.declared.actor.ActorName.{ActorName}
@@ -20,7 +20,7 @@ use Rattle.net_base.specs.ActorStep.{Step}
 use Rattle.net_base.specs.Actors.{Actor, IsDir, actor_step, opening_actor}
 use Rattle.net_base.specs.Conversation.{Conv}
 use Rattle.net_base.specs.Desk.{Desk}
-use Rattle.net_base.specs.Directory.{Slot, free_slot}
+use Rattle.net_base.specs.Directory.{free_slot}
 use Rattle.net_base.specs.Medium.{Medium}
 use Rattle.net_base.specs.Net.{Net, opening_net, stepped_to}
 use Rattle.net_base.specs.Stamped.{same_actor}

@@ -1,5 +1,5 @@
 //! Laws of histories whose entries stand with their works, and of the guests that know a part of one.
-ghost use Rattle.std.specs.Prelude.{◌≡◌, ◌<◌, ◌≤◌, length, ◌==◌, ◌++◌, ◌∷◌, List, [], Option, Some, None, ℕ, true, false, is_some};
+ghost use Rattle.std.specs.Prelude.{◌≡◌, ◌<◌, ◌≤◌, length, ◌==◌, ◌++◌, ◌∷◌, List, [], Option, Some, None, ℕ, false, is_some};
 ghost use mathlib.Core.List.{IsPrefix};
 ghost use Rattle.net_base.specs.declared.actor.ActorName.{ActorName};
 ghost use Rattle.net_base.specs.declared.actor.ActorName.TheVariants as name;

@@ -36,7 +36,7 @@ use Rattle.net_base.specs.SessionTable.{Table, used}
 use Rattle.net_base.specs.Steps.{Ask, Names, Fid, Play, Asks, Ends, conversation_of, fid_of, is_accepted, is_bound, play_of, stands, uses, read_event, bytes_in}
 use Rattle.history_laws.proofs.Ordered.{Each}
 use Rattle.history_laws.proofs.StepEvents as one
-use Rattle.history_laws.proofs.StepEvents.{Fits, IsExporting, IsNamed, IsNextEvent, IsOwn, Records, Says}
+use Rattle.history_laws.proofs.StepEvents.{Fits, IsExporting, IsNamed, IsNextEvent, Records, Says}
 
 module _ (h : ℕ) (P : ActorName → Event → Type 0) (R : Reply → Type 0) (fits : Fits P R) where
   abbrev Good : Play → Type 0

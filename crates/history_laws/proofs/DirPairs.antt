@@ -22,7 +22,7 @@ use Rattle.net_base.specs.declared.world.World.{World}
 use Rattle.net_base.specs.ActorStep.{Step, when}
 use Rattle.net_base.specs.Conversation.{is_sync}
 use Rattle.net_base.specs.Directory as directory
-use Rattle.net_base.specs.Directory.{Dir, Slot, Key, dir_step, pair_place, pair_of, in_slot, in_found_slot, first_slot, is_free, reserves, grants, grants_by, grants_pair, announces, binds, gets, listens, listens_at, next_call, withdraws, frees, bears, born_or_not, Taker, taker_of, home_at, refused_or_dropped, arrives_at, is_live_with, match_of, is_of, is_reserved, port_for}
+use Rattle.net_base.specs.Directory.{Dir, Slot, dir_step, pair_place, pair_of, in_found_slot, first_slot, is_free, reserves, grants, grants_by, grants_pair, announces, binds, gets, listens, listens_at, next_call, bears, born_or_not, Taker, taker_of, home_at, refused_or_dropped, arrives_at, is_live_with, is_of, is_reserved, port_for}
 use Rattle.net_base.specs.Routes.{Way, way}
 use Rattle.net_base.specs.Same.{same_addr, same_pair}
 use Rattle.net_base.specs.Stamped.{In}

@@ -1,5 +1,5 @@
 -- Entries are read exactly.
-use Rattle.std.proofs.Common.{◌≡◌, ℕ, Bool, true, false, if◌then◌else◌, List, [], ◌∷◌, ◌++◌, refl, sym, ap, subst, ◌∙◌, Option, Some, None, append_assoc, append-nil, codes}
+use Rattle.std.proofs.Common.{◌≡◌, ℕ, Bool, true, false, if◌then◌else◌, List, [], ◌∷◌, ◌++◌, refl, sym, ap, subst, ◌∙◌, Option, Some, None, append_assoc, codes}
 use Rattle.std.specs.Prelude.{bytes_eq, option_map}
 use Rattle.std.proofs.lemmas.Option.{none-some, same_Some}
 use Rattle.std.proofs.lemmas.Slice.Eq.{bytes_eq-Decides}
@@ -12,17 +12,16 @@ use Rattle.net_base.specs.declared.packet.BodyHeader.{BodyHeader}
 use Rattle.net_base.specs.declared.packet.BodyHeader.TheVariants as body
 use Rattle.net_base.specs.declared.packet.Header.{Header}
 use Rattle.net_base.specs.declared.reply.Reply.{Reply}
-use Rattle.net_base.specs.Numeral.{numeral}
-use Rattle.net_base.specs.Transcript.{actor_word, addr_word, body_words, emitted_words, ended_words, entry_words, event_words, header_words, number_or_dash, outcome_words, proto_word, reply_words, way_words, who_words}
+use Rattle.net_base.specs.Transcript.{body_words, emitted_words, ended_words, entry_words, event_words, header_words, outcome_words, reply_words, who_words}
 use Rattle.history_reader.specs.EntryReading as spec
 use Rattle.history_reader.specs.EntryReading.{Way, Who}
 use Rattle.history_reader.specs.EventRows.{event_of}
-use Rattle.history_reader.specs.Fields.{Words, Read, Reader, actor, behind, both, kind_of, long, long_or_dash, made, narrow, octet, place}
+use Rattle.history_reader.specs.Fields.{Words, Read, actor, behind, both, kind_of, long, long_or_dash, made, narrow, octet, place}
 use Rattle.history_reader.specs.ReplyRows.{reply_of}
 use Rattle.history_reader.specs.Spelling.{IsGood}
 use Rattle.history_reader.specs.Wide.{IfAny, IsLong, IsNarrow, IsOctet, IsPlace, IsWideActor, IsWideBody, IsWideEntry, IsWideHeader}
 use Rattle.history_reader.proofs.EventWords.{FitsEvent, equals, event_back, event_sound, plain_event}
-use Rattle.history_reader.proofs.Exact.{AreBare, AreRows, Exact, IsRow, bare_both, exact_both, exact_made, made_of, made_sound, made_told, row, rows_sound}
+use Rattle.history_reader.proofs.Exact.{AreBare, AreRows, Exact, bare_both, exact_both, exact_made, made_of, made_sound, made_told, row, rows_sound}
 use Rattle.history_reader.proofs.FieldWords.{actor_exact, actors, bare, dashes, kind_exact, kinds, long_exact, long_or_dash_exact, narrow_exact, numbers, octet_exact, place_exact, places}
 use Rattle.history_reader.proofs.ReplyWords.{Ends, FitsReply, reply_back, reply_sound}
 

@@ -1,19 +1,19 @@
 -- Events are read exactly.
-use Rattle.std.proofs.Common.{◌≡◌, ℕ, ◌<◌, ◌^◌, Bool, true, false, List, [], ◌∷◌, ◌++◌, refl, sym, ap, subst, ◌∙◌, arith, Option, Some, None, codes}
+use Rattle.std.proofs.Common.{◌≡◌, ℕ, List, [], ◌∷◌, ◌++◌, refl, sym, ap, subst, ◌∙◌, Option, Some, codes}
 use Rattle.std.proofs.lemmas.Option.{none-some, same_Some}
 use Rattle.net_base.specs.declared.address.Addr.{Addr}
 use Rattle.net_base.specs.declared.event.Event.{Event}
 use Rattle.net_base.specs.declared.event.Event.TheVariants as event
 use Rattle.net_base.specs.declared.names.FileName.{FileName}
 use Rattle.net_base.specs.declared.names.Mode.{Mode}
-use Rattle.net_base.specs.Plain.{AreBytes, IsClean, IsPlainEvent, IsWord}
+use Rattle.net_base.specs.Plain.{AreBytes, IsPlainEvent}
 use Rattle.net_base.specs.Paths.{file_name}
 use Rattle.net_base.specs.Transcript.{event_words, hex_word, mode_word}
 use Rattle.history_reader.specs.EventRows as spec
-use Rattle.history_reader.specs.Fields.{Words, Read, Reader, both, called, file, ip_or_star, long, made, mode_of, narrow, narrow_or_dash, octet, place, port, port_or_dash, port_or_star, row_of, text, with_rest, behind}
+use Rattle.history_reader.specs.Fields.{Words, Read, Reader, both, called, file, ip_or_star, long, made, mode_of, narrow, narrow_or_dash, octet, place, port, port_or_dash, port_or_star, text, with_rest, behind}
 use Rattle.history_reader.specs.Wide.{IfAny, IsLong, IsNarrow, IsOctet, IsPlace, IsPort, IsWideEvent}
 use Rattle.history_reader.proofs.Clean.{clean_free, free_clean}
-use Rattle.history_reader.proofs.Exact.{AreBare, AreRows, Back, Exact, IsBare, IsRow, back, bare_row, either_row, exact_both, made_of, made_told, paired, row, rows_sound}
+use Rattle.history_reader.proofs.Exact.{AreBare, AreRows, Back, Exact, IsBare, IsRow, back, bare_row, either_row, exact_both, made_of, paired, row, rows_sound}
 use Rattle.history_reader.proofs.FieldWords.{IsNamed, bare, dashes, file_exact, files, ip_or_star_exact, ip_stars, long_exact, mode_exact, modes, narrow_exact, narrow_or_dash_exact, numbers, octet_exact, place_exact, places, port_exact, port_or_dash_exact, port_or_star_exact, stars}
 use Rattle.history_reader.proofs.TextWords.{hexes, no_file, text_exact}
 

@@ -8,7 +8,7 @@ use Rattle.std.proofs.lemmas.Slice.Eq.{bytes_eq-Decides}
 use Rattle.net_base.specs.Addresses.{parts_at}
 use Rattle.history_reader.specs.EventRows.{otherwise}
 use Rattle.history_reader.specs.Fields.{Words, Read, Reader, behind, both, made, one, row_of, whole, with_rest}
-use Rattle.history_reader.proofs.Clean.{IsFree, AreFree, all_free_both, parts_back}
+use Rattle.history_reader.proofs.Clean.{IsFree}
 
 -- blanks and newlines stand in no word
 abbrev pub IsBare : List ℕ → Type 0

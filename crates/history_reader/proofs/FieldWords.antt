@@ -28,10 +28,10 @@ use Rattle.net_base.specs.StateWords.{state_word}
 use Rattle.net_base.specs.Transcript.{actor_word, addr_word, cause_number, ip_or_star, ip_word, kind_word, mode_word, number_or_dash, number_or_star}
 use Rattle.words.proofs.Numerals.{addresses_alike, decimal_is_numeral, numeral_by_steps}
 use Rattle.history_reader.specs.Fields as spec
-use Rattle.history_reader.specs.Fields.{Words, Read, Reader, both, made, one, row_of}
+use Rattle.history_reader.specs.Fields.{Words, Read, both, made, one}
 use Rattle.history_reader.specs.Wide.{IfAny, IsLong, IsNarrow, IsOctet, IsPlace, IsPort, IsWideActor}
 use Rattle.history_reader.proofs.Clean.{IsFree, AreFree, free_address, free_both, free_numeral, one_part, parts_back}
-use Rattle.history_reader.proofs.Exact.{AreBare, AreRows, Exact, ExactWord, IsBare, back, bare_row, exact_as, exact_both, exact_made, exact_one, exact_parts, exact_spelled, made_told, row, rows_sound}
+use Rattle.history_reader.proofs.Exact.{AreBare, AreRows, Exact, ExactWord, IsBare, bare_row, exact_as, exact_both, exact_made, exact_one, exact_parts, exact_spelled, made_told, row, rows_sound}
 use Rattle.history_reader.proofs.Numbers.{number_in-spelled, number-back, within-is, address-dotted, address-back}
 
 -- Numbers.

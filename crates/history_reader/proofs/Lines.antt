@@ -1,18 +1,17 @@
 -- Lines of entries: a line is good exactly where it is an entry's with its stamp.
-use Rattle.std.proofs.Common.{◌≡◌, ◌≢◌, ℕ, ◌+◌, ◌<◌, ◌≤◌, ◌^◌, ◌==◌, Bool, true, false, if◌then◌else◌, List, [], ◌∷◌, ◌++◌, ◌⊎◌, inl, inr, refl, sym, ap, subst, ◌∙◌, arith, Option, Some, None, append_assoc, append-nil}
+use Rattle.std.proofs.Common.{◌≡◌, ◌≢◌, ℕ, ◌+◌, ◌<◌, ◌^◌, ◌==◌, Bool, true, false, if◌then◌else◌, List, [], ◌∷◌, ◌++◌, ◌⊎◌, inl, inr, refl, sym, ap, subst, ◌∙◌, arith, Option, Some, None, append-nil}
 use Rattle.std.specs.List.{join_with_byte}
 use Rattle.std.proofs.lemmas.Bool.{false≢true, ne_eqb}
 use Rattle.std.proofs.lemmas.List.Splits.{join_with_byte-slice_split}
-use Rattle.std.proofs.lemmas.Option.{none-some, same_Some}
+use Rattle.std.proofs.lemmas.Option.{none-some}
 use Rattle.net_base.specs.declared.history.Entry.{Entry}
-use Rattle.net_base.specs.Addresses.{number_in, parts_at}
+use Rattle.net_base.specs.Addresses.{number_in}
 use Rattle.net_base.specs.Numeral.{numeral}
 use Rattle.net_base.specs.Transcript.{entry_words, line_of, spaced}
 use Rattle.history_reader.specs.EntryReading.{entry_of}
 use Rattle.history_reader.specs.Fields.{Words}
-use Rattle.history_reader.specs.LineReading as spec
 use Rattle.history_reader.specs.LineReading.{Verdict, Good, Refused, words_of, line_verdict, words_verdict, stamped, is_stamp, is_same, is_numeral, stamp_cause}
-use Rattle.history_reader.specs.Spelling.{IsGood, IsEntryLine}
+use Rattle.history_reader.specs.Spelling.{IsGood}
 use Rattle.history_reader.proofs.Clean.{IsFree, AreFree, free_both, free_numeral, parts_back, parts_free, parts_keep}
 use Rattle.history_reader.proofs.EntryWords.{FitsEntry, entry_bare, entry_good, entry_sound, entry_told}
 use Rattle.history_reader.proofs.Exact.{AreBare, IsBare}

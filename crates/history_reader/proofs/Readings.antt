@@ -1,6 +1,6 @@
 -- What is read of a text is what it spells, and its first bad line is the one that is told.
-use Rattle.std.proofs.Common.{◌≡◌, ◌≢◌, ℕ, zero, suc, ◌+◌, ◌<◌, ◌≤◌, ◌^◌, ◌==◌, Bool, true, false, cond, if◌then◌else◌, List, [], ◌∷◌, ◌++◌, ◌⊎◌, inl, inr, length, refl, sym, ap, subst, ◌∙◌, arith, Option, Some, None, append_assoc, append-nil, length-append, codes}
-use Rattle.std.specs.List.{concat, join_with_byte, onto_first}
+use Rattle.std.proofs.Common.{◌≡◌, ◌≢◌, ℕ, zero, suc, ◌+◌, ◌<◌, ◌≤◌, ◌^◌, ◌==◌, Bool, true, false, if◌then◌else◌, List, [], ◌∷◌, ◌++◌, ◌⊎◌, inl, inr, length, refl, sym, ap, subst, ◌∙◌, arith, Option, Some, None, append_assoc, append-nil, length-append, codes}
+use Rattle.std.specs.List.{concat, join_with_byte}
 use Rattle.std.proofs.lemmas.Bool.{false≢true}
 use Rattle.std.proofs.lemmas.List.Splits.{join_with_byte-slice_split}
 use Rattle.std.proofs.lemmas.Option.{none-some, same_Some}
@@ -18,7 +18,7 @@ use Rattle.history_reader.specs.Wide.{IsWide}
 use Rattle.history_reader.proofs.Clean.{IsFree, AreFree, first_part, one_part, parts_back, parts_free}
 use Rattle.history_reader.proofs.EntryWords.{entry_bare}
 use Rattle.history_reader.proofs.FieldWords.{bare, bare_numeral}
-use Rattle.history_reader.proofs.Lines.{IsRefused, Other, Told, body_free, body_of, line_other, line_refused, line_sound, line_told, whole_line}
+use Rattle.history_reader.proofs.Lines.{IsRefused, Told, body_free, body_of, line_other, line_refused, line_sound, line_told, whole_line}
 use Rattle.history_reader.proofs.Parts.{some_word}
 use Rattle.history_reader.proofs.Summaries.{FormExact, both_exact, end_exact, no_steps, steps_exact}
 

@@ -1,18 +1,16 @@
 -- Replies are read exactly.
-use Rattle.std.proofs.Common.{◌≡◌, ℕ, ◌<◌, ◌^◌, Bool, true, false, if◌then◌else◌, List, [], ◌∷◌, ◌++◌, get_or, refl, sym, ap, subst, ◌∙◌, arith, Option, Some, None, append_assoc, codes}
+use Rattle.std.proofs.Common.{◌≡◌, ℕ, Bool, true, false, if◌then◌else◌, List, [], ◌∷◌, ◌++◌, get_or, refl, ap, subst, ◌∙◌, arith, Some, None, codes}
 use Rattle.std.specs.Prelude.{bytes_eq}
 use Rattle.std.proofs.lemmas.Option.{none-some, same_Some}
 use Rattle.std.proofs.lemmas.Slice.Eq.{bytes_eq-Decides}
 use Rattle.net_base.specs.declared.actor.Call.{Call}
 use Rattle.net_base.specs.declared.address.Addr.{Addr}
-use Rattle.net_base.specs.declared.il.Cause.{Cause}
-use Rattle.net_base.specs.declared.il.StateName.{StateName}
 use Rattle.net_base.specs.declared.reply.Reply.{Reply}
 use Rattle.net_base.specs.declared.reply.Reply.TheVariants as reply
 use Rattle.net_base.specs.Numeral.{numeral}
 use Rattle.net_base.specs.Plain.{AreBytes, IsPlainReply}
 use Rattle.net_base.specs.Transcript.{call_words, calls_of, reply_words}
-use Rattle.history_reader.specs.Fields.{Words, Read, Reader, behind, both, cause_of, long, made, narrow, place, row_of, state_of, text, texts}
+use Rattle.history_reader.specs.Fields.{Words, Read, Reader, behind, both, cause_of, long, made, narrow, place, state_of, text, texts}
 use Rattle.history_reader.specs.ReplyRows as spec
 use Rattle.history_reader.specs.Wide.{AreWideCalls, IsLong, IsNarrow, IsPlace, IsWideReply}
 use Rattle.history_reader.proofs.Exact.{AreBare, AreRows, Back, Exact, IsBare, IsRow, back, bare_row, exact_both, made_of, made_sound, made_told, row, rows_sound}

@@ -1,13 +1,12 @@
 -- Lines of a summary: each test passes exactly the lines of its form.
-use Rattle.std.proofs.Common.{◌≡◌, ℕ, ◌+◌, ◌%◌, ◌<◌, ◌==◌, Bool, true, false, ◌&&◌, if◌then◌else◌, List, [], ◌∷◌, ◌++◌, ◌⊎◌, inl, inr, refl, sym, ap, subst, ◌∙◌, arith, Option, Some, None, append_assoc, append-nil, codes}
+use Rattle.std.proofs.Common.{◌≡◌, ℕ, ◌+◌, Bool, true, false, if◌then◌else◌, List, [], ◌∷◌, ◌++◌, inl, inr, refl, sym, ap, subst, ◌∙◌, arith, Option, Some, None, append_assoc, codes}
 use Rattle.std.specs.Prelude.{bytes_eq}
 use Rattle.std.specs.List.{join_with_byte}
 use Rattle.std.specs.Option.{option_and_then}
-use Rattle.std.proofs.lemmas.Bool.{false≢true, ne_eqb}
+use Rattle.std.proofs.lemmas.Bool.{false≢true}
 use Rattle.std.proofs.lemmas.List.Splits.{join_with_byte-slice_split}
 use Rattle.std.proofs.lemmas.Option.{none-some, same_Some}
 use Rattle.std.proofs.lemmas.Slice.Eq.{bytes_eq-Decides}
-use Rattle.net_base.specs.Addresses.{parts_at}
 use Rattle.net_base.specs.Numeral.{numeral}
 use Rattle.net_base.specs.Summary.{both_line, end_line, steps_line}
 use Rattle.net_base.specs.Transcript.{spaced}
@@ -15,10 +14,10 @@ use Rattle.history_reader.specs.EntryReading.{behind_word}
 use Rattle.history_reader.specs.Fields.{Words}
 use Rattle.history_reader.specs.LineReading.{behind_end, behind_number, both_passed, end_passed, is_both, is_end, is_end_word, is_numeral, is_steps, is_whole, steps_passed, words_of}
 use Rattle.history_reader.specs.SummaryText.{IsBothLine, IsEndLine, IsEndWord, IsStepsLine}
-use Rattle.history_reader.proofs.Clean.{IsFree, free_both, free_numeral}
+use Rattle.history_reader.proofs.Clean.{IsFree, free_both}
 use Rattle.history_reader.proofs.EntryWords.{word_sound}
 use Rattle.history_reader.proofs.Exact.{AreBare, IsBare}
-use Rattle.history_reader.proofs.FieldWords.{bare, bare_numeral, free, no_word}
+use Rattle.history_reader.proofs.FieldWords.{bare, bare_numeral, no_word}
 use Rattle.history_reader.proofs.Lines.{joined_spaced, spaced_free, bare_free, words_back}
 use Rattle.history_reader.proofs.Values.{numeral_is, numeral_spelled, value}
 

@@ -1,5 +1,5 @@
 -- Texts in hexadecimal are read exactly.
-use Rattle.std.proofs.Common.{◌≡◌, ℕ, ◌+◌, ◌*◌, ◌/◌, ◌%◌, ◌<◌, ◌==◌, Bool, true, false, List, [], ◌∷◌, ◌++◌, refl, sym, ap, subst, ◌∙◌, arith, Option, Some, None, append_assoc, append-nil, if◌then◌else◌, codes}
+use Rattle.std.proofs.Common.{◌≡◌, ℕ, ◌+◌, ◌*◌, ◌/◌, ◌%◌, ◌<◌, Bool, true, false, List, [], ◌∷◌, ◌++◌, refl, sym, ap, subst, ◌∙◌, arith, Option, Some, None, append_assoc, if◌then◌else◌, codes}
 use Rattle.std.specs.Prelude.{bytes_eq, nat_lt, option_map}
 use Rattle.std.specs.List.{join_with_byte, list_all}
 use Rattle.std.proofs.lemmas.Bool.{true≢false}
@@ -11,14 +11,14 @@ use Rattle.net_base.specs.declared.names.FileName.TheVariants as file
 use Rattle.net_base.specs.Addresses.{parts_at}
 use Rattle.net_base.specs.Hexadecimal.{hex_byte, hex_bytes, hex_digit, hex_digits, hex_text, hex_value, hex_word}
 use Rattle.net_base.specs.Paths.{file_name, file_named}
-use Rattle.net_base.specs.Plain.{AreBytes, AreLines, IsLine}
+use Rattle.net_base.specs.Plain.{AreBytes, AreLines}
 use Rattle.net_base.specs.Transcript.{lines_of}
 use Rattle.net_base.specs.World.{is_byte}
 use Rattle.history_reader.specs.Fields as spec
-use Rattle.history_reader.specs.Fields.{Words, one}
+use Rattle.history_reader.specs.Fields.{Words}
 use Rattle.history_reader.specs.Wide.{AreByteLines}
-use Rattle.history_reader.proofs.Clean.{IsFree, AreFree, first_part, free_hex, free_line, line_free, parts_free}
-use Rattle.history_reader.proofs.Exact.{Exact, ExactWord, IsBare, exact_one}
+use Rattle.history_reader.proofs.Clean.{AreFree, first_part, free_hex, free_line, line_free, parts_free}
+use Rattle.history_reader.proofs.Exact.{Exact, ExactWord, exact_one}
 use Rattle.history_reader.proofs.FieldWords.{file_sound}
 use Rattle.history_reader.proofs.Hexes.{digit-is, hex-back, hex-spelled}
 

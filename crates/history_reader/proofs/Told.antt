@@ -4,7 +4,7 @@ use Rattle.std.specs.Prelude.{Result, Ok, Err, IfOk, IfErr}
 use Rattle.net_base.specs.declared.history.Entry.{Entry}
 use Rattle.history_reader.specs.declared.fault.LineError.{LineError}
 use Rattle.history_reader.specs.declared.fault.LineError.TheVariants as error
-use Rattle.history_reader.specs.LineReading.{Bad, Reading, TellsReading, Whole, reading}
+use Rattle.history_reader.specs.LineReading.{Bad, TellsReading, Whole, reading}
 use Rattle.history_reader.specs.Spelling.{IsBad, Spells}
 use Rattle.history_reader.specs.Told.{Refuses, Tells, TellsBad}
 use Rattle.history_reader.proofs.Readings.{bad_read, bad_whole, cause_in, entries_in, line_in, read_bad, read_spelled, spelled_read, summary_in}

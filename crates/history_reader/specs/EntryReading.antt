@@ -10,7 +10,7 @@ use Rattle.net_base.specs.declared.packet.BodyHeader.TheVariants as body
 use Rattle.net_base.specs.declared.packet.Header.{Header}
 use Rattle.net_base.specs.declared.reply.Reply.{Reply}
 use Rattle.history_reader.specs.EventRows.{event_of}
-use Rattle.history_reader.specs.Fields.{Words, Read, Reader, actor, behind, both, kind_of, long, long_or_dash, made, narrow, octet, place, row_of}
+use Rattle.history_reader.specs.Fields.{Words, Reader, actor, behind, both, kind_of, long, long_or_dash, made, narrow, octet, place, row_of}
 use Rattle.history_reader.specs.ReplyRows.{reply_of}
 
 -- Headers.

@@ -4,8 +4,7 @@ use Rattle.net_base.specs.declared.address.Addr.{Addr}
 use Rattle.net_base.specs.declared.event.Event.{Event}
 use Rattle.net_base.specs.declared.event.Event.TheVariants as event
 use Rattle.net_base.specs.declared.names.FileName.{FileName}
-use Rattle.net_base.specs.declared.names.Mode.{Mode}
-use Rattle.history_reader.specs.Fields.{Words, Read, Reader, both, called, file, ip_or_star, long, made, mode_of, narrow, narrow_or_dash, octet, place, port, port_or_dash, port_or_star, row_of, text}
+use Rattle.history_reader.specs.Fields.{Read, Reader, both, called, file, ip_or_star, long, made, mode_of, narrow, narrow_or_dash, octet, place, port, port_or_dash, port_or_star, row_of, text}
 
 -- this, or else that
 abbrev pub otherwise : {X : Type 0} → Read X → Read X → Read X

@@ -1,5 +1,5 @@
 -- What a printed history says, and where it is bad.
-use Rattle.std.specs.Prelude.{◌≡◌, ◌≢◌, ℕ, ◌+◌, ◌<◌, List, [], ◌∷◌, ◌++◌, ◌⊎◌, length, Option, Some, None}
+use Rattle.std.specs.Prelude.{◌≡◌, ◌≢◌, ℕ, ◌+◌, ◌<◌, List, [], ◌++◌, ◌⊎◌, length, Option, Some, None}
 use Rattle.std.specs.List.{concat}
 use Rattle.net_base.specs.declared.history.Entry.{Entry}
 use Rattle.net_base.specs.Plain.{IsPlain, IsPlainEvent, IsPlainReply}

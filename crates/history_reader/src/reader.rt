@@ -1,7 +1,6 @@
 //! The text of a history, line by line.
-ghost use Rattle.std.specs.Prelude.{◌≡◌, ◌+◌, ◌<◌, ◌^◌, IfOk, IfErr, List, ℕ, Option, Some, length};
+ghost use Rattle.std.specs.Prelude.{◌≡◌, ◌+◌, ◌<◌, ◌^◌, IfOk, IfErr, List, ℕ, Option, Some};
 ghost use Rattle.net_base.specs.declared.history.Entry.{Entry};
-ghost use Rattle.net_base.specs.Addresses.{parts_at};
 ghost use Rattle.history_reader.specs.LineReading as spec;
 ghost use Rattle.history_reader.specs.Spelling.{Spells, IsBad};
 ghost use Rattle.history_reader.specs.Told.{Tells, TellsBad, Refuses};

@@ -1,5 +1,5 @@
 //! The lines of a summary, whatever it tells.
-ghost use Rattle.std.specs.Prelude.{◌≡◌, ◌+◌, ◌<◌, ◌^◌, Some, None, MatchOption, IfOk, IfErr, codes};
+ghost use Rattle.std.specs.Prelude.{◌≡◌, ◌+◌, ◌<◌, ◌^◌, Some, None, MatchOption, IfOk, IfErr};
 ghost use Rattle.net_base.specs.Addresses.{parts_at};
 ghost use Rattle.history_reader.specs.LineReading as spec;
 

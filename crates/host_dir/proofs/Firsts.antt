@@ -1,10 +1,8 @@
 -- The first slot that passes a test.
 use Rattle.std.proofs.Common.{◌≡◌, ℕ, zero, suc, ◌+◌, ◌<◌, Bool, true, false, cond, List, [], ◌∷◌, Option, Some, None, drop, get_or, slice_get, length, refl, ap, sym, subst, ◌∙◌, arith}
-use Rattle.std.specs.Prelude.{◌⊎◌}
 use Rattle.std.specs.List.{position_from}
 use Rattle.std.specs.Option.{option_map}
 use Rattle.std.proofs.lemmas.Option.{none-some, same_Some, get_or_from_slice_get, slice_get_read}
-use Rattle.std.proofs.lemmas.Bool.{true≢false}
 use Rattle.net_base.specs.Directory.{Slot, first_slot, free_slot}
 use Rattle.host_dir.specs.Found.{found_at, numbered, slot_at}
 

@@ -1,5 +1,5 @@
 -- Which works have an answer.
-use Rattle.std.proofs.Common.{◌≡◌, ℕ, zero, suc, ◌∙◌, Bool, true, false, is_some, List, [], ◌∷◌, length, map, Option, Some, None, slice_get, nat_lt, refl, arith}
+use Rattle.std.proofs.Common.{◌≡◌, ℕ, zero, suc, ◌∙◌, Bool, true, false, is_some, List, [], ◌∷◌, length, Option, Some, None, slice_get, nat_lt, refl, arith}
 use Rattle.net_base.specs.declared.address.Proto.{Proto}
 use Rattle.net_base.specs.declared.event.Event.{Event}
 use Rattle.net_base.specs.declared.event.Event.TheVariants as event
@@ -7,7 +7,7 @@ use Rattle.net_base.specs.declared.history.With.{With}
 use Rattle.net_base.specs.declared.history.With.TheVariants as given
 use Rattle.net_base.specs.declared.world.World.{World}
 use Rattle.net_base.specs.ActorStep.{Step, when}
-use Rattle.net_base.specs.Directory.{Dir, Slot, dir_step, in_found_slot, is_of, listens}
+use Rattle.net_base.specs.Directory.{Dir, Slot, dir_step, in_found_slot, is_of}
 use Rattle.host_dir.specs.Ready.{is_ready}
 
 past_none : (n : ℕ) → nat_lt n 0 ≡ false

@@ -1,8 +1,7 @@
 -- Rows of the table.
-use Rattle.std.proofs.Common.{◌≡◌, ℕ, ◌==◌, Result, Ok, Err, Bool, true, Option, Some, None, refl, ap, ◌∙◌, arith, slice_get, if◌then◌else◌}
+use Rattle.std.proofs.Common.{◌≡◌, ℕ, ◌==◌, Result, Ok, Err, true, Option, Some, None, refl, arith, slice_get}
 use Rattle.std.specs.Prelude.{IfOk, OnErr}
 use Rattle.net_base.specs.declared.address.Addr.{Addr}
-use Rattle.net_base.specs.ActorStep.{Step}
 use Rattle.net_base.specs.Directory.{Dir, Home, Slot, grants, grants_by, in_slot, is_reserved, port_for}
 use Rattle.net_base.specs.Routes.{way}
 use Rattle.host_dir.specs.Ports.{drawn}

@@ -1,6 +1,5 @@
 -- What a birth stands on.
-use Rattle.std.proofs.Common.{◌≡◌, ◌≢◌, ℕ, ◌<◌, ◌&&◌, not, Bool, true, false, List, Option, Some, None, is_none, nat_lt, length, refl, ap, sym, ◌∙◌, arith}
-use Rattle.std.proofs.lemmas.Option.{none-some, same_Some}
+use Rattle.std.proofs.Common.{◌≡◌, ◌≢◌, ℕ, ◌<◌, not, true, false, List, Option, Some, None, is_none, length, refl, ap, sym, ◌∙◌, arith}
 use Rattle.std.proofs.lemmas.Bool.{and_parts, false≢true, true≢false}
 use Rattle.std.proofs.lemmas.Bool.Decides.{nat_tests}
 use Rattle.net_base.specs.declared.address.Addr.{Addr}
@@ -12,9 +11,9 @@ use Rattle.net_base.specs.Directory.{Dir, Slot, Key, Exactly, ByPort, ByAny, fir
 use Rattle.net_base.specs.Mirror.{mirror}
 use Rattle.net_base.specs.Same.{same_pair}
 use Rattle.host_dir.specs.declared.slots.TakerAt.{TakerAt}
-use Rattle.host_dir.specs.Found.{found_at, numbered, slot_at}
+use Rattle.host_dir.specs.Found.{found_at, slot_at}
 use Rattle.host_dir.specs.Taking.{Takes, may_take}
-use Rattle.host_dir.proofs.Firsts.{passes_at, slot_found}
+use Rattle.host_dir.proofs.Firsts.{passes_at}
 
 none_is : {A : Type 0} (o : Option A) → is_none o ≡ true → o ≡ None
 none_is None is = refl

@@ -1,7 +1,6 @@
 //! A directory.
-ghost use Rattle.std.specs.Prelude.{◌≡◌, ◌≢◌, ◌<◌, ℕ, length, is_some, slice_get, true, None, Some, IfOk, IfSome, OnErr, OnOk, IsTrue};
+ghost use Rattle.std.specs.Prelude.{◌≡◌, ◌<◌, ℕ, length, is_some, slice_get, true, None, Some, IfOk, IfSome, OnErr, IsTrue};
 ghost use Rattle.std.specs.Option.{option_map};
-ghost use Rattle.net_base.specs.declared.il.StateName.TheVariants as state_name;
 ghost use Rattle.net_base.specs.declared.reply.Reply.TheVariants as reply;
 ghost use Rattle.net_base.specs.declared.world.World.{World as AnyWorld};
 ghost use Rattle.net_base.specs.declared.names.Node.TheVariants as node;
@@ -13,7 +12,6 @@ ghost use Rattle.net_base.specs.Paths.{names};
 ghost use Rattle.net_base.specs.Routes.{way};
 ghost use Rattle.host_dir.specs.Found.{slot_at, taker_at};
 ghost use Rattle.host_dir.specs.Kept.{Gives, IsDirOf, Leaves, Stays, StepMayWant, Steps, Wants};
-ghost use Rattle.host_dir.specs.Ports.{drawn};
 ghost use Rattle.host_dir.specs.Ready.{is_ready, takes};
 ghost use Rattle.host_dir.specs.Taking.{Takes, chosen, may_take};
 

@@ -3,7 +3,6 @@ use Rattle.std.proofs.Common.{◌≡◌, ◌++◌, List, [], ◌∷◌, Option, 
 use Rattle.net_base.specs.declared.reply.Reply.{Reply}
 use Rattle.net_base.specs.declared.world.Script.{Script}
 use Rattle.net_base.specs.declared.world.World.{World}
-use Rattle.net_base.specs.Stamped.{In}
 use Rattle.net_base.specs.Steps.{Names}
 use Rattle.net_base.specs.Tasks.{Asking, Tasks}
 use Rattle.net_base.specs.Versions.{Tuples}

@@ -1,5 +1,5 @@
 //! The calm clock: it may move where no caller can go on, and for that its guest gets the numbers of all callers.
-ghost use Rattle.std.specs.Prelude.{◌≡◌, ◌<◌, ◌++◌, ◌∷◌, ℕ, List, Some, None, length, option_map, slice_get, slice_set, IfOk, IfSome, IsNone, OnOk};
+ghost use Rattle.std.specs.Prelude.{◌≡◌, ◌<◌, ◌++◌, ◌∷◌, Some, None, length, option_map, slice_get, slice_set, IfOk, IfSome, IsNone, OnOk};
 ghost use Rattle.net_base.specs.declared.world.Script.{Script as AnyScript};
 ghost use Rattle.net_base.specs.Callers.{IsClock, IsScript, caller_of};
 ghost use Rattle.net_base.specs.Next.{next_by};

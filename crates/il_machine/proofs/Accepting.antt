@@ -6,7 +6,6 @@ use Rattle.net_base.specs.Timer.{Timer}
 use Rattle.net_base.specs.IlEnd.{End, rstart_of, backlog, early_at, without, becomes_early, comes_in_turn, come_in_turn, accepts, acked_to, hears, hears_ack, moves, acks}
 use Rattle.il_machine.specs.InTurn.{in_turn, with_turned}
 use Rattle.il_machine.specs.Windows.{AreWithin, Windows, rstart_kept, windows_of}
-use Rattle.il_machine.specs.Stands.{is_kept}
 use Rattle.il_machine.proofs.InTurn.{moves_in_turn, none_moves}
 use Rattle.il_machine.proofs.Near.{none_below}
 

@@ -1,5 +1,5 @@
 -- What is early moves in turn.
-use Rattle.std.proofs.Common.{◌≡◌, ℕ, zero, suc, ◌+◌, ◌≤◌, List, [], ◌∷◌, ◌++◌, length, Option, Some, None, refl, arith, ap, sym, ◌∙◌, subst, append_assoc, append-nil, length-append}
+use Rattle.std.proofs.Common.{◌≡◌, ℕ, zero, suc, ◌+◌, List, [], ◌∷◌, ◌++◌, length, Option, Some, None, refl, arith, ap, sym, ◌∙◌, append_assoc, append-nil, length-append}
 use Rattle.net_base.specs.IlEnd.{End, Early, early_at, without, comes_in_turn, come_in_turn}
 use Rattle.il_machine.specs.InTurn.{Turned, in_turn, next_of, with_turned}
 use Rattle.il_machine.proofs.Near.{one_less}

@@ -1,5 +1,5 @@
 -- What a question with data is answered by.
-use Rattle.std.proofs.Common.{◌≡◌, ℕ, Bool, true, false, List, length, subst, Option, Some, None, refl, ap, sym, ◌∙◌, nat_le, if◌then◌else◌, is_some}
+use Rattle.std.proofs.Common.{◌≡◌, ℕ, Bool, true, false, length, subst, Option, Some, None, refl, ap, sym, ◌∙◌, nat_le, if◌then◌else◌, is_some}
 use Rattle.net_base.specs.declared.il.IlKind.{IlKind}
 use Rattle.net_base.specs.declared.il.IlKind.TheVariants.{Sync, Data, DataQuery, Ack, Query, State, Close}
 use Rattle.net_base.specs.declared.il.IlMsg.{IlMsg}

@@ -1,11 +1,11 @@
 -- What is unread of the messages that were got.
-use Rattle.std.proofs.Common.{◌≡◌, ℕ, zero, suc, ◌+◌, ◌-◌, ◌<◌, ◌≤◌, Bool, true, false, List, [], ◌∷◌, ◌++◌, length, take, drop, Option, Some, None, refl, arith, ap, sym, ◌∙◌, subst, nat_lt, if◌then◌else◌, length-append, length-drop}
+use Rattle.std.proofs.Common.{◌≡◌, ℕ, ◌+◌, ◌-◌, ◌<◌, ◌≤◌, Bool, true, false, List, [], ◌∷◌, ◌++◌, length, drop, refl, arith, ap, sym, ◌∙◌, subst, nat_lt, if◌then◌else◌, length-append, length-drop}
 use Rattle.std.proofs.lemmas.Bool.Decides.{nat_tests}
-use Rattle.std.proofs.lemmas.List.{drop-append-le, drop-drop, drop_all, drop_more}
+use Rattle.std.proofs.lemmas.List.{drop-append-le, drop-drop, drop_more}
 use Rattle.std.specs.List.{slice_index_or}
-use Rattle.il_queues.specs.Reading.{Waiting, IsCut, bytes_read, cut_first, first_bytes, left_after}
+use Rattle.il_queues.specs.Reading.{Waiting, IsCut, cut_first, left_after}
 use Rattle.il_queues.specs.Reading as reading
-use Rattle.net_base.specs.IlEnd.{End, Early}
+use Rattle.net_base.specs.IlEnd.{End}
 use Rattle.net_base.specs.IlTable.{first_unread, has_unread, reads}
 use Rattle.il_machine.specs.InTurn.{Turned, with_turned}
 use Rattle.il_machine.specs.Windows.{Windows, unread_of, windows_of}

@@ -1,7 +1,7 @@
 -- What is kept stands for some end of the definitions.
-use Rattle.std.proofs.Common.{◌≡◌, ℕ, zero, suc, ◌+◌, ◌-◌, ◌≤◌, ◌^◌, ◌<◌, List, [], ◌∷◌, ◌++◌, length, drop, replicate, refl, arith, ap, sym, ◌∙◌, subst, length-append}
+use Rattle.std.proofs.Common.{◌≡◌, ℕ, ◌+◌, ◌-◌, ◌^◌, ◌<◌, List, [], ◌∷◌, ◌++◌, length, drop, replicate, refl, arith, ap, sym, ◌∙◌, length-append}
 use Rattle.std.proofs.lemmas.List.{drop_at, length-replicate}
-use Rattle.il_queues.specs.Reading.{Waiting, IsCut, cut_first}
+use Rattle.il_queues.specs.Reading.{cut_first}
 use Rattle.net_base.specs.IlEnd.{End}
 use Rattle.il_machine.specs.Windows.{Windows, windows_of}
 use Rattle.il_machine.specs.Stands.{StandsFor, StandsForSome, IsShort}

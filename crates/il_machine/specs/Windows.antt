@@ -1,5 +1,5 @@
 -- What an IL end keeps of the end of the definitions: windows of its messages, and how many there were.
-use Rattle.std.specs.Prelude.{◌≡◌, ℕ, zero, suc, ◌+◌, ◌<◌, ◌≤◌, Bool, List, [], ◌∷◌, length, drop, Option, Some, None, unwrap_or}
+use Rattle.std.specs.Prelude.{◌≡◌, ℕ, ◌+◌, ◌<◌, ◌≤◌, Bool, List, [], ◌∷◌, length, drop, Option, None, unwrap_or}
 use Rattle.net_base.specs.declared.il.Cause.{Cause}
 use Rattle.net_base.specs.declared.il.IlKind.{IlKind}
 use Rattle.net_base.specs.declared.il.IlKind.TheVariants.{Sync}
@@ -7,7 +7,7 @@ use Rattle.net_base.specs.declared.il.IlMsg.{IlMsg}
 use Rattle.net_base.specs.declared.il.IlState.{IlState}
 use Rattle.net_base.specs.Number.{id_of}
 use Rattle.net_base.specs.Timer.{Timer}
-use Rattle.net_base.specs.IlEnd.{End, Early, early_at, message, without}
+use Rattle.net_base.specs.IlEnd.{End, Early, early_at, message}
 use Rattle.il_queues.specs.Reading.{Waiting, IsCut, cut_first}
 
 pub record Windows : Type 0 where

@@ -7,7 +7,7 @@ ghost use Rattle.net_base.specs.declared.il.Cause.TheVariants as cause;
 ghost use Rattle.il_machine.specs.declared.ask.Ask.TheVariants as ask;
 ghost use Rattle.il_machine.specs.declared.fault.HungupError.TheVariants as fault;
 ghost use Rattle.net_base.specs.IlEnd as spec;
-ghost use Rattle.net_base.specs.IlEnd.{End, early_at, silent, retransmits};
+ghost use Rattle.net_base.specs.IlEnd.{early_at, silent, retransmits};
 ghost use Rattle.net_base.specs.IlTable as table;
 ghost use Rattle.il_machine.specs.InTurn.{in_turn, with_turned};
 ghost use Rattle.il_machine.specs.Windows as windows;

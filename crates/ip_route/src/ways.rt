@@ -1,6 +1,5 @@
 //! The ways of a host's packets.
-ghost use Rattle.std.specs.Prelude.{◌≡◌, ◌<◌, ◌≤◌, ◌^◌, find, length, map, slice_get, IfOk, IfSome};
-ghost use Rattle.std.specs.Option.{option_map};
+ghost use Rattle.std.specs.Prelude.{◌≡◌, ◌<◌, ◌^◌, length, map, IfOk, IfSome};
 ghost use Rattle.net_base.specs.declared.world.HostSpec.{HostSpec as AnyHost};
 ghost use Rattle.net_base.specs.Routes as spec;
 ghost use Rattle.ip_route.specs.Kept.{AreWaysOf, is_own, out_of, own_out, station_among, stands_on, way_to};

@@ -1,6 +1,6 @@
 // A journal that was just made, before the run has a name.
-ghost use Rattle.std.specs.Prelude.{◌≡◌, ◌<◌, ◌≤◌, [], map, length, IfOk, vec_len};
-ghost use Rattle.journal.specs.Rule.{newcomer, caller_numbers};
+ghost use Rattle.std.specs.Prelude.{◌≡◌, ◌<◌, ◌≤◌, [], length, IfOk};
+ghost use Rattle.journal.specs.Rule.{caller_numbers};
 ghost use Rattle.journal.specs.Tokens.{Distinct, AreBlank};
 
 use crate::law::{Law, Naming, Roster, View};

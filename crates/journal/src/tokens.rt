@@ -1,11 +1,10 @@
 // What callers and actors hold: passes and books.
-ghost use Rattle.std.specs.Prelude.{◌≡◌, ◌≢◌, ◌+◌, ◌<◌, ◌≤◌, ◌++◌, slice_index, max, filter, not, length, vec_len, vec_capacity, false, OnOk, OnErr, IsOk};
+ghost use Rattle.std.specs.Prelude.{◌≡◌, ◌+◌, ◌<◌, ◌≤◌, slice_index, max, filter, not, length, vec_len, vec_capacity, false, OnOk, OnErr};
 ghost use Rattle.std.specs.Prelude.{ℕ, List};
-ghost use mathlib.Core.List.{IsPrefix};
 ghost use Rattle.net_base.specs.declared.noted.Noted.{Noted};
 ghost use Rattle.net_base.specs.declared.noted.Number.{Number};
 ghost use Rattle.net_base.specs.declared.noted.Number.TheVariants.{Caller};
-ghost use Rattle.net_base.specs.Stamped.{matches, clock, at, In};
+ghost use Rattle.net_base.specs.Stamped.{matches, clock};
 ghost use Rattle.journal.specs.Rule.{Timely, same_number};
 ghost use Rattle.journal.specs.Tokens.{noted, MayRecord, Recorded, Looked, LookedWith, Holds, HoldsAll, Met};
 

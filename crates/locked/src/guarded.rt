@@ -1,5 +1,5 @@
 //! What a lock guards: a machine beside the book that says how its state came about.
-ghost use Rattle.std.specs.Prelude.{◌≡◌, ℕ, ◌<◌, ◌^◌, List, length, true, false, Some, is_some, option_map, IfOk, OnErr, IfErr, MatchOption};
+ghost use Rattle.std.specs.Prelude.{◌≡◌, ℕ, ◌<◌, ◌^◌, List, length, false, Some, is_some, MatchOption};
 ghost use Rattle.net_base.specs.declared.noted.Noted.{Noted};
 ghost use Rattle.net_base.specs.Stamped.{moment};
 ghost use Rattle.journal.specs.Tokens.{Holds, LookedWith, MayRecord, Recorded, noted};

@@ -1,5 +1,5 @@
 //! Actors behind locks.
-ghost use Rattle.std.specs.Prelude.{◌≡◌, ℕ, ◌<◌, ◌^◌, List, length, true, false, is_some, MatchOption};
+ghost use Rattle.std.specs.Prelude.{◌≡◌, ℕ, ◌<◌, ◌^◌, List, length, false, is_some, MatchOption};
 ghost use Rattle.net_base.specs.declared.actor.ActorName.TheVariants.{Clock};
 ghost use Rattle.net_base.specs.declared.noted.Noted.{Noted};
 ghost use Rattle.net_base.specs.Stamped.{same_actor, moment};

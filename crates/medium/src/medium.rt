@@ -1,5 +1,5 @@
 //! A medium.
-ghost use Rattle.std.specs.Prelude.{◌≡◌, ℕ, ◌+◌, ◌^◌, ◌<◌, ◌≤◌, ◌↔◌, ◌++◌, [], true, length, option_to_list, IfOk, IsFalse, IsSome, IsTrue, OnErr, OnOk, option_copied};
+ghost use Rattle.std.specs.Prelude.{◌≡◌, ◌+◌, ◌^◌, ◌<◌, ◌≤◌, ◌↔◌, ◌++◌, [], true, option_to_list, IfOk, IsFalse, IsSome, IsTrue, OnErr, OnOk, option_copied};
 ghost use Rattle.std.specs.VecDeque.{deque_capacity, deque_len};
 ghost use Rattle.medium.specs.OnFates.{next_number};
 ghost use Rattle.net_base.specs.declared.reply.Reply.TheVariants as reply;

@@ -1,10 +1,10 @@
 -- The question of a message, by the name that is read behind its header.
-use Rattle.std.proofs.Common.{◌≡◌, ℕ, ◌+◌, ◌<◌, ◌≤◌, ◌^◌, ◌==◌, Bool, cond, ◌&&◌, List, length, drop, Option, Some, None, Result, Ok, Err, refl, sym, ap, ◌∙◌, arith, subst, inl, inr, ◌⊎◌}
+use Rattle.std.proofs.Common.{◌≡◌, ℕ, ◌+◌, ◌<◌, ◌≤◌, ◌^◌, ◌==◌, Bool, cond, List, length, drop, Option, Some, None, Result, Ok, Err, refl, sym, ap, ◌∙◌, arith, subst, inl, inr}
 use Rattle.std.specs.Prelude.{◌↔◌, nat_le, option_and_then, IsErrOf, IfErr}
 use Rattle.std.proofs.lemmas.Bool.{and_right, ne_eqb}
 use Rattle.net_base.specs.Bytes.{word_at}
 use Rattle.net_base.specs.declared.question.Question.{Question}
-use Rattle.net_base.specs.DomainNames.{ReadsName, name_bytes}
+use Rattle.net_base.specs.DomainNames.{ReadsName}
 use Rattle.net_base.specs.DomainQuestions.{HasHeader, name_at_front, question_named, question_of}
 use Rattle.dns_text.proofs.Found.{name_short}
 use Rattle.dns_text.proofs.QuestionLaws.{is_found, is_read, read_at_front}

@@ -1,14 +1,14 @@
 -- Names in lower case are names.
-use Rattle.std.proofs.Common.{◌≡◌, ℕ, zero, suc, ◌+◌, ◌<◌, ◌≤◌, ◌==◌, Bool, true, false, cond, not, ◌&&◌, List, [], ◌∷◌, ◌++◌, length, get_or, take, map, Option, Some, None, refl, sym, ap, ◌∙◌, arith, length-append}
+use Rattle.std.proofs.Common.{◌≡◌, ℕ, zero, suc, ◌<◌, ◌==◌, Bool, true, false, cond, not, ◌&&◌, List, [], ◌∷◌, length, get_or, map, Some, None, refl, ap, ◌∙◌, arith, length-append}
 use Rattle.std.specs.Prelude.{nat_lt, nat_le, bytes_eq, filter, filter_map}
-use Rattle.std.specs.List.{list_all, slice_split, onto_first, cons_option}
-use Rattle.std.specs.Char.{is_ascii, to_ascii_lowercase}
+use Rattle.std.specs.List.{list_all, onto_first, cons_option}
+use Rattle.std.specs.Char.{to_ascii_lowercase}
 use Rattle.std.proofs.lemmas.Bool.{and_parts, and_from}
 use Rattle.std.proofs.lemmas.Bool.Decides.{nat_tests}
 use Rattle.std.proofs.lemmas.List.{length-map}
 use Rattle.net_base.specs.Addresses.{parts_at}
 use Rattle.net_base.specs.NdbBundle.{each_once}
-use Rattle.net_base.specs.DomainNames.{is_label, is_label_byte, is_name, label_bytes, labels_bytes, labels_of, lowered, name_bytes, name_in}
+use Rattle.net_base.specs.DomainNames.{is_label, is_label_byte, is_name, labels_bytes, labels_of, lowered, name_bytes, name_in}
 
 lower_dot : (b : ℕ) → (to_ascii_lowercase b == 46) ≡ (b == 46)
 lower_dot b = grind (arith, nat_tests)

@@ -1,19 +1,17 @@
 -- Runs of labels as they are read, and as they are spelled.
-use Rattle.std.proofs.Common.{◌≡◌, ℕ, zero, suc, ◌+◌, ◌-◌, ◌*◌, ◌/◌, ◌%◌, ◌^◌, ◌<◌, ◌≤◌, ◌==◌, Bool, true, false, cond, ◌&&◌, List, [], ◌∷◌, ◌++◌, length, get_or, take, drop, map, Option, Some, None, refl, sym, ap, ◌∙◌, arith, subst, append-nil, append_assoc, length-append}
+use Rattle.std.proofs.Common.{◌≡◌, ℕ, ◌+◌, ◌-◌, ◌*◌, ◌/◌, ◌%◌, ◌^◌, ◌<◌, ◌≤◌, ◌==◌, Bool, true, false, cond, ◌&&◌, List, [], ◌∷◌, ◌++◌, length, get_or, take, drop, Option, Some, None, refl, sym, ap, ◌∙◌, arith, subst, append-nil, append_assoc, length-append}
 use Rattle.std.specs.Prelude.{nat_lt, nat_le, option_and_then}
 use Rattle.std.specs.List.{list_all, join_with_byte}
-use Rattle.std.specs.Int.{bytes_high_first}
 use Rattle.std.specs.Char.{to_ascii_lowercase}
-use Rattle.std.proofs.lemmas.Bool.{true≢false, false≢true, and_parts, and_from, ltb-true, ltb-false, leb-true, le-ltb, eqb-true, eqb-false, eq-eqb, ne_eqb, le-leb}
-use Rattle.std.proofs.lemmas.List.{take_at, drop_at, take-append-drop, length-map, map-append, length-drop}
+use Rattle.std.proofs.lemmas.Bool.{false≢true, and_parts, and_from, ltb-false, leb-true, le-ltb, eqb-true, eq-eqb, ne_eqb, le-leb}
+use Rattle.std.proofs.lemmas.List.{take_at, drop_at, take-append-drop, length-map, map-append}
 use Rattle.std.proofs.lemmas.Option.{none-some, same_Some}
-use Rattle.net_base.specs.NdbText.{is_empty}
 use Rattle.wire_text.proofs.WireNumbers.{word_again}
 use Rattle.net_base.specs.DomainNames.{is_label, is_name, label_bytes, labels_bytes, lowered, name_bytes, name_text, pointer_bytes}
-use Rattle.dns_text.proofs.Found.{label_few, label_some}
+use Rattle.dns_text.proofs.Found.{label_few}
 use Rattle.ndb_dns.specs.declared.name.End.{End}
 use Rattle.ndb_dns.proofs.Sizes.{size_of}
-use Rattle.ndb_dns.specs.Runs.{Runs, allowed, behind_label, end_of, ending, label_of, may_point, pointer_behind, pointer_in, with_label, with_labels, zero_end}
+use Rattle.ndb_dns.specs.Runs.{Runs, allowed, behind_label, end_of, label_of, may_point, pointer_behind, pointer_in, with_label, with_labels, zero_end}
 
 -- ---- one label
 

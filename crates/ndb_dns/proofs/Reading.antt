@@ -1,15 +1,13 @@
 -- A name that is read by its first run of labels and by those to which pointers lead.
-use Rattle.std.proofs.Common.{◌≡◌, ℕ, ◌+◌, ◌-◌, ◌<◌, ◌≤◌, Bool, true, List, [], ◌∷◌, ◌++◌, length, drop, Option, Some, None, refl, sym, ap, ◌∙◌, arith, subst}
-use Rattle.std.specs.Prelude.{IfSome}
-use Rattle.std.specs.List.{list_all}
-use Rattle.net_base.specs.DomainNames.{ReadsName, Spells, is_label, is_name, name_text}
+use Rattle.std.proofs.Common.{◌≡◌, ℕ, ◌+◌, ◌-◌, ◌<◌, ◌≤◌, List, [], ◌∷◌, ◌++◌, length, drop, Option, Some, None, refl, sym, ap, ◌∙◌, arith, subst}
+use Rattle.net_base.specs.DomainNames.{ReadsName, Spells}
 use Rattle.dns_text.proofs.Found.{name_valid}
 use Rattle.ndb_dns.specs.declared.name.End.{End}
 use Rattle.ndb_dns.specs.declared.name.Run.{Run}
-use Rattle.ndb_dns.specs.Runs.{Adds, AddsLabels, AddsPointed, AddsRun, AreTooLong, HasNoRun, IsRun, Leads, LeadsToNone, Runs, behind_label, ending, label_of, with_label, with_labels}
+use Rattle.ndb_dns.specs.Runs.{AddsLabels, AddsPointed, AddsRun, AreTooLong, HasNoRun, Leads, LeadsToNone, Runs, behind_label, ending, label_of, with_label, with_labels}
 use Rattle.std.proofs.lemmas.Option.{none-some, same_Some}
 use Rattle.ndb_dns.proofs.Naming.{labels_longer, name_is_short, runs_once, runs_spelled, short_is_name, text_is, with_more}
-use Rattle.ndb_dns.proofs.Spelling.{Begins, Bytes, begin_with_run, both_valid, leads_valid, name_once, run_once, run_spells}
+use Rattle.ndb_dns.proofs.Spelling.{Bytes, begin_with_run, both_valid, leads_valid, run_once, run_spells}
 
 -- ---- labels in front
 

@@ -1,17 +1,17 @@
 -- Names by runs of labels are those that the grammar spells.
-use Rattle.std.proofs.Common.{◌≡◌, ℕ, suc, ◌+◌, ◌-◌, ◌^◌, ◌<◌, ◌≤◌, Bool, true, false, cond, ◌&&◌, List, [], ◌∷◌, ◌++◌, length, get_or, take, drop, Option, Some, None, refl, sym, ap, ◌∙◌, arith, subst, append-nil, append_assoc, length-append}
+use Rattle.std.proofs.Common.{◌≡◌, ℕ, ◌+◌, ◌-◌, ◌^◌, ◌<◌, ◌≤◌, Bool, true, cond, List, [], ◌∷◌, ◌++◌, length, get_or, take, drop, Option, Some, None, refl, sym, ap, ◌∙◌, arith, subst, append-nil, append_assoc, length-append}
 use Rattle.std.specs.Prelude.{nat_lt, nat_le, option_and_then}
 use Rattle.std.specs.List.{list_all}
 use Rattle.std.proofs.lemmas.Bool.{and_parts, and_from, lt-ltb, le-leb, ltb-true, leb-true}
 use Rattle.std.proofs.lemmas.List.{take_at, take-append-drop, length-drop, get_or-drop, get_or-append-add}
 use Rattle.std.proofs.lemmas.List.Folds.{list_all-append}
 use Rattle.std.proofs.lemmas.Option.{same_Some}
-use Rattle.net_base.specs.DomainNames.{Ended, Pointed, PointsBack, ReadsName, Spells, StandAt, is_label, is_name, labels_bytes, name_bytes, name_text, pointer_bytes}
+use Rattle.net_base.specs.DomainNames.{Ended, Pointed, PointsBack, ReadsName, Spells, StandAt, is_label, labels_bytes, name_bytes, name_text, pointer_bytes}
 use Rattle.dns_text.proofs.Found.{name_valid}
 use Rattle.ndb_dns.specs.declared.name.End.{End}
 use Rattle.ndb_dns.specs.declared.name.Run.{Run}
-use Rattle.ndb_dns.specs.Runs.{Adds, AddsPointed, AddsRun, HasNoRun, IsRun, Leads, LeadsToNone, Runs, allowed, end_of, ending, may_point, with_labels, zero_end}
-use Rattle.ndb_dns.proofs.Naming.{AreSpelled, ByPointer, ByZero, EndsBy, MayEnd, ends_by, labels_longer, may_end, name_is_short, no_label_at_pointer, pointer_is_read, runs_once, runs_spelled, short_is_name, spelled_runs, text_is, with_more}
+use Rattle.ndb_dns.specs.Runs.{IsRun, Leads, Runs, allowed, end_of, ending, may_point, zero_end}
+use Rattle.ndb_dns.proofs.Naming.{AreSpelled, ByPointer, ByZero, EndsBy, MayEnd, ends_by, may_end, no_label_at_pointer, pointer_is_read, runs_once, runs_spelled, spelled_runs}
 
 abbrev pub Bytes : List ℕ → Type 0
 Bytes bytes = (i : ℕ) → get_or bytes i 0 < 256

@@ -1,16 +1,15 @@
 -- The addresses that a system's own networks cover, found by first bits.
-use Rattle.std.proofs.Common.{◌≡◌, ℕ, ◌+◌, ◌<◌, ◌==◌, ◌||◌, ◌&&◌, nat_eq, Bool, true, false, cond, List, [], ◌∷◌, ◌++◌, length, get_or, take, refl, sym, ap, ◌∙◌, Option, Some, None, arith}
+use Rattle.std.proofs.Common.{◌≡◌, ℕ, ◌+◌, ◌<◌, ◌==◌, ◌||◌, ◌&&◌, nat_eq, Bool, true, false, cond, List, [], ◌∷◌, length, get_or, take, refl, sym, ap, ◌∙◌, Option, Some, None, arith}
 use Rattle.std.specs.Prelude.{filter, filter_map}
 use Rattle.std.specs.Option.{option_map_or}
 use Rattle.std.specs.List.{list_any, cons_option}
 use Rattle.std.proofs.lemmas.List.Folds.{list_any_more, Any-from_list_any, list_any_at}
 use Rattle.std.proofs.lemmas.Bool.Decides.{nat_tests}
 use Rattle.net_base.specs.Ndb.{NdbPair}
-use Rattle.net_base.specs.Networks.{Network, network_of, contains_address, own_networks, addresses_of, is_on, is_filled}
+use Rattle.net_base.specs.Networks.{Network, network_of, contains_address, is_on, is_filled}
 use Rattle.ndb_tuple.specs.Prefixes.{first_bits, prefix_of, is_prefix, is_on_prefix}
 use Rattle.ndb_tuple.specs.Places.{places_of}
-use Rattle.ndb_tuple.proofs.Covered.{same_truth, both, joined, equal, itself, same_any, any_wider, any_gives}
-use Rattle.ndb_tuple.proofs.Firsts.{turned}
+use Rattle.ndb_tuple.proofs.Covered.{same_truth, both, joined, equal, itself, any_wider, any_gives}
 use Rattle.ndb_index.specs.Nets.{has_prefix, has_length, places_kept, HasPlaces, HasAllLengths, is_covered}
 use Rattle.ndb_index.proofs.Own.{Db, Kept}
 

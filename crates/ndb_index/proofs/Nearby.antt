@@ -1,6 +1,6 @@
 -- What is near a system: the tuples at its spots, and those of its networks at their places.
-use Rattle.std.proofs.Common.{◌≡◌, ℕ, zero, suc, ◌+◌, ◌-◌, ◌<◌, ◌≤◌, ◌==◌, ◌||◌, ◌&&◌, nat_eq, Bool, true, false, cond, List, [], ◌∷◌, ◌++◌, length, get_or, take, map, refl, sym, ap, ◌∙◌, subst, Option, Some, None, arith, append-nil, append_assoc, length-append, unwrap_or}
-use Rattle.std.specs.Prelude.{option_map, option_and_then, option_to_list, filter, filter_map, flat_map, find, codes}
+use Rattle.std.proofs.Common.{◌≡◌, ℕ, zero, suc, ◌+◌, ◌-◌, ◌<◌, ◌≤◌, ◌==◌, ◌||◌, ◌&&◌, Bool, true, false, cond, List, [], ◌∷◌, ◌++◌, length, get_or, take, map, refl, sym, ap, ◌∙◌, subst, Option, Some, None, arith, append-nil, append_assoc, length-append, unwrap_or}
+use Rattle.std.specs.Prelude.{option_map, option_to_list, filter, filter_map, flat_map, codes}
 use Rattle.std.specs.Option.{option_map_or, option_or}
 use Rattle.std.specs.List.{list_any, cons_option, range_with_len, position_from}
 use Rattle.std.proofs.lemmas.Bool.Decides.{nat_tests}

@@ -1,25 +1,22 @@
 -- A system's own networks: their places, kept by first bits, and in order.
-use Rattle.std.proofs.Common.{◌≡◌, ℕ, zero, suc, ◌+◌, ◌-◌, ◌<◌, ◌≤◌, ◌==◌, ◌||◌, ◌&&◌, nat_eq, nat_lt, Bool, true, false, cond, List, [], ◌∷◌, ◌++◌, length, get_or, take, map, refl, sym, ap, ◌∙◌, subst, Option, Some, None, arith, append-nil, append_assoc, length-append, unwrap_or}
-use Rattle.std.specs.Prelude.{option_map, filter, filter_map, flat_map}
+use Rattle.std.proofs.Common.{◌≡◌, ℕ, ◌+◌, ◌-◌, ◌<◌, ◌≤◌, ◌==◌, ◌||◌, ◌&&◌, nat_eq, nat_lt, Bool, true, false, cond, List, [], ◌∷◌, ◌++◌, length, get_or, take, refl, sym, ap, ◌∙◌, Option, Some, None, arith}
 use Rattle.std.specs.Option.{option_map_or}
-use Rattle.std.specs.List.{list_any, range_with_len, AllByRecursion}
+use Rattle.std.specs.List.{list_any, AllByRecursion}
 use Rattle.std.specs.List.Sorted.{IsStrictlySortedBy}
-use Rattle.std.specs.Map.{lookup}
 use Rattle.std.specs.Ordering.{nat_cmp, match_ordering}
-use Rattle.std.specs.declared.cmp.Ordering.{Ordering}
 use Rattle.std.specs.declared.cmp.Ordering.TheVariants.{Less, Equal, Greater}
 use Rattle.std.specs.BTreeSet.{insert_key}
 use Rattle.std.proofs.lemmas.Bool.Decides.{nat_tests}
-use Rattle.std.proofs.lemmas.List.Folds.{list_any-append, Any-from_list_any, list_any_at}
+use Rattle.std.proofs.lemmas.List.Folds.{list_any-append}
 use Rattle.std.proofs.lemmas.List.{take_more}
 use Rattle.net_base.specs.Ndb.{NdbPair}
-use Rattle.net_base.specs.Networks.{Network, network_of, contains_address, is_filled}
+use Rattle.net_base.specs.Networks.{Network, network_of, contains_address}
 use Rattle.ndb_tuple.specs.declared.prefixes.Prefix.{Prefix}
-use Rattle.ndb_tuple.specs.Prefixes.{first_bits, is_prefix, same_prefix}
+use Rattle.ndb_tuple.specs.Prefixes.{first_bits, is_prefix}
 use Rattle.ndb_tuple.specs.Places.{places_of}
-use Rattle.ndb_tuple.proofs.Covered.{same_any, equal, itself, one_prefix}
+use Rattle.ndb_tuple.proofs.Covered.{same_any, equal, itself}
 use Rattle.ndb_tuple.proofs.Firsts.{turned}
-use Rattle.ndb_index.specs.Nets.{prefix, has_prefix, has_length, places_found, places_kept, place_noted, HasPlaces, HasAllLengths, is_among, is_own, own_places}
+use Rattle.ndb_index.specs.Nets.{prefix, has_prefix, has_length, places_kept, place_noted, HasPlaces, is_among, is_own, own_places}
 
 abbrev pub Db : Type 0
 Db = List (List (List NdbPair))

@@ -1,9 +1,9 @@
 -- Where each pair stands, by tuples and by pairs in a row.
-use Rattle.std.specs.Prelude.{ℕ, ◌+◌, ◌-◌, Bool, false, ◌==◌, List, [], ◌∷◌, ◌++◌, length, slice_get, Option, option_map, option_to_list, unwrap_or, if◌then◌else◌}
+use Rattle.std.specs.Prelude.{ℕ, ◌+◌, ◌-◌, Bool, false, ◌==◌, List, [], ◌∷◌, ◌++◌, length, slice_get, Option, option_map, option_to_list, if◌then◌else◌}
 use Rattle.std.specs.Option.{option_map_or}
 use Rattle.std.specs.List.{position_from}
 use Rattle.net_base.specs.Ndb.{NdbPair}
-use Rattle.net_base.specs.Search.{is_pair, line_has}
+use Rattle.net_base.specs.Search.{line_has}
 use Rattle.net_base.specs.Spots.{spot_at}
 use Rattle.net_base.specs.declared.ndb.spot.Spot.{Spot}
 

@@ -1,10 +1,10 @@
 -- Networks by their first bits, and what an index keeps of them.
-use Rattle.std.specs.Prelude.{◌≡◌, ℕ, ◌-◌, Bool, true, false, ◌&&◌, ◌||◌, ◌==◌, List, [], ◌∷◌, ◌++◌, nat_eq, nat_lt, not, length, Option, option_map, unwrap_or, filter_map, flat_map, if◌then◌else◌}
+use Rattle.std.specs.Prelude.{◌≡◌, ℕ, ◌-◌, Bool, false, ◌&&◌, ◌==◌, List, [], ◌∷◌, ◌++◌, nat_eq, Option, unwrap_or, flat_map, if◌then◌else◌}
 use Rattle.std.specs.Option.{option_map_or}
 use Rattle.std.specs.List.{list_any, range_with_len}
 use Rattle.std.specs.Map.{lookup}
 use Rattle.net_base.specs.Ndb.{NdbPair}
-use Rattle.net_base.specs.Networks.{Network, network_of, contains_address, is_filled}
+use Rattle.net_base.specs.Networks.{network_of, contains_address, is_filled}
 use Rattle.ndb_tuple.specs.declared.prefixes.Prefix.{Prefix}
 use Rattle.ndb_tuple.specs.Prefixes.{is_prefix, is_on_prefix, same_prefix, prefix_of}
 use Rattle.ndb_tuple.specs.Places.{places_of}

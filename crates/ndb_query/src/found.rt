@@ -1,5 +1,5 @@
 //! The tuples with a pair, and the values beside it, by one pass over the pairs.
-ghost use Rattle.std.specs.Prelude.{◌≡◌, ◌+◌, ◌<◌, ◌≤◌, ◌++◌, flat_map, length, map, IfOk, OnOk};
+ghost use Rattle.std.specs.Prelude.{◌≡◌, ◌+◌, ◌<◌, ◌≤◌, flat_map, length, map, IfOk};
 ghost use Rattle.net_base.specs.Search.{tuples_with, beside, all_beside};
 ghost use Rattle.ndb_index.specs.Index.{found};
 ghost use Rattle.ndb_index.specs.Near.{AreWithin, tuples_at};

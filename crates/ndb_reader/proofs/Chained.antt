@@ -3,7 +3,7 @@ use Rattle.std.proofs.Common.{◌≡◌, ℕ, ◌+◌, ◌-◌, ◌≤◌, ◌<�
 use Rattle.std.specs.Prelude.{zero, suc, unwrap_or, nat_lt}
 use Rattle.std.specs.List.{list_any, filter, flat_map, position_or_len, position}
 use Rattle.std.proofs.lemmas.Bool.Decides.{nat_tests}
-use Rattle.std.proofs.lemmas.List.{map-append, length-map, at_drop_more, take_more, take_all}
+use Rattle.std.proofs.lemmas.List.{map-append, length-map, at_drop_more, take_more}
 use Rattle.std.proofs.lemmas.List.Sums.{prefix_len-le-length}
 use Rattle.std.proofs.Math.Seq.{get_or-append_seam}
 use Rattle.net_base.specs.Ndb.{NdbPair}

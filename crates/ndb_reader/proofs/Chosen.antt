@@ -1,6 +1,6 @@
 -- The names that a tuple gives, a line and a pair at a time, and the tuple that chooses.
-use Rattle.std.proofs.Common.{◌≡◌, ℕ, ◌+◌, ◌≤◌, ◌<◌, Bool, true, false, cond, ◌||◌, bytes_eq, List, [], ◌∷◌, ◌++◌, map, take, drop, get_or, length, Vec, vec_items, Some, None, refl, sym, ap, ◌∙◌, arith}
-use Rattle.std.specs.Prelude.{zero, suc, codes, filter}
+use Rattle.std.proofs.Common.{◌≡◌, ℕ, ◌+◌, ◌≤◌, ◌<◌, Bool, true, false, cond, ◌||◌, bytes_eq, List, [], ◌∷◌, ◌++◌, map, drop, get_or, length, Vec, vec_items, refl, sym, ap, ◌∙◌, arith}
+use Rattle.std.specs.Prelude.{codes, filter}
 use Rattle.std.specs.List.{list_any}
 use Rattle.std.proofs.lemmas.List.{map-append, at_drop_more, drop_all}
 use Rattle.net_base.specs.Ndb.{NdbPair}

@@ -8,7 +8,7 @@ use Rattle.net_base.specs.Store.{Grown, tuple_ended}
 use Rattle.net_base.proofs.Cuts.{slice-more, slice-rest}
 use Rattle.net_base.proofs.Growth.{drop-all}
 use Rattle.ndb_reader.specs.declared.files.FileEnd.{FileEnd}
-use Rattle.ndb_reader.specs.Filed.{files_in, name_at, tuple_at, last_name, last_tuple, FilesRise, tuple_of, Filed, filed_by, last_ended, file_grown, file_begun}
+use Rattle.ndb_reader.specs.Filed.{files_in, name_at, tuple_at, last_name, last_tuple, FilesRise, tuple_of, Filed, filed_by, last_ended, file_begun}
 
 abbrev pub Tuples : Type 0
 Tuples = List (List (List NdbPair))

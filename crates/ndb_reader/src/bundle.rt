@@ -1,5 +1,5 @@
 //! The files of a bundle, of which some are chosen.
-ghost use Rattle.std.specs.Prelude.{◌≡◌, ◌≤◌, ◌<◌, ◌∷◌, ◌++◌, [], length, take, get_or, slice_range, OnOk, IfOk};
+ghost use Rattle.std.specs.Prelude.{◌≡◌, ◌≤◌, ◌<◌, ◌++◌, [], length, take, get_or, slice_range, OnOk};
 ghost use Rattle.net_base.specs.NdbBundle.{File};
 ghost use Rattle.net_base.specs.Store.{with_tuples};
 ghost use Rattle.ndb_reader.specs.Filed.{files_of, tuples_of, name_at, tuple_at, AreBundled};

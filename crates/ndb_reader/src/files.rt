@@ -1,5 +1,5 @@
 //! The files of a bundle, one behind the other in one database that grows.
-ghost use Rattle.std.specs.Prelude.{◌≡◌, ◌<◌, length, ℕ, true, false, not, ◌∷◌, ◌++◌, [], IfOk, OnOk, IfErr, None};
+ghost use Rattle.std.specs.Prelude.{◌≡◌, ◌<◌, length, ℕ, true, not, ◌∷◌, ◌++◌, [], IfOk, OnOk, IfErr, None};
 ghost use Rattle.std.specs.List.{list_any};
 ghost use Rattle.std.specs.Option.{option_map};
 ghost use Rattle.net_base.specs.NdbText as text;

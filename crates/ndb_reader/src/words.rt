@@ -1,5 +1,5 @@
 //! The words of a line, each an attribute with its value.
-ghost use Rattle.std.specs.Prelude.{◌≡◌, true, map, ◌≤◌, ◌+◌, ◌++◌, ◌∷◌, ◌||◌, [], length, take, drop, IfOk, OnOk};
+ghost use Rattle.std.specs.Prelude.{◌≡◌, true, map, ◌≤◌, ◌+◌, ◌||◌, [], length, take, drop, IfOk, OnOk};
 ghost use Rattle.std.specs.List.{list_any, position_or_len};
 ghost use Rattle.net_base.specs.NdbText as spec;
 ghost use Rattle.net_base.specs.Store.{with_pairs};

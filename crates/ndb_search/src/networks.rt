@@ -1,5 +1,5 @@
 //! The networks that the database describes, and which of them are a system's own.
-ghost use Rattle.std.specs.Prelude.{◌≡◌, ℕ, ◌+◌, ◌-◌, ◌/◌, ◌^◌, ◌==◌, ◌++◌, nat_eq, map, filter_map, option_map, IfOk, OnOk};
+ghost use Rattle.std.specs.Prelude.{◌≡◌, ◌+◌, ◌-◌, ◌==◌, ◌++◌, map, filter_map, IfOk, OnOk};
 ghost use Rattle.std.specs.List.{list_any};
 ghost use Rattle.net_base.specs.Networks as spec;
 ghost use Rattle.ndb_tuple.specs.Prefixes.{network_seen, first_bits};

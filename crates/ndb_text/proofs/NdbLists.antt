@@ -1,5 +1,5 @@
 -- Lists of which no element passes a test.
-use Rattle.std.proofs.Common.{◌≡◌, ℕ, zero, suc, ◌+◌, ◌-◌, ◌<◌, Bool, false, not, ◌||◌, List, [], ◌∷◌, length, drop, get_or, ap, arith, Some, None, refl}
+use Rattle.std.proofs.Common.{◌≡◌, ℕ, zero, suc, ◌-◌, ◌<◌, Bool, false, not, List, [], ◌∷◌, length, drop, get_or, ap, arith, Some, None, refl}
 use Rattle.std.specs.List.{list_any, before_first, after_last, suffix_len}
 use Rattle.std.proofs.lemmas.List.Sums.{suffix_len_is}
 use Rattle.ndb_text.proofs.NdbPlain.{or_false, or_false_first, or_false_rest, one_add}

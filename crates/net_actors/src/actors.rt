@@ -2,7 +2,7 @@
 ghost use Rattle.std.specs.Prelude.{◌≡◌, ◌^◌, ◌<◌, ◌++◌, length, IfOk, OnErr, OnOk, true, is_some, slice_get, Some};
 ghost use Rattle.net_base.specs.declared.actor.ActorName.{ActorName as Name};
 ghost use Rattle.net_base.specs.declared.world.World.{World as AnyWorld};
-ghost use Rattle.net_base.specs.Actors.{Actor as State, actor_step, has_actor, opening_actor};
+ghost use Rattle.net_base.specs.Actors.{Actor as State, actor_step, opening_actor};
 ghost use Rattle.net_base.specs.Duties.{due_of, generation_of};
 ghost use Rattle.net_base.specs.World.{IsWorld};
 ghost use Rattle.std.specs.Arc.{arc_value};

@@ -1,5 +1,5 @@
 //! What an actor keeps, by its kind.
-ghost use Rattle.std.specs.Prelude.{◌≡◌, ◌^◌, ◌<◌, IfOk, IsTrue, OnErr, true, is_some, Some};
+ghost use Rattle.std.specs.Prelude.{◌≡◌, ◌^◌, ◌<◌, IfOk, IsTrue, OnErr, true, is_some};
 ghost use Rattle.std.specs.Arc.{arc_value};
 ghost use Rattle.net_base.specs.declared.actor.ActorName.TheVariants as name;
 ghost use Rattle.net_base.specs.Actors.{has_actor, opening_actor, opening_conv};
@@ -10,7 +10,7 @@ ghost use Rattle.net_base.specs.World.{IsWorld};
 ghost use Rattle.conversation.specs.Memory.{work_takes};
 ghost use Rattle.conversation.specs.Stands.{IsShort, slot_of, step_at};
 ghost use Rattle.medium.specs.OnMedium.{medium_of as seen_medium};
-ghost use Rattle.net_actors.specs.AtDesk.{IsDeskOf, Replies, desk_at};
+ghost use Rattle.net_actors.specs.AtDesk.{IsDeskOf, desk_at};
 ghost use Rattle.net_actors.specs.Kept.{IsMediumOf, Keeps, seen};
 ghost use Rattle.net_actors.specs.Small.{IsSmall};
 ghost use Rattle.net_actors.specs.Stepping.{ConvSteps, KindSteps, ActorMayWant, kind_ready};

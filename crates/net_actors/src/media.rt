@@ -1,8 +1,7 @@
 //! What a medium answers.
-ghost use Rattle.std.specs.Prelude.{◌≡◌, ◌+◌, ◌^◌, ◌<◌, is_some, IfOk, IsTrue, OnErr, None, Some};
+ghost use Rattle.std.specs.Prelude.{◌≡◌, ◌+◌, ◌^◌, ◌<◌, IfOk, IsTrue, OnErr, None, Some};
 ghost use Rattle.net_base.specs.ActorStep.{replies};
-ghost use Rattle.net_base.specs.Medium.{medium_step};
-ghost use Rattle.medium.specs.OnMedium.{IsPending, medium_of};
+ghost use Rattle.medium.specs.OnMedium.{IsPending};
 ghost use Rattle.medium.specs.Replies.{NextHasText, reply_of};
 ghost use Rattle.net_actors.specs.Stepping.{MediumMayWant, MediumSteps, MediumTakes, medium_ready};
 

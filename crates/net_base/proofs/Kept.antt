@@ -1,5 +1,5 @@
 -- The first of the lists in a row, with what they have.
-use Rattle.std.proofs.Common.{◌≡◌, ℕ, ◌+◌, ◌-◌, ◌≤◌, ◌<◌, List, [], ◌∷◌, ◌++◌, length, take, drop, refl, sym, ap, subst, ◌∙◌, arith}
+use Rattle.std.proofs.Common.{◌≡◌, ℕ, ◌+◌, ◌-◌, ◌≤◌, List, [], ◌∷◌, ◌++◌, length, take, drop, refl, sym, ap, subst, ◌∙◌, arith}
 use Rattle.std.specs.Prelude.{zero, suc, slice_range}
 use Rattle.std.proofs.lemmas.List.{length-take-le, take-append-drop}
 use Rattle.net_base.specs.Ndb.{NdbPair}
@@ -8,7 +8,7 @@ use Rattle.net_base.specs.declared.ndb.runs.Runs.{Runs}
 use Rattle.net_base.specs.Parts.{last_end, parts, Rise}
 use Rattle.net_base.specs.Store.{pair_between, marked, last_value, value_at, MarksRise, pairs_in, lines_in, tuples_in, AreSound, AreWhole}
 use Rattle.net_base.proofs.Cuts.{parts-more, rise-last}
-use Rattle.net_base.proofs.Marks.{pair-more, marked-length, marks-start}
+use Rattle.net_base.proofs.Marks.{pair-more, marks-start}
 use Rattle.net_base.proofs.Found.{lines_len, pairs_len}
 
 -- Lists.

@@ -1,5 +1,5 @@
 //! The things of a history as they are drawn on their page.
-ghost use Rattle.std.specs.Prelude.{◌≡◌, ◌+◌, ◌<◌, ◌≤◌, ◌^◌, ◌++◌, [], OnOk};
+ghost use Rattle.std.specs.Prelude.{◌≡◌, ◌+◌, ◌<◌, ◌≤◌, ◌^◌, ◌++◌, OnOk};
 ghost use Rattle.net_chart.specs.Drawing as spec;
 ghost use Rattle.net_chart.specs.Svg.{path_text};
 

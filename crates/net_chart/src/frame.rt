@@ -1,9 +1,7 @@
 //! Frames as they were laid.
 ghost use Rattle.std.specs.Prelude.{◌≡◌};
-ghost use Rattle.std.specs.Map.{lookup};
 ghost use Rattle.net_chart.specs.Drawing as drawing;
 ghost use Rattle.net_chart.specs.Frames as spec;
-ghost use Rattle.net_chart.specs.Frames.{same_frame};
 
 use crate::place::Place;
 use crate::sight::{Sight, host_of, sight_of};

@@ -1,5 +1,5 @@
 //! The columns of conversations.
-ghost use Rattle.std.specs.Prelude.{◌≡◌, ◌++◌, [], ◌∷◌, nat_eq, position, option_copied, IfOk, OnOk, Option};
+ghost use Rattle.std.specs.Prelude.{◌≡◌, position, option_copied, IfOk, OnOk, Option};
 ghost use Rattle.std.specs.Option.{option_and_then};
 ghost use Rattle.net_base.specs.declared.history.Entry.{Entry as AnyEntry};
 ghost use Rattle.net_base.specs.Stamped.{same_actor as is_same};

@@ -1,5 +1,5 @@
 -- No message of an importing step is too long.
-use Rattle.std.proofs.Common.{◌≡◌, ◌≤◌, ◌<◌, ℕ, ◌+◌, ◌*◌, ◌&&◌, true, List, [], ◌∷◌, length, drop, sym, subst, ap, ◌∙◌, arith}
+use Rattle.std.proofs.Common.{◌≡◌, ◌≤◌, ◌<◌, ℕ, ◌+◌, ◌*◌, ◌&&◌, true, List, [], ◌∷◌, length, drop, ap, ◌∙◌, arith}
 use Rattle.std.specs.Prelude.{bytes_eq, codes, nat_le}
 use Rattle.std.specs.List.{flat_map, list_all}
 use Rattle.std.proofs.lemmas.Bool.{and_parts, false≢true, leb-true}
@@ -8,7 +8,7 @@ use Rattle.std.proofs.lemmas.List.Concat.{flat_map-cons}
 use Rattle.net_base.specs.declared.names.Mode.{Mode}
 use Rattle.net_base.specs.declared.ninep.Tmsg.{Tmsg}
 use Rattle.net_base.specs.Addresses.{parts_at}
-use Rattle.net_base.specs.Imports.{attach_message, clunk_message, mode_number, open_message, read_message, version_message, walk_message, write_message}
+use Rattle.net_base.specs.Imports.{attach_message, clunk_message, open_message, read_message, version_message, walk_message, write_message}
 use Rattle.net_base.specs.NinepFields.{string}
 use Rattle.net_base.specs.NinepMessages.{longest, t_bytes, t_fields, t_names}
 use Rattle.net_base.specs.Remotes.{are_net, is_remote_name, is_remote_path, path_names}

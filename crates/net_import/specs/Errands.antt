@@ -1,5 +1,5 @@
 -- The tasks of one message about a remote file: their requests, their replies, and the plays that they stand for.
-use Rattle.std.specs.Prelude.{◌≡◌, ℕ, Bool, true, false, List, Option, Some, None}
+use Rattle.std.specs.Prelude.{◌≡◌, ℕ, true, false, List, Option, Some, None}
 use Rattle.net_base.specs.declared.left.Left.{Left}
 use Rattle.net_base.specs.declared.left.Remote.{Remote}
 use Rattle.net_base.specs.declared.ninep.Tmsg.{Tmsg}

@@ -1,12 +1,11 @@
 -- The task of `import` asks and moves as its play does.
-use Rattle.std.proofs.Common.{◌≡◌, ℕ, Bool, true, false, List, [], ◌∷◌, Option, Some, None, if◌then◌else◌, refl, sym, subst, ap, ◌∙◌}
+use Rattle.std.proofs.Common.{◌≡◌, ℕ, Bool, true, false, List, [], ◌∷◌, Some, if◌then◌else◌, refl, sym, subst, ap, ◌∙◌}
 use Rattle.std.proofs.lemmas.Option.{none-some}
 use Rattle.net_base.specs.declared.reply.Reply.{Reply}
 use Rattle.net_base.specs.declared.world.Step.TheVariants as step
-use Rattle.net_base.specs.Exports.{Own, by_text, own_of}
+use Rattle.net_base.specs.Exports.{by_text, own_of}
 use Rattle.net_base.specs.Imports.{attach_message, is_version, sends_once, version_message}
 use Rattle.net_base.specs.NinepMessages.{t_bytes}
-use Rattle.net_base.specs.Scripts.{Kept}
 use Rattle.net_base.specs.Steps.{Names, bytes_in, Play, Ends}
 use Rattle.net_import.specs.declared.import.Import.{Import}
 use Rattle.net_import.specs.declared.talk.Talk.{Talk}
@@ -18,8 +17,7 @@ use Rattle.net_import.specs.Standings.{TalksBy}
 use Rattle.net_import.specs.TalkLaws.{follows_read, heads, moves_write, names_stay}
 use Rattle.net_import.specs.Talks as talk
 use Rattle.net_base.specs.declared.request.Request.{Request}
-use Rattle.net_base.specs.Requests.{settled}
-use Rattle.script_task.specs.Task.{AsksSo, MovesSo, follow, fits_play}
+use Rattle.script_task.specs.Task.{AsksSo, MovesSo, follow}
 
 pub fresh : (t : Import) (called : List ℕ) → t ≡ spec.begun called → spec.Begins t (step.Import called)
 fresh t called is h k = subst (λ (u : Import). spec.Begins u (step.Import called)) (sym is) (λ h k. refl) h k

@@ -1,9 +1,9 @@
 -- The task of `import`: its requests, its replies, and the plays that it stands for.
-use Rattle.std.specs.Prelude.{◌≡◌, ℕ, ◌&&◌, Bool, true, false, not, List, Option, if◌then◌else◌}
+use Rattle.std.specs.Prelude.{ℕ, ◌&&◌, Bool, true, false, not, List, Option, if◌then◌else◌}
 use Rattle.net_base.specs.declared.reply.Reply.{Reply}
 use Rattle.net_base.specs.declared.world.Step.{Step}
 use Rattle.net_base.specs.Exports.{Own, own_of}
-use Rattle.net_base.specs.Imports.{attach_message, is_version, sends_for, sends_once, version_message}
+use Rattle.net_base.specs.Imports.{attach_message, is_version, sends_once, version_message}
 use Rattle.net_base.specs.NinepMessages.{t_bytes}
 use Rattle.net_base.specs.Scripts.{Kept, step_play}
 use Rattle.net_base.specs.Steps.{Names, bytes_in, Play, Ends}

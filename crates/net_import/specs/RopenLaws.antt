@@ -1,5 +1,5 @@
 -- The task of `ropen` asks and moves as its play does.
-use Rattle.std.proofs.Common.{◌≡◌, ℕ, Bool, true, false, ◌&&◌, ◌||◌, not, List, [], ◌∷◌, Option, Some, None, if◌then◌else◌, refl, sym, subst, ap, ◌∙◌}
+use Rattle.std.proofs.Common.{◌≡◌, ℕ, Bool, true, false, ◌&&◌, not, List, [], ◌∷◌, Option, Some, None, if◌then◌else◌, refl, sym, subst, ap, ◌∙◌}
 use Rattle.std.specs.Prelude.{find}
 use Rattle.std.proofs.lemmas.Bool.{false≢true, true≢false}
 use Rattle.std.proofs.lemmas.Option.{none-some, same_Some}
@@ -11,7 +11,7 @@ use Rattle.net_base.specs.declared.world.Step.TheVariants as step
 use Rattle.net_base.specs.Exports.{Own, by_text, own_of}
 use Rattle.net_base.specs.Imports.{clunk_message, is_open, is_whole, open_message, opens_remote, ropen_play, sends_for, sends_once}
 use Rattle.net_base.specs.Remotes.{free_fid, is_remote, is_remote_path}
-use Rattle.net_base.specs.Scripts.{play_by, step_play}
+use Rattle.net_base.specs.Scripts.{play_by}
 use Rattle.net_base.specs.Steps.{Names, bytes_in, Play, Ends, is_accepted, is_bound, uses}
 use Rattle.net_import.specs.declared.ropen.Ropen.{Ropen}
 use Rattle.net_import.specs.declared.ropen.RopenStage.{RopenStage}

@@ -5,11 +5,11 @@ use Rattle.net_base.specs.declared.names.Mode.{Mode}
 use Rattle.net_base.specs.declared.reply.Reply.{Reply}
 use Rattle.net_base.specs.declared.world.Step.{Step}
 use Rattle.net_base.specs.Exports.{Own, by_text, own_of}
-use Rattle.net_base.specs.Imports.{clunk_message, is_open, is_whole, open_message, opens_remote, sends_for, sends_once, walk_message}
+use Rattle.net_base.specs.Imports.{clunk_message, is_open, is_whole, open_message, sends_for, sends_once, walk_message}
 use Rattle.net_base.specs.NinepMessages.{t_bytes}
 use Rattle.net_base.specs.Remotes.{free_fid, is_remote, with_remote}
-use Rattle.net_base.specs.Scripts.{Kept, step_play}
-use Rattle.net_base.specs.Steps.{Names, bytes_in, Play, Ends, is_bound, uses, with_bound, with_new}
+use Rattle.net_base.specs.Scripts.{step_play}
+use Rattle.net_base.specs.Steps.{Names, bytes_in, Play, Ends, is_bound, uses}
 use Rattle.net_import.specs.declared.ropen.Ropen.{Ropen}
 use Rattle.net_import.specs.declared.ropen.RopenStage.{RopenStage}
 use Rattle.net_import.specs.declared.ropen.RopenStage.TheVariants as stage

@@ -1,12 +1,12 @@
 -- A message asks and moves as its play does.
-use Rattle.std.proofs.Common.{◌≡◌, ℕ, Bool, true, false, List, [], ◌∷◌, Option, Some, None, if◌then◌else◌, refl, sym, subst, ap, ◌∙◌}
+use Rattle.std.proofs.Common.{◌≡◌, ℕ, Bool, true, false, List, Some, if◌then◌else◌, refl, sym, subst, ap}
 use Rattle.std.proofs.lemmas.Option.{none-some, same_Some}
 use Rattle.net_base.specs.declared.reply.Reply.{Reply}
-use Rattle.net_base.specs.Exports.{Own, asks as asks_for, by_text, own_of}
+use Rattle.net_base.specs.Exports.{Own, by_text, own_of}
 use Rattle.net_base.specs.Steps.{Names, bytes_in, Play, Ends, is_accepted}
 use Rattle.net_import.specs.declared.talk.TalkPhase.{TalkPhase}
 use Rattle.net_import.specs.declared.talk.TalkPhase.TheVariants as phase
-use Rattle.net_import.specs.Standings.{TalksBy, reading, writing}
+use Rattle.net_import.specs.Standings.{TalksBy, reading}
 use Rattle.net_import.specs.Talks as talk
 use Rattle.script_task.proofs.Events.{read_is, write_is}
 use Rattle.net_base.specs.declared.request.Request.{Request}

@@ -1,23 +1,16 @@
 //! The actors of a world behind their locks.
-ghost use Rattle.std.specs.Prelude.{◌≡◌, ◌<◌, ℕ, ◌^◌, List, [], Option, None, Some, map, true, false, IfOk, IfSome, IsNone, IsSome, slice_get};
-ghost use mathlib.Core.List.{IsPrefix};
+ghost use Rattle.std.specs.Prelude.{◌≡◌, ◌<◌, [], None, Some, map, true, false, IfOk, IfSome, IsNone, IsSome};
 ghost use Rattle.net_base.specs.declared.actor.ActorName.{ActorName as Name};
-ghost use Rattle.net_base.specs.declared.history.Work.{Work as AnyWork};
 ghost use Rattle.net_base.specs.declared.actor.ActorName.TheVariants as name;
 ghost use Rattle.net_base.specs.Actors.{has_actor};
 ghost use Rattle.net_base.specs.Callers.{caller_count as callers_in};
-ghost use Rattle.net_base.specs.Duties.{Duty as AnyDuty};
-ghost use Rattle.net_base.specs.Stamped.{In, moment, same_actor};
+ghost use Rattle.net_base.specs.Stamped.{In};
 ghost use Rattle.net_base.specs.World.{IsWorld};
 ghost use Rattle.std.specs.Arc.{arc_value};
 ghost use Rattle.journal.specs.declared.tokens.Volume.{Volume};
 ghost use Rattle.journal.specs.Rule.{caller_numbers};
-ghost use Rattle.guest_laws.specs.Guests.{IsGuest, IsTurn};
-ghost use Rattle.duties.specs.Queue.{work_of_duty};
 ghost use Rattle.net_locks.specs.Rosters.{AreUnused, IsNetOf, IsRosterOf, AreReplayed};
 ghost use Rattle.net_locks.specs.Facts.{net_prop};
-ghost use Rattle.net_locks.specs.Turns.{Turned, bare, own};
-ghost use Rattle.due_moments.specs.Marks.{Covers};
 
 use crate::finishing::books_of;
 use crate::machine::{WorldActor, locked};

@@ -1,5 +1,5 @@
 //! An actor of a world as a machine.
-ghost use Rattle.std.specs.Prelude.{◌≡◌, [], IfOk, is_some};
+ghost use Rattle.std.specs.Prelude.{◌≡◌, []};
 ghost use Rattle.net_base.specs.Actors.{opening_actor};
 ghost use Rattle.net_actors.specs.Kept.{IsActorOf, state_of};
 ghost use Rattle.guest_laws.specs.Named.{named};

@@ -1,6 +1,6 @@
 -- The lines and the names that a reply lists are texts: bytes without newlines.
 use Rattle.std.proofs.Common.{◌≡◌, ℕ, zero, suc, ◌+◌, ◌/◌, ◌%◌, ◌^◌, ◌==◌, Bool, true, false, cond, List, [], ◌∷◌, ◌++◌, map, Option, Some, None, refl, sym, subst, ◌∙◌, arith}
-use Rattle.std.specs.Prelude.{IfSome, nat_lt, nat_le, flat_map, codes, decimal, bytes_eq}
+use Rattle.std.specs.Prelude.{nat_lt, flat_map, codes, decimal}
 use Rattle.std.specs.Fmt.{digits, digits_onto, digit_glyph}
 use Rattle.std.proofs.lemmas.Bool.{and_from, cond_both, ltb-false}
 use Rattle.std.proofs.lemmas.Bool.Decides.{nat_tests}
@@ -13,7 +13,7 @@ use Rattle.net_base.specs.Ndb.{NdbPair}
 use Rattle.net_base.specs.declared.reply.Reply.{Reply}
 use Rattle.net_base.specs.declared.reply.Reply.TheVariants as reply
 use Rattle.net_base.specs.Addresses.{address_text}
-use Rattle.net_base.specs.Cs.{CsAnswer, Query, proto_name, nets_of, host_words, is_any, address_texts, host_addresses, ports_of, cs_line, lines_of, refused_where_empty, answer_query, answer_read, read_query}
+use Rattle.net_base.specs.Cs.{CsAnswer, Query, proto_name, nets_of, host_words, is_any, address_texts, host_addresses, ports_of, cs_line, lines_of, refused_where_empty, answer_query, answer_read}
 use Rattle.net_base.specs.Desk.{cs_reply}
 use Rattle.net_base.specs.Paths.{names}
 use Rattle.net_base.specs.World.{is_text}

@@ -1,5 +1,5 @@
 //! The node that a path names.
-ghost use Rattle.std.specs.Prelude.{◌≡◌, ◌==◌, ◌++◌, ◌∷◌, ◌&&◌, [], true, List, ℕ, Some, ok_or, bytes_eq, codes, decimal};
+ghost use Rattle.std.specs.Prelude.{◌≡◌, ◌==◌, ◌++◌, ◌∷◌, [], List, ℕ, Some, ok_or, bytes_eq, codes};
 ghost use Rattle.std.specs.List.{slice_split};
 ghost use Rattle.std.specs.Str.Parse.{digits_value};
 ghost use Rattle.net_base.specs.declared.names.Node.TheVariants as node;

@@ -1,5 +1,5 @@
 //! Reading the fields of a message, from left to right.
-ghost use Rattle.std.specs.Prelude.{◌≡◌, ◌<◌};
+ghost use Rattle.std.specs.Prelude.{◌<◌};
 ghost use Rattle.ninep_wire.specs.Reading.{Gives};
 ghost use Rattle.net_base.specs.NinepReading.{bytes_at, counted_at, list_at, many_at, number_at, qid_at};
 

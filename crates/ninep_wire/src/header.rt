@@ -1,5 +1,5 @@
 //! The size, the type and the tag in front of a message.
-ghost use Rattle.std.specs.Prelude.{◌≡◌, ◌≢◌, ◌<◌, ◌≤◌, ◌⊎◌, ◌↔◌, length, drop, IfOk, IsErrOf};
+ghost use Rattle.std.specs.Prelude.{◌≡◌, ◌≢◌, ◌<◌, ◌⊎◌, ◌↔◌, length, drop, IfOk, IsErrOf};
 ghost use Rattle.net_base.specs.NinepFaults.{HasHeader, HasSize, is_r_type, is_t_type, size_field, tag_field, type_field};
 ghost use Rattle.net_base.specs.NinepMessages.{longest};
 

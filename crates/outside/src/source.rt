@@ -1,5 +1,5 @@
 //! Sources of bytes.
-ghost use Rattle.std.specs.Prelude.{◌≡◌, ◌≢◌, ℕ, Option, List, [], None, Err, ◌+◌, ◌<◌, ◌≤◌, ◌++◌, length, min, take, drop, IfOk, OnOk, OnErr, IsErrOf};
+ghost use Rattle.std.specs.Prelude.{◌≡◌, ◌≢◌, ℕ, Option, List, Err, ◌+◌, ◌<◌, ◌≤◌, ◌++◌, length, min, take, drop, IfOk, OnOk, OnErr, IsErrOf};
 ghost use Rattle.std.specs.Io.KnownBytes.{Consumes, IsAtEnd, Keeps};
 ghost use Rattle.outside.specs.Streams.{Rose, ConsumedToEnd};
 

@@ -1,5 +1,5 @@
 //! A source and a sink that never fail.
-ghost use Rattle.std.specs.Prelude.{◌≡◌, ℕ, List, [], Option, Some, None, ◌+◌, ◌<◌, ◌≤◌, ◌++◌, min, length, take, drop, IfOk, OnErr, Ok};
+ghost use Rattle.std.specs.Prelude.{◌≡◌, ℕ, List, [], Some, None, ◌+◌, ◌<◌, ◌≤◌, min, length, take, drop, IfOk, OnErr, Ok};
 ghost use Rattle.std.specs.Io.KnownBytes.{Appends, Consumes, IsAtEnd, Keeps};
 ghost use Rattle.outside.specs.Streams.{Rose};
 

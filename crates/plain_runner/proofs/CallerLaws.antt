@@ -14,7 +14,7 @@ use Rattle.net_base.specs.Calm.{is_ready}
 use Rattle.net_base.specs.Duties.{Duty}
 use Rattle.net_base.specs.Legal.{IsAsked, IsNext, asked_by, cites_of}
 use Rattle.net_base.specs.Net.{after, owed, with_of}
-use Rattle.net_base.specs.Next.{by, finished_by, next, next_of, own_replies, zone_of}
+use Rattle.net_base.specs.Next.{finished_by, next, next_of, own_replies, zone_of}
 use Rattle.net_base.specs.Versions.{Tuples}
 use Rattle.net_base.specs.Scripts.{at_first, position}
 use Rattle.net_base.specs.Steps.{Ask}

@@ -10,10 +10,9 @@ use Rattle.net_base.specs.Callers.{IsCourier, IsClock, caller_of}
 use Rattle.net_base.specs.Legal.{IsNext}
 use Rattle.net_base.specs.Net.{owed}
 use Rattle.net_base.specs.Next.{by, finished_by, next, own_replies, zone_of}
-use Rattle.net_base.specs.Steps.{Ask}
 use Rattle.script_player.specs.Players.{IsAt, Playing}
 use Rattle.script_task.specs.Fitting.{fits}
-use Rattle.plain_runner.specs.Turns.{AreOwn, IsTurn, OfDuty, asks_of, may_turn}
+use Rattle.plain_runner.specs.Turns.{AreOwn, IsTurn, asks_of, may_turn}
 use Rattle.plain_runner.specs.declared.caller.Caller.{Caller}
 use Rattle.plain_runner.specs.declared.caller.Role.{Role}
 use Rattle.plain_runner.specs.declared.caller.Role.TheVariants as role

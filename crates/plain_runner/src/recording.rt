@@ -1,9 +1,8 @@
 //! Recording the turn of a caller: its actor steps, and from the outcome come the entry, what is owed and what comes next.
-ghost use Rattle.std.specs.Prelude.{◌≡◌, ◌+◌, ◌<◌, ◌^◌, ℕ, IfOk, OnOk};
+ghost use Rattle.std.specs.Prelude.{◌≡◌, ◌<◌, ℕ, IfOk, OnOk};
 ghost use Rattle.net_base.specs.declared.actor.ActorName.{ActorName as Name};
 ghost use Rattle.net_base.specs.declared.world.World.{World as AnyWorld};
 ghost use Rattle.net_base.specs.Actors.{Actor};
-ghost use Rattle.net_base.specs.Legal.{IsMove};
 ghost use Rattle.net_base.specs.declared.event.Event.TheVariants as event;
 ghost use Rattle.duties.specs.Queue.{Adds};
 ghost use Rattle.duties.specs.Showing.{shows};

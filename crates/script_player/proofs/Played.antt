@@ -18,15 +18,14 @@ use Rattle.script_task.specs.declared.effect.Effect.TheVariants.{Opens, Closes, 
 use Rattle.net_base.specs.declared.request.Request.{Request}
 use Rattle.script_task.specs.Effects.{effect_of, opened, settles}
 use Rattle.script_task.specs.Fitting.{fits}
-use Rattle.net_base.specs.Requests.{head, planned, settled}
+use Rattle.net_base.specs.Requests.{head, settled}
 use Rattle.script_task.specs.Task.{Heads, follow, fits_play}
 use Rattle.script_task.proofs.Settling.{settles_so}
 use Rattle.step_task.specs.declared.step.StepTask.{StepTask}
-use Rattle.dial_lib.specs.Slots.{HaveSlots}
 use Rattle.step_task.specs.Leaving.{after_one, leaves_so}
 use Rattle.step_task.specs.StepTasks.{StandsFor, asks, after, after_all, begun, leaves, left_by as left_by_task}
 use Rattle.step_task.specs.StepLaws.{asks_alike, asks_so, begun_asks, begun_stands, moves_so}
-use Rattle.script_player.specs.Players.{Playing, kept, asked, position_after, next_after, Plays, Leaves, Knows, InStep, Between, IsAtBy, IsAt, begun_by, begun_in, request_by, request_of, asked_by, asked_at, with_room, prepared_by, prepared, expected_by, expected_in, heard_by, heard, left_by, left}
+use Rattle.script_player.specs.Players.{Playing, kept, position_after, next_after, Plays, Knows, InStep, Between, IsAtBy, IsAt, begun_by, begun_in, request_by, request_of, asked_by, asked_at, with_room, prepared_by, prepared, expected_by, expected_in, heard_by, heard, left_by, left}
 
 -- Lists.
 

@@ -1,5 +1,5 @@
 //! The player of a script.
-ghost use Rattle.std.specs.Prelude.{◌≡◌, ◌<◌, ◌⊎◌, ◌++◌, ◌∷◌, ℕ, List, [], Some, true, IfOk, OnOk, OnErr, length, nat_lt, option_map};
+ghost use Rattle.std.specs.Prelude.{◌≡◌, ◌<◌, ◌⊎◌, ◌++◌, ◌∷◌, List, [], Some, true, IfOk, OnOk, OnErr, length, nat_lt, option_map};
 ghost use Rattle.std.specs.Arc.{arc_value};
 ghost use Rattle.net_base.specs.declared.reply.Reply.{Reply};
 ghost use Rattle.net_base.specs.declared.world.Script.{Script};

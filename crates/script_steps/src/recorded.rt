@@ -3,7 +3,6 @@ ghost use Rattle.std.specs.Prelude.{◌≡◌, ℕ, ◌<◌, Some, cond, length,
 ghost use Rattle.net_base.specs.declared.world.Script.{Script as AnyScript};
 ghost use Rattle.net_base.specs.declared.world.World.{World as AnyWorld};
 ghost use Rattle.net_base.specs.Legal.{IsLegal, IsTimed};
-ghost use Rattle.net_base.specs.Next.{finished_by, own_replies};
 ghost use Rattle.net_base.specs.World.{IsWorld};
 ghost use Rattle.plain_runner.specs.Followed.{Followed};
 ghost use Rattle.plain_runner.specs.Tracks.{Tracks};

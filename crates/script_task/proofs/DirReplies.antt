@@ -1,5 +1,5 @@
 -- A directory keeps 32 slots, the calls that wait there are below 32, and its replies fit their events.
-use Rattle.std.proofs.Common.{◌≡◌, ℕ, zero, suc, ◌<◌, nat_lt, true, List, [], ◌∷◌, ◌++◌, length, replicate, Option, Some, None, slice_get, refl, subst, ◌∙◌, rules, tests, arith}
+use Rattle.std.proofs.Common.{◌≡◌, ℕ, zero, suc, ◌<◌, nat_lt, true, List, [], ◌∷◌, ◌++◌, length, replicate, Some, slice_get, refl, subst, ◌∙◌, rules, tests, arith}
 use Rattle.std.proofs.lemmas.Option.{none-some, slice_get_within}
 use Rattle.net_base.specs.declared.actor.Call.{Call}
 use Rattle.net_base.specs.declared.address.Proto.{Proto}

@@ -1,5 +1,5 @@
 -- The replies of all actors fit their events.
-use Rattle.std.proofs.Common.{◌≡◌, ℕ, nat_lt, not, Bool, true, List, [], ◌∷◌, take, Option, Some, None, slice_get, refl, sym, subst}
+use Rattle.std.proofs.Common.{◌≡◌, ℕ, true, List, [], ◌∷◌, take, Option, Some, None, slice_get, refl, sym, subst}
 use Rattle.std.specs.Prelude.{IfSome, IsSome}
 use Rattle.std.proofs.lemmas.Option.{none-some}
 use Rattle.net_base.specs.declared.actor.ActorName.{ActorName}

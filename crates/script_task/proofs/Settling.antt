@@ -1,5 +1,5 @@
 -- The effect of a request settles the names as the request does.
-use Rattle.std.proofs.Common.{◌≡◌, ◌∙◌, ℕ, Bool, true, false, not, filter, List, [], ◌∷◌, Option, Some, None, bytes_eq, refl, ap, if◌then◌else◌, rules, tests}
+use Rattle.std.proofs.Common.{◌≡◌, ◌∙◌, ℕ, Bool, true, false, not, List, [], ◌∷◌, Option, Some, None, bytes_eq, refl, ap, if◌then◌else◌, rules, tests}
 use Rattle.net_base.specs.declared.names.Mode.{Mode}
 use Rattle.net_base.specs.declared.names.Node.{Node}
 use Rattle.net_base.specs.declared.reply.Reply.{Reply}

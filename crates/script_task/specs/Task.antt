@@ -1,5 +1,5 @@
 -- What every task keeps, given its next request, what a reply makes of it, and the plays that it stands for.
-use Rattle.std.specs.Prelude.{◌≡◌, ℕ, Bool, true, List, Option, Some, None}
+use Rattle.std.specs.Prelude.{◌≡◌, ℕ, Bool, true, Option, Some, None}
 use Rattle.net_base.specs.declared.reply.Reply.{Reply}
 use Rattle.net_base.specs.Steps.{Ask, Names, Play, Asks, Ends}
 use Rattle.net_base.specs.declared.request.Request.{Request}

@@ -1,5 +1,5 @@
 -- Where the replies are those of a session, its messages are answered as they are to be.
-use Rattle.std.proofs.Common.{◌≡◌, ℕ, zero, suc, ◌-◌, ◌&&◌, ◌||◌, Bool, true, false, cond, List, [], ◌∷◌, take, length, Option, Some, None, refl, ap, ◌∙◌, subst}
+use Rattle.std.proofs.Common.{◌≡◌, ℕ, zero, suc, ◌-◌, ◌&&◌, ◌||◌, Bool, true, false, cond, List, [], ◌∷◌, take, length, Option, Some, None, refl, ap, ◌∙◌}
 use Rattle.std.specs.List.{list_all}
 use Rattle.std.proofs.lemmas.Bool.{and_parts}
 use Rattle.net_base.specs.declared.history.Entry.{Entry}
@@ -18,7 +18,7 @@ use Rattle.net_base.specs.Session as spec
 use Rattle.net_base.specs.Session.{State, first}
 use Rattle.net_base.specs.SessionTable.{Table}
 use Rattle.session_answers.specs.Served.{answered_of}
-use Rattle.session_answers.specs.Told.{AreTold, by_last, is_brief, is_told, serves_by, session, told_by, told_text}
+use Rattle.session_answers.specs.Told.{AreTold, by_last, is_brief, is_told, serves_by, session, told_by}
 
 parts : (x : Reply) (rs : List Reply) → AreTold (x ∷ rs) → (is_told x ≡ true) × AreTold rs
 parts x rs told = and_parts (is_told x) (list_all is_told rs) told

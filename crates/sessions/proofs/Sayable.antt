@@ -24,7 +24,7 @@ use Rattle.words.proofs.Numerals.{numeral_by_steps}
 use Rattle.net_base.specs.declared.ninep.Tmsg.{Tmsg}
 use Rattle.net_base.specs.declared.ninep.Tmsg.TheVariants as t
 use Rattle.net_base.specs.NinepFields.{Holds, number}
-use Rattle.net_base.specs.NinepMessages.{IsTmsg, longest, t_bytes}
+use Rattle.net_base.specs.NinepMessages.{IsTmsg, t_bytes}
 use Rattle.net_base.specs.SessionFiles.{access, can_open, child, is_cs, is_plain, parent, reached, step_to}
 use Rattle.net_base.specs.SessionScript.{Begins, IsScript, IsStream, after, attaches, begins, bound_by, changed, close_step, cs_step, fid_name, gives_nothing, is_query, open_step, opened, opens, read_count, read_step, reads, room, source, step_of, steps_of, text_end, walks_from, write_step}
 use Rattle.net_base.specs.declared.ninep.Target.{Target}

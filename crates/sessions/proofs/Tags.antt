@@ -7,7 +7,7 @@ use Rattle.net_base.specs.declared.ninep.Rmsg.{Rmsg}
 use Rattle.net_base.specs.declared.ninep.Rmsg.TheVariants as r
 use Rattle.net_base.specs.declared.ninep.Tmsg.{Tmsg}
 use Rattle.net_base.specs.declared.ninep.Tmsg.TheVariants as t
-use Rattle.net_base.specs.NinepMessages.{longest, r_tag, t_tag}
+use Rattle.net_base.specs.NinepMessages.{r_tag, t_tag}
 use Rattle.net_base.specs.SessionAnswers.{Found, attach_answer, bad_fid, bad_mode, bad_use, found_answer, granted, is_granting, not_served, of_known, of_used, open_answer, piece, printed, read_answer, replied, said, spoken, version_answer, walk_answer}
 use Rattle.net_base.specs.declared.ninep.Target.{Target}
 use Rattle.net_base.specs.SessionFiles.{can_open, is_cs, qid_of, walked}

@@ -1,5 +1,5 @@
 //! What the definitions of sessions say together.
-ghost use Rattle.std.specs.Prelude.{◌≡◌, ◌≤◌, ℕ, List, Some, true, map, flat_map, length, nat_le};
+ghost use Rattle.std.specs.Prelude.{◌≡◌, ◌≤◌, ℕ, List, true, map, flat_map, length, nat_le};
 ghost use Rattle.std.specs.List.{list_all};
 ghost use Rattle.net_base.specs.Hexadecimal.{hex_digits};
 ghost use Rattle.net_base.specs.Transcript.{reply_words};

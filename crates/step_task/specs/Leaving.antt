@@ -8,7 +8,7 @@ use Rattle.net_base.specs.declared.reply.Reply.{Reply}
 use Rattle.net_base.specs.declared.world.Step.{Step}
 use Rattle.net_base.specs.declared.world.Step.TheVariants as step
 use Rattle.net_base.specs.Exports.{by_text, is_dotted}
-use Rattle.net_base.specs.Imports.{clunk_message, is_open, is_whole, left_open, longest_text, open_message, was_opened}
+use Rattle.net_base.specs.Imports.{clunk_message, is_open, is_whole, left_open, longest_text, open_message}
 use Rattle.net_base.specs.NinepMessages.{t_bytes}
 use Rattle.net_base.specs.Remotes.{free_fid, is_remote, is_remote_path, with_remote, without_remote}
 use Rattle.net_base.specs.Scripts.{left_after, new_names}

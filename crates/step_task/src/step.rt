@@ -1,5 +1,5 @@
 //! The task of a step.
-ghost use Rattle.std.specs.Prelude.{◌≡◌, ◌∷◌, [], List, None, IfOk, OnErr, OnOk, find, true, codes, if◌then◌else◌};
+ghost use Rattle.std.specs.Prelude.{◌≡◌, ◌∷◌, [], None, IfOk, OnErr, OnOk, find, true, codes, if◌then◌else◌};
 ghost use Rattle.net_base.specs.Paths as paths;
 ghost use Rattle.net_base.specs.Exports as exports;
 ghost use Rattle.net_base.specs.Steps as steps;

@@ -1,5 +1,5 @@
 -- Each step of an actor is that of a row.
-use Rattle.std.proofs.Common.{◌≡◌, ℕ, ◌+◌, nat_lt, nat_le, Bool, true, false, cond, List, [], ◌∷◌, Option, Some, None, bytes_eq, codes, slice_get, refl, sym, subst}
+use Rattle.std.proofs.Common.{◌≡◌, ℕ, nat_lt, nat_le, List, [], ◌∷◌, Option, Some, None, bytes_eq, codes, slice_get, refl, sym, subst}
 use Rattle.std.specs.Prelude.{IfSome, IsSome}
 use Rattle.std.specs.Option.{option_map, option_and_then}
 use Rattle.std.proofs.lemmas.Bool.{cond_both, false≢true}
@@ -21,7 +21,7 @@ use Rattle.net_base.specs.declared.world.HostSpec.{HostSpec}
 use Rattle.net_base.specs.declared.world.MediumSpec.{MediumSpec}
 use Rattle.net_base.specs.declared.world.Version.{Version}
 use Rattle.net_base.specs.declared.world.World.{World}
-use Rattle.net_base.specs.ActorStep.{Step, when}
+use Rattle.net_base.specs.ActorStep.{Step}
 use Rattle.net_base.specs.Actors.{Actor, IsConv, IsDesk, IsDir, IsMedium, IsPlain, actor_step, has_actor, plain_step, step_as, table_step}
 use Rattle.net_base.specs.Conversation.{conv_step}
 use Rattle.net_base.specs.Cs.{CsAnswer, Lines, Refused, cs_list}

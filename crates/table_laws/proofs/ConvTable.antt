@@ -1,5 +1,5 @@
 -- Each step of a conversation is that of a row.
-use Rattle.std.proofs.Common.{◌≡◌, ℕ, zero, suc, ◌+◌, ◌==◌, nat_lt, ◌&&◌, Bool, true, false, cond, List, [], ◌∷◌, length, Option, Some, None, refl, sym, ap, subst}
+use Rattle.std.proofs.Common.{◌≡◌, ℕ, zero, suc, ◌+◌, ◌==◌, nat_lt, ◌&&◌, Bool, true, false, cond, List, [], ◌∷◌, length, Option, Some, None, refl, sym, subst}
 use Rattle.std.specs.Prelude.{IfSome}
 use Rattle.std.proofs.lemmas.Bool.{and_parts, cond_both, eqb-true}
 use Rattle.net_base.specs.declared.address.Pair.{Pair}
@@ -18,7 +18,6 @@ use Rattle.net_base.specs.declared.names.Mode.{Mode}
 use Rattle.net_base.specs.declared.packet.Body.{Body}
 use Rattle.net_base.specs.declared.packet.Body.TheVariants as body
 use Rattle.net_base.specs.declared.packet.Packet.{Packet}
-use Rattle.net_base.specs.declared.reply.Reply.{Reply}
 use Rattle.net_base.specs.declared.reply.Reply.TheVariants as reply
 use Rattle.net_base.specs.declared.timer.Tick.{Tick}
 use Rattle.net_base.specs.declared.timer.Tick.TheVariants as tick
@@ -27,9 +26,9 @@ use Rattle.net_base.specs.ControlWords as control
 use Rattle.net_base.specs.Conversation as conv
 use Rattle.net_base.specs.Conversation.{Conv, Core, Il, Udp, Stage, Unused, Listening, Connected, conv_step}
 use Rattle.net_base.specs.IlEnd.{End}
-use Rattle.net_base.specs.IlTable.{has_unread, hangs_up, is_closed, may_go_on, may_write, ticks}
+use Rattle.net_base.specs.IlTable.{has_unread, is_closed, may_go_on, may_write, ticks}
 use Rattle.net_base.specs.Timer as timer
-use Rattle.net_base.specs.UdpEnd.{UdpEnd, datagram_comes, is_hung_up, takes_datagram, udp_hangs_up, udp_state_name}
+use Rattle.net_base.specs.UdpEnd.{UdpEnd, datagram_comes, is_hung_up, takes_datagram, udp_state_name}
 use Rattle.table_laws.specs.ConvRows.{ConvRow, generation_in}
 use Rattle.table_laws.specs.ConvRows as row
 

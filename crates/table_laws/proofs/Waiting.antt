@@ -1,18 +1,16 @@
 -- What holds of the calls that wait at the slots of a directory holds after each of its steps, and of the calls that the step tells.
-use Rattle.std.proofs.Common.{◌≡◌, ℕ, zero, suc, ◌+◌, ◌<◌, ◌&&◌, not, Bool, true, false, List, [], ◌∷◌, length, Option, Some, None, is_none, if◌then◌else◌, nat_lt, slice_get, slice_set, refl, ap, subst, ◌∙◌, ◌++◌}
+use Rattle.std.proofs.Common.{◌≡◌, ℕ, zero, suc, ◌+◌, ◌&&◌, not, Bool, true, false, List, [], ◌∷◌, length, Option, Some, None, is_none, if◌then◌else◌, nat_lt, slice_get, slice_set, refl, ap, subst, ◌∙◌, ◌++◌}
 use Rattle.std.specs.Option.{option_and_then}
-use Rattle.std.specs.List.{AllByRecursion}
 use Rattle.std.proofs.lemmas.Option.{none-some, same_Some, slice_get_within}
 use Rattle.net_base.specs.declared.actor.Call.{Call}
 use Rattle.net_base.specs.declared.address.Pair.{Pair}
 use Rattle.net_base.specs.declared.address.Proto.{Proto}
 use Rattle.net_base.specs.declared.event.Event.{Event}
 use Rattle.net_base.specs.declared.history.With.{With}
-use Rattle.net_base.specs.declared.il.StateName.TheVariants as name
 use Rattle.net_base.specs.declared.packet.Packet.{Packet}
 use Rattle.net_base.specs.declared.world.World.{World}
 use Rattle.net_base.specs.ActorStep.{Step}
-use Rattle.net_base.specs.Directory.{Dir, Slot, Taker, first_slot, free_slot, is_free, match_of, may_bear, pair_of, pair_place, taker_of}
+use Rattle.net_base.specs.Directory.{Dir, Slot, Taker, first_slot, is_free, match_of, may_bear, pair_of, pair_place, taker_of}
 use Rattle.net_base.specs.Mirror.{mirror}
 use Rattle.net_base.specs.Same.{same_pair}
 use Rattle.history_laws.proofs.Takers.{taker_found}

@@ -1,5 +1,5 @@
 -- What each row of a conversation's table leaves.
-use Rattle.std.specs.Prelude.{◌≡◌, ℕ, suc, ◌+◌, ◌==◌, true, false, List, [], ◌∷◌, length, take, Option, Some, None, nat_lt, ◌&&◌}
+use Rattle.std.specs.Prelude.{◌≡◌, ℕ, suc, ◌+◌, ◌==◌, true, false, List, [], ◌∷◌, length, take, Option, Some, None, nat_lt}
 use Rattle.net_base.specs.declared.address.Pair.{Pair}
 use Rattle.net_base.specs.declared.event.Event.{Event}
 use Rattle.net_base.specs.declared.event.Event.TheVariants as event
@@ -14,7 +14,7 @@ use Rattle.net_base.specs.declared.packet.Body.TheVariants as body
 use Rattle.net_base.specs.declared.packet.Packet.{Packet}
 use Rattle.net_base.specs.declared.reply.Reply.TheVariants as reply
 use Rattle.net_base.specs.ActorStep.{Step}
-use Rattle.net_base.specs.Conversation.{Conv, Core, Il, Udp, Unused, Listening, Connected, answers, begun, born_to, core_announced, core_name, file_text, is_sync, leaves, may_connect, packet_of, turned}
+use Rattle.net_base.specs.Conversation.{Conv, Il, Udp, Unused, Listening, Connected, answers, begun, born_to, core_announced, core_name, file_text, is_sync, leaves, may_connect, packet_of, turned}
 use Rattle.net_base.specs.IlEnd.{End, fresh_end}
 use Rattle.net_base.specs.IlTable.{arrives, connects, first_unread, has_unread, hangs_up, is_born, reads, ticks, writes}
 use Rattle.net_base.specs.Paths.{file_names}

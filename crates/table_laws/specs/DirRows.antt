@@ -17,7 +17,7 @@ use Rattle.net_base.specs.declared.reply.Reply.TheVariants as reply
 use Rattle.net_base.specs.declared.world.World.{World}
 use Rattle.net_base.specs.ActorStep.{Step}
 use Rattle.net_base.specs.Conversation.{is_sync}
-use Rattle.net_base.specs.Directory.{Dir, Key, Slot, Taker, bears, dir_answers, dir_leaves, first_slot, free_slot, frees, home_at, is_free, is_live_with, is_of, is_reserved, limit_of, pair_of, pair_place, port_for, ports_with, refusal, start_of, starts_after, taken_from, taker_of, with_port, withdraws}
+use Rattle.net_base.specs.Directory.{Dir, Slot, Taker, bears, dir_answers, dir_leaves, first_slot, free_slot, frees, home_at, is_free, is_live_with, is_of, is_reserved, limit_of, pair_of, pair_place, port_for, ports_with, refusal, start_of, starts_after, taken_from, taker_of, with_port, withdraws}
 use Rattle.net_base.specs.Paths.{names}
 use Rattle.net_base.specs.Routes.{Way, way}
 use Rattle.net_base.specs.Same.{same_addr}

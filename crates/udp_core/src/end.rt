@@ -1,5 +1,5 @@
 //! A UDP end.
-ghost use Rattle.std.specs.Prelude.{◌≡◌, ◌<◌, ◌↔◌, ◌++◌, ◌∷◌, List, [], length, not, take, is_ok, IsTrue, IsOk, IfOk, IfErr, OnOk, OnErr, IsErrOf};
+ghost use Rattle.std.specs.Prelude.{◌≡◌, ◌<◌, ◌↔◌, [], length, not, take, IsTrue, IsOk, IfOk, IfErr, OnOk, OnErr, IsErrOf};
 ghost use Rattle.net_base.specs.UdpEnd as spec;
 ghost use Rattle.net_base.specs.UdpEnd.{IsDrained};
 

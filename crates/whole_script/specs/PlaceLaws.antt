@@ -1,15 +1,14 @@
 -- What is played in the place of a script asks what comes next there, and goes on.
-use Rattle.std.proofs.Common.{◌≡◌, ℕ, true, List, [], ◌∷◌, ◌++◌, Option, Some, None, refl, sym, ap, subst, ◌∙◌}
+use Rattle.std.proofs.Common.{◌≡◌, List, [], ◌∷◌, ◌++◌, Option, Some, None, refl, sym, ap, subst, ◌∙◌}
 use Rattle.std.specs.Option.{option_and_then}
 use Rattle.net_base.specs.declared.reply.Reply.{Reply}
 use Rattle.net_base.specs.declared.request.Request.{Request}
 use Rattle.net_base.specs.declared.world.Script.{Script}
 use Rattle.net_base.specs.Next.{place_next}
 use Rattle.net_base.specs.Requests.{planned, settled, settles}
-use Rattle.net_base.specs.Steps.{Ask, Names, no_names}
+use Rattle.net_base.specs.Steps.{Names, no_names}
 use Rattle.net_base.specs.Tasks.{Asking, asking_of, asks_after, names_told, told_all}
 use Rattle.net_base.specs.Versions.{Tuples}
-use Rattle.script_task.specs.Fitting.{fits}
 use Rattle.whole_script.specs.declared.place.PlaceTask.{PlaceTask}
 use Rattle.whole_script.specs.declared.place.PlaceTask.TheVariants as place
 use Rattle.whole_script.specs.Places as spec

@@ -18,7 +18,6 @@ use Rattle.net_base.specs.Requests.{head, planned, settled}
 use Rattle.script_task.specs.Rest.{Continues, rest}
 use Rattle.script_task.specs.Task.{Heads, AsksSo, MovesSo, follow, fits_play}
 use Rattle.step_task.specs.declared.step.StepTask.{StepTask}
-use Rattle.step_task.specs.declared.step.StepTask.TheVariants as task
 use Rattle.dial_lib.specs.Slots.{HaveSlots}
 use Rattle.step_task.specs.Leaving as leaving
 use Rattle.step_task.specs.StepLaws as step_laws

@@ -5,7 +5,6 @@ use Rattle.net_base.specs.declared.reply.Reply.{Reply}
 use Rattle.net_base.specs.declared.world.Script.{Script}
 use Rattle.net_base.specs.declared.world.Step.{Step}
 use Rattle.net_base.specs.Next.{finished_by}
-use Rattle.net_base.specs.Remotes.{nothing_left}
 use Rattle.net_base.specs.Scripts.{Kept as Holds, kept_after, left_after, step_play}
 use Rattle.net_base.specs.Steps.{Names, Play, Asks, Ends, no_names}
 use Rattle.net_base.specs.Tasks.{Asking}

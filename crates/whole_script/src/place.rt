@@ -1,6 +1,4 @@
 //! What is played in the places of scripts, of both kinds.
-ghost use Rattle.std.specs.Prelude.{◌≡◌, None};
-ghost use Rattle.net_base.specs.declared.world.Script.{Script as AnyScript};
 
 use crate::own::OwnTask;
 use crate::script::ScriptTask;

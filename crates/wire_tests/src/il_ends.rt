@@ -1,7 +1,7 @@
 //! Worked calls: an end alone, and two ends with a network between them that loses, repeats and delays.
-ghost use Rattle.std.specs.Prelude.{◌≡◌, ◌<◌, ◌^◌, IsTrue};
+ghost use Rattle.std.specs.Prelude.{◌<◌, ◌^◌, IsTrue};
 ghost use Rattle.il_machine.specs.declared.ask.Ask.TheVariants as ask;
-ghost use Rattle.il_machine.specs.Stands.{StandsFor, StandsForSome, IsShort, is_ready};
+ghost use Rattle.il_machine.specs.Stands.{StandsForSome, is_ready};
 
 mod alone;
 mod closing;

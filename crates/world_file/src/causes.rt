@@ -1,5 +1,5 @@
 //! Why a line is bad behind others.
-ghost use Rattle.std.specs.Prelude.{◌≡◌, ◌+◌, ◌==◌, ◌&&◌, bit_and};
+ghost use Rattle.std.specs.Prelude.{◌≡◌, ◌+◌, ◌==◌, ◌&&◌};
 ghost use Rattle.net_base.specs.World as world;
 ghost use Rattle.world_text.specs.WorldLines as spec;
 ghost use Rattle.world_file.specs.Told.{IsSmall};

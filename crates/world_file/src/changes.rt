@@ -2,7 +2,7 @@
 ghost use Rattle.std.specs.Prelude.{◌≡◌, ◌≤◌, length, None, OnOk, is_none, false, true, bit_and};
 ghost use Rattle.world_text.specs.declared.line.MediumLine.TheVariants as medium;
 ghost use Rattle.world_text.specs.declared.line.WorldLine.TheVariants as line;
-ghost use Rattle.world_text.specs.LineFit.{fit_host_line, fit_medium_line, is_fit};
+ghost use Rattle.world_text.specs.LineFit.{fit_medium_line, is_fit};
 ghost use Rattle.world_text.specs.WorldLines as spec;
 ghost use Rattle.world_file.specs.Told.{IsSmall};
 

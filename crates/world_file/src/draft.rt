@@ -1,5 +1,5 @@
 //! A world so far.
-ghost use Rattle.std.specs.Prelude.{◌≡◌, ◌≤◌, ◌<◌, ◌==◌, ◌&&◌, length, position, Some, None, MatchOption, IfOk};
+ghost use Rattle.std.specs.Prelude.{◌≡◌, ◌≤◌, ◌<◌, ◌==◌, length, position, Some, None, MatchOption, IfOk};
 ghost use Rattle.std.specs.List.{list_any, last_or, position_or_len};
 ghost use Rattle.net_base.specs.Routes.{has_ip};
 ghost use Rattle.world_text.specs.WorldLines as spec;

@@ -1,6 +1,5 @@
 //! A host as its lines have made it.
-ghost use Rattle.std.specs.Prelude.{◌≡◌, ◌∷◌, false, OnOk, IfOk, bit_and};
-ghost use Rattle.std.specs.List.{list_any};
+ghost use Rattle.std.specs.Prelude.{◌≡◌, false, OnOk, bit_and};
 ghost use Rattle.net_base.specs.Routes.{has_ip};
 ghost use Rattle.world_text.specs.WorldLines as spec;
 

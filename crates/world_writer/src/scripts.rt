@@ -1,5 +1,5 @@
 //! The lines of scripts.
-ghost use Rattle.std.specs.Prelude.{◌≡◌, ◌∷◌, ◌++◌, [], map, flat_map, OnOk};
+ghost use Rattle.std.specs.Prelude.{◌≡◌, ◌++◌, map, flat_map, OnOk};
 ghost use Rattle.world_text.specs.WorldSpelling as spec;
 ghost use Rattle.world_text.specs.WorldSpelling.{laid, host_names};
 

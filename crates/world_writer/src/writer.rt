@@ -1,5 +1,5 @@
 //! The file of a world.
-ghost use Rattle.std.specs.Prelude.{◌≡◌, ◌∷◌, ◌++◌, [], codes, flat_map, IfOk, OnOk};
+ghost use Rattle.std.specs.Prelude.{◌≡◌, ◌∷◌, ◌++◌, [], flat_map, IfOk, OnOk};
 ghost use Rattle.world_text.specs.WorldSpelling.{laid, line_of_end, line_of_seed, line_of_timers, lines_of_world};
 ghost use Rattle.ndb_reader.specs.Written.{db_text};
 ghost use Rattle.world_writer.specs.Written.{file_text, later_text, lines_of_parts, versions_text};

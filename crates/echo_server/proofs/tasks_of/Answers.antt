@@ -1,4 +1,4 @@
-use Rattle.std.proofs.Common.{List, Option, Some, sym, subst}
+use Rattle.std.proofs.Common.{Some, sym, subst}
 use Rattle.std.proofs.lemmas.Option.{none-some}
 use Rattle.agenda.specs.Given.{AreBegun}
 use Rattle.echo_server.specs.Echoes.{claimed}

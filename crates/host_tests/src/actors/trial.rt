@@ -1,6 +1,5 @@
 //! The actors of a small world, and what they answer.
 ghost use Rattle.std.specs.Prelude.{◌≡◌, ◌∷◌, ◌^◌, ◌<◌, [], IfOk, codes, true};
-ghost use Rattle.net_base.specs.World.{IsWorld};
 ghost use Rattle.net_actors.specs.Numbers.{is_among};
 ghost use Rattle.host_tests.specs.Tried.{tried_host, tried_medium, tried_world};
 

@@ -2,9 +2,8 @@
 ghost use Rattle.std.specs.Prelude.{◌≡◌, ◌<◌, ◌^◌, IfOk, OnErr, true};
 ghost use Rattle.net_base.specs.declared.il.IlKind.TheVariants as kind;
 ghost use Rattle.net_base.specs.declared.il.IlState.TheVariants as state;
-ghost use Rattle.net_base.specs.IlEnd.{End};
 ghost use Rattle.net_base.specs.IlTable as table;
-ghost use Rattle.il_machine.specs.Stands.{IsFew, Says, StandsFor, Turns, closing_takes, established_takes, handshake_completed, takes_in};
+ghost use Rattle.il_machine.specs.Stands.{IsFew, Says, Turns, closing_takes, established_takes, handshake_completed, takes_in};
 
 use crate::end::IlEnd;
 use net_base::{Cause, IlKind, IlMsg, IlState};

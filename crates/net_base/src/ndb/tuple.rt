@@ -1,5 +1,5 @@
 //! Tuples as they are lent.
-ghost use Rattle.std.specs.Prelude.{◌≡◌, ◌<◌, [], length, get_or, MatchOption};
+ghost use Rattle.std.specs.Prelude.{◌≡◌, ◌<◌, [], length, get_or};
 ghost use Rattle.std.specs.List.{list_any};
 ghost use Rattle.net_base.specs.Search as spec;
 

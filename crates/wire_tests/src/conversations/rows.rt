@@ -1,5 +1,5 @@
 //! Tables of calls: what happens at a conversation, what it replies and emits.
-ghost use Rattle.std.specs.Prelude.{◌≡◌, IsTrue, ◌<◌, ◌^◌};
+ghost use Rattle.std.specs.Prelude.{IsTrue, ◌<◌};
 ghost use Rattle.conversation.specs.Stands.{IsReady};
 
 use conversation::Conv;

@@ -1,4 +1,4 @@
-use Rattle.std.proofs.Common.{ℕ, List, [], ◌∷◌, Option, None, length, length-append, ap, arith, sym, subst, ◌∙◌}
+use Rattle.std.proofs.Common.{[], ◌∷◌, None, length, length-append, ap, arith, ◌∙◌}
 use Rattle.agenda.specs.Given.{task_at}
 use Rattle.agenda.proofs.Backing.{none_push}
 use Rattle.agenda.proofs.tasks.rows.Goals as goal

@@ -1,4 +1,4 @@
-use Rattle.std.proofs.Common.{rules, ap, ◌∙◌}
+use Rattle.std.proofs.Common.{rules, ◌∙◌}
 use Rattle.host_dir.specs.contracts.slots.EndsPartialEq.TheImpl as derived
 use Rattle.host_dir.specs.Tables.{pair_of}
 use Rattle.host_dir.proofs.Index.{lookup_is}

@@ -1,4 +1,4 @@
-use Rattle.std.proofs.Common.{◌≡◌, List, Some, None, ap, sym, subst, ◌∙◌}
+use Rattle.std.proofs.Common.{◌≡◌, Some, None, ap, sym, subst, ◌∙◌}
 use Rattle.net_base.specs.declared.history.Work.{Work}
 use Rattle.net_base.specs.Callers.{caller_of}
 use Rattle.net_base.specs.Next.{next_by}

@@ -1,8 +1,7 @@
-use Rattle.std.proofs.Common.{◌++◌, ◌∷◌, List, [], ap, sym, ◌∙◌}
+use Rattle.std.proofs.Common.{◌++◌, ◌∷◌, [], ap, sym, ◌∙◌}
 use Rattle.std.proofs.lemmas.List.{append-nil}
 use Rattle.host_net.specs.Groups.{visits, with_last}
 use Rattle.host_net.specs.Playing.{guests_of}
-use Rattle.net_guests.specs.Visits.{Visit}
 use Rattle.host_net.proofs.Parting.{goes_part, guests_push, plays_part}
 use Rattle.host_net.proofs.players.add_clock_part.Goals as goal
 

@@ -1,8 +1,8 @@
-use Rattle.std.proofs.Common.{◌≡◌, ◌+◌, [], ◌∷◌, Some, None, arith, sym, ap, ◌∙◌, length, length-append}
+use Rattle.std.proofs.Common.{◌≡◌, ◌+◌, [], ◌∷◌, None, arith, sym, ap, ◌∙◌, length, length-append}
 use Rattle.net_base.specs.IlEnd.{early_at}
 use Rattle.il_machine.specs.InTurn.{Turned}
 use Rattle.il_machine.proofs.Near.{begins_after, none_goes, one_further}
-use Rattle.il_machine.proofs.InTurn.{Steps, none_next, steps}
+use Rattle.il_machine.proofs.InTurn.{none_next, steps}
 use Rattle.il_machine.proofs.in_turn.come_in_turn.Goals as goal
 
 -- the next message is early

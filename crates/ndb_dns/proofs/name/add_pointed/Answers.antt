@@ -1,4 +1,4 @@
-use Rattle.std.proofs.Common.{ℕ, ◌<◌, List, Option, arith, subst}
+use Rattle.std.proofs.Common.{ℕ, ◌<◌, Option, arith, subst}
 use Rattle.std.proofs.lemmas.Option.{IfSome_then}
 use Rattle.std.proofs.lemmas.Result.{err_from_is_err_and}
 use Rattle.ndb_dns.specs.Runs.{HasNoRun, LeadsToNone}

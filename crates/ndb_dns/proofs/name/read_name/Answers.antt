@@ -1,4 +1,4 @@
-use Rattle.std.proofs.Common.{ℕ, List, [], refl, arith, subst}
+use Rattle.std.proofs.Common.{ℕ, List, refl, arith, subst}
 use Rattle.std.proofs.lemmas.Result.{err_from_is_err_and}
 use Rattle.net_base.specs.DomainNames.{ReadsName}
 use Rattle.ndb_dns.specs.Runs.{AddsRun, HasNoRun, LeadsToNone}

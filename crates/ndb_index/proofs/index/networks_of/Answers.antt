@@ -1,4 +1,4 @@
-use Rattle.std.proofs.Common.{List, nat_eq, [], arith, ◌<◌, length, sym, ap, ◌∙◌}
+use Rattle.std.proofs.Common.{nat_eq, [], arith, ◌<◌, length, sym, ap, ◌∙◌}
 use Rattle.std.specs.List.{list_any}
 use Rattle.net_base.proofs.Among.{own-default}
 use Rattle.ndb_index.specs.Nets.{has_prefix, has_length, places_kept}

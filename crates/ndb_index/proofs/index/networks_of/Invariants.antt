@@ -1,4 +1,4 @@
-use Rattle.std.proofs.Common.{◌≡◌, ℕ, List, nat_eq, take}
+use Rattle.std.proofs.Common.{◌≡◌, ℕ, nat_eq, take}
 use Rattle.std.specs.List.{list_any}
 use Rattle.ndb_tuple.specs.declared.prefixes.Prefix.{Prefix}
 use Rattle.ndb_tuple.specs.Places.{places_of}

@@ -1,8 +1,6 @@
-use Rattle.std.proofs.Common.{List, sym, ap, ◌∙◌}
-use Rattle.net_base.specs.Ndb.{NdbPair}
+use Rattle.std.proofs.Common.{sym, ap, ◌∙◌}
 use Rattle.net_base.specs.Search.{is_pair}
 use Rattle.net_base.specs.Spots.{pair_spots}
-use Rattle.net_base.specs.Store.{all_pairs}
 use Rattle.net_base.specs.declared.ndb.spot.Spot.{Spot}
 use Rattle.std.proofs.Common.{get_or, Bool}
 use Rattle.ndb_index.specs.Kept.{noted, with_spot}

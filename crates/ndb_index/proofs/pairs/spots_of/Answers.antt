@@ -1,7 +1,6 @@
-use Rattle.std.proofs.Common.{ℕ, ◌+◌, map, sym, ap, ◌∙◌, refl, arith}
+use Rattle.std.proofs.Common.{ℕ, ◌+◌, map, ap, ◌∙◌, refl, arith}
 use Rattle.std.proofs.lemmas.List.{length-map}
 use Rattle.net_base.specs.Store.{all_pairs}
-use Rattle.ndb_chains.specs.Chains.{first_in}
 use Rattle.ndb_index.specs.Chained.{width_for, alike}
 use Rattle.ndb_index.specs.Hashing.{bucket_in, pair_bucket}
 use Rattle.ndb_index.proofs.ByPair.{walk-none, walk-within, walk-costs, walk-next, walk-all}

@@ -1,4 +1,4 @@
-use Rattle.std.proofs.Common.{[], refl, sym}
+use Rattle.std.proofs.Common.{refl}
 use Rattle.ndb_reader.specs.Written.{line_text}
 use Rattle.ndb_reader.proofs.Lined.{some-one, no-one, nothing-more, line-whole}
 use Rattle.ndb_reader.proofs.writer.put_pairs.Goals as goal

@@ -1,4 +1,4 @@
-use Rattle.std.proofs.Common.{[], refl, sym}
+use Rattle.std.proofs.Common.{refl}
 use Rattle.ndb_reader.specs.Written.{tuple_text}
 use Rattle.ndb_reader.proofs.Lined.{some-one, no-one, nothing-more, tuple-whole}
 use Rattle.ndb_reader.proofs.writer.put_tuple.Goals as goal

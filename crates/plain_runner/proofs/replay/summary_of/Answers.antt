@@ -1,6 +1,5 @@
-use Rattle.std.proofs.Common.{◌≡◌, List, ap, ◌∙◌}
+use Rattle.std.proofs.Common.{List, ap, ◌∙◌}
 use Rattle.net_base.specs.declared.history.Entry.{Entry}
-use Rattle.net_base.specs.Legal.{IsTimed}
 use Rattle.net_base.specs.Net.{after}
 use Rattle.net_base.specs.Summary.{answered_steps, end_word}
 use Rattle.plain_runner.proofs.replay.summary_of.Goals as goal

@@ -1,5 +1,5 @@
 use Rattle.std.proofs.Common.{refl}
-use Rattle.script_steps.proofs.Entries.{all_of, got, has_caller, may_come, one_further}
+use Rattle.script_steps.proofs.Entries.{got, has_caller, may_come, one_further}
 use Rattle.script_steps.proofs.Latests.{latest_more}
 use Rattle.script_steps.proofs.recorded.record_of.Goals as goal
 

@@ -1,4 +1,4 @@
-use Rattle.std.proofs.Common.{◌≡◌, ap, subst, sym, List, Some, length, slice_get, arith}
+use Rattle.std.proofs.Common.{◌≡◌, ap, subst, List, Some, length, slice_get, arith}
 use Rattle.net_base.specs.declared.history.Entry.{Entry}
 use Rattle.net_base.specs.declared.world.Script.{Script}
 use Rattle.plain_runner.specs.Callers.{IsCaller}

@@ -1,15 +1,15 @@
 use Rattle.std.proofs.Common.{◌≡◌, None, Some, [], ◌∷◌, ◌++◌, rules, ap, sym, subst, ◌∙◌}
 use Rattle.std.specs.Prelude.{slice_set}
-use Rattle.std.proofs.lemmas.List.{get_or-set_other, length-set}
+use Rattle.std.proofs.lemmas.List.{length-set}
 use Rattle.indexmap.proofs.CallerLemmas.{insert_entry-new}
 use Rattle.net_base.specs.declared.il.StateName.TheVariants as name
 use Rattle.net_base.specs.declared.address.Pair.{Pair}
-use Rattle.net_base.specs.Directory.{Slot, free_slot, pair_place}
+use Rattle.net_base.specs.Directory.{Slot, pair_place}
 use Rattle.host_dir.specs.contracts.slots.EndsPartialEq.TheImpl as derived
 use Rattle.host_dir.specs.Found.{slot_at}
-use Rattle.host_dir.specs.Tables.{IsIndexed, Tables, pair_of, pairs_of}
+use Rattle.host_dir.specs.Tables.{IsIndexed, pair_of, pairs_of}
 use Rattle.host_dir.proofs.Firsts.{at_place}
-use Rattle.host_dir.proofs.Index.{absent, given_to, kept, lookup_is, pairs_added, tables_are}
+use Rattle.host_dir.proofs.Index.{absent, given_to, lookup_is, pairs_added, tables_are}
 use Rattle.host_dir.proofs.slots.Slots.give.Goals as goal
 
 pub invariant_of-self-2 : goal.invariant_of-self-2

@@ -1,7 +1,6 @@
-use Rattle.std.proofs.Common.{◌≡◌, rules, ap, ◌∙◌}
+use Rattle.std.proofs.Common.{ap, ◌∙◌}
 use Rattle.std.proofs.lemmas.List.{length-set}
 use Rattle.net_base.specs.Directory.{Slot}
-use Rattle.host_dir.specs.Found.{slot_at}
 use Rattle.host_dir.proofs.Index.{emptied}
 use Rattle.host_dir.proofs.slots.Slots.reserve.Goals as goal
 

@@ -1,6 +1,6 @@
-use Rattle.std.proofs.Common.{◌≡◌, ◌+◌, ◌<◌, ◌≤◌, ℕ, None, length, arith, ap, ◌∙◌}
+use Rattle.std.proofs.Common.{◌≡◌, ◌+◌, ◌<◌, ◌≤◌, None, length, arith, ap, ◌∙◌}
 use Rattle.net_base.specs.IlEnd.{early_at}
-use Rattle.il_machine.specs.Windows.{Windows, AreWithin}
+use Rattle.il_machine.specs.Windows.{Windows}
 use Rattle.il_machine.proofs.Near.{few, wider}
 use Rattle.il_machine.proofs.end.IlEnd.add.Goals as goal
 

@@ -1,4 +1,4 @@
-use Rattle.std.proofs.Common.{◌≡◌, ◌≤◌, Some, ap, length, sym, ◌∙◌, arith}
+use Rattle.std.proofs.Common.{◌≡◌, Some, ap, length, sym, ◌∙◌, arith}
 use Rattle.net_base.specs.Number.{number}
 use Rattle.net_base.specs.IlEnd.{hears, acks}
 use Rattle.net_base.specs.Timer as timer

@@ -1,12 +1,10 @@
-use Rattle.std.proofs.Common.{◌≡◌, ◌-◌, ◌<◌, ◌∙◌, ap, arith, length, refl}
+use Rattle.std.proofs.Common.{◌≡◌, ◌-◌, ◌∙◌, ap, arith, length, refl}
 use Rattle.std.proofs.lemmas.Bool.Decides.{nat_tests}
 use Rattle.il_queues.specs.Reading.{Waiting, after_read, unread_of}
-use Rattle.net_base.specs.IlEnd.{End}
-use Rattle.net_base.specs.IlTable.{has_unread}
 use Rattle.il_machine.specs.Windows.{Windows, windows_of}
 use Rattle.il_machine.specs.Stands.{StandsFor}
 use Rattle.il_machine.specs.contracts.end.IlEnd.{the_view}
-use Rattle.il_machine.proofs.Unread.{Holds, holds, read_kept, same_length}
+use Rattle.il_machine.proofs.Unread.{holds, read_kept, same_length}
 use Rattle.il_machine.proofs.end.IlEnd.read.Goals as goal
 
 pub returns-clause-end : goal.returns-clause-end

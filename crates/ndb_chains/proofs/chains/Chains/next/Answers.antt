@@ -1,4 +1,4 @@
-use Rattle.std.proofs.Common.{ℕ, ap, sym, ◌∙◌, ◌-◌, ◌≡◌, length, arith, get_or}
+use Rattle.std.proofs.Common.{ℕ, ap, ◌∙◌, ◌-◌, ◌≡◌, length, arith, get_or}
 use Rattle.std.proofs.lemmas.Grind.{get_or_default_zero}
 use Rattle.ndb_chains.proofs.Entries.{next-at}
 use Rattle.ndb_chains.proofs.chains.Chains.next.Goals as goal

@@ -1,4 +1,4 @@
-use Rattle.std.proofs.Common.{ℕ, ap, sym, subst, ◌∙◌, ◌+◌, ◌∷◌, ◌++◌, [], List, length, arith, length-append}
+use Rattle.std.proofs.Common.{ℕ, ap, sym, subst, ◌∙◌, ◌+◌, ◌∷◌, [], List, length, arith, length-append}
 use Rattle.ndb_chains.specs.Chains.{AreNexts}
 use Rattle.std.proofs.lemmas.Grind.{get_or_default_zero}
 use Rattle.ndb_chains.proofs.Entries.{heads-push, nexts-push}

@@ -1,4 +1,4 @@
-use Rattle.std.proofs.Common.{ℕ, ◌-◌, arith}
+use Rattle.std.proofs.Common.{◌-◌, arith}
 use Rattle.net_base.specs.Store.{mark_lowered}
 use Rattle.net_base.proofs.Skipped.{mapped-length, mapped-next, mapped-all}
 use Rattle.net_base.proofs.ndb.runs.lower_marks.Goals as goal

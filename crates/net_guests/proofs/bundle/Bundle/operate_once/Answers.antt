@@ -1,4 +1,4 @@
-use Rattle.std.proofs.Common.{◌≡◌, ℕ, not, ◌==◌, false, List, length, ap, sym, subst, ◌∙◌}
+use Rattle.std.proofs.Common.{◌≡◌, ℕ, not, ◌==◌, false, length, ap, sym, subst, ◌∙◌}
 use Rattle.net_base.specs.Callers.{caller_of}
 use Rattle.net_base.specs.Steps.{Names}
 use Rattle.script_task.specs.Holdings.{Holdings}

@@ -1,4 +1,3 @@
-use Rattle.std.proofs.Common.{◌≡◌, refl}
 use Rattle.net_import.specs.ImportLaws.{fresh, made}
 use Rattle.net_import.proofs.import.Import.new.Goals as goal
 

@@ -1,4 +1,4 @@
-use Rattle.std.proofs.Common.{◌≡◌, [], List, refl, ap, sym, subst, ◌∙◌}
+use Rattle.std.proofs.Common.{[], List, refl, ap, sym, subst, ◌∙◌}
 use Rattle.net_base.specs.declared.world.Version.{Version}
 use Rattle.net_base.specs.Next.{zone_of}
 use Rattle.net_base.specs.Versions.{Tuples, database_of}
