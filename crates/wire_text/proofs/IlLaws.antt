@@ -13,7 +13,7 @@ use Rattle.wire_text.proofs.WireSums.{sum_of-fits}
 -- ---- what was spelled is read
 
 -- a spelled message passes every test of a reader
-pub record IsSound (bytes : List ℕ) : Type 0 where
+pub record IsSoundIl (bytes : List ℕ) : Type 0 where
   pub long : 18 ≤ length bytes
   pub summed : word_at 0 bytes ≡ il_sum bytes
   pub whole : il_length bytes ≡ length bytes
@@ -37,7 +37,7 @@ type_known kind.Query = omega arith
 type_known kind.State = omega arith
 type_known kind.Close = omega arith
 
-pub sound_again : (sport dport : ℕ) (m : IlMsg) → 18 + length m.text < 2 ^ 16 → IsSound (il_bytes sport dport m)
+pub sound_again : (sport dport : ℕ) (m : IlMsg) → 18 + length m.text < 2 ^ 16 → IsSoundIl (il_bytes sport dport m)
 unfolding il_bytes
 sound_again sport dport m fits = record {
   long = omega arith;
@@ -61,8 +61,8 @@ dport_again sport dport m fits = word_again dport fits
 
 -- ---- all that a decoder needs of bytes that spell something
 
-pub spells_sound : (sport dport : ℕ) (m : IlMsg) (bytes : List ℕ) → SpellsIl sport dport m bytes → IsSound bytes
-spells_sound sport dport m bytes s = rw s.spelled (sound_again sport dport m s.fits)
+pub spells_il_sound : (sport dport : ℕ) (m : IlMsg) (bytes : List ℕ) → SpellsIl sport dport m bytes → IsSoundIl bytes
+spells_il_sound sport dport m bytes s = rw s.spelled (sound_again sport dport m s.fits)
 
 pub spells_message : (sport dport : ℕ) (m : IlMsg) (bytes : List ℕ) → SpellsIl sport dport m bytes → message_of bytes ≡ m
 spells_message sport dport m bytes s = ap message_of s.spelled ∙ message_again sport dport m s.message
@@ -86,7 +86,7 @@ type_read (suc (suc (suc (suc (suc (suc zero)))))) h = refl
 type_read (suc (suc (suc (suc (suc (suc (suc n))))))) h = absurd (omega (arith, h))
 
 -- a message by its fields, whatever the sum field is replaced by
-with_read : (bytes : List ℕ) (sum : ℕ) → IsBytes bytes → IsSound bytes → il_with sum (il_sport bytes) (il_dport bytes) (message_of bytes) ≡ sum / 256 % 256 ∷ sum % 256 ∷ (items 2 16 bytes ++ drop 18 bytes)
+with_read : (bytes : List ℕ) (sum : ℕ) → IsBytes bytes → IsSoundIl bytes → il_with sum (il_sport bytes) (il_dport bytes) (message_of bytes) ≡ sum / 256 % 256 ∷ sum % 256 ∷ (items 2 16 bytes ++ drop 18 bytes)
 with_read bytes sum fits sound =
     let b : ℕ → ℕ = λ i. get_or bytes i 0 in
     let total : 18 + length (drop 18 bytes) ≡ 256 * get_or bytes 2 0 + get_or bytes 3 0 = omega (arith, length-drop 18 bytes, sound.whole, sound.long) in
@@ -109,7 +109,7 @@ with_read bytes sum fits sound =
       long_3 (b 14) (b 15) (b 16) (b 17) (fits 17),
     ) refl
 
-pub spelled_read : (bytes : List ℕ) → IsBytes bytes → IsSound bytes → bytes ≡ il_bytes (il_sport bytes) (il_dport bytes) (message_of bytes)
+pub spelled_read : (bytes : List ℕ) → IsBytes bytes → IsSoundIl bytes → bytes ≡ il_bytes (il_sport bytes) (il_dport bytes) (message_of bytes)
 unfolding il_bytes
 spelled_read bytes fits sound =
     let b : ℕ → ℕ = λ i. get_or bytes i 0 in
@@ -120,8 +120,8 @@ spelled_read bytes fits sound =
     rw (with_read bytes (word_at 0 bytes) fits sound, word_high (b 0) (b 1) (fits 0) (fits 1), word_low (b 0) (b 1) (fits 1)) refl in
     by_items 18 bytes sound.long ∙ whole ∙ ap (λ (s : ℕ). il_with s (il_sport bytes) (il_dport bytes) (message_of bytes)) (sym sum)
 
-pub spells_read : (bytes : List ℕ) → IsBytes bytes → IsSound bytes → SpellsIl (il_sport bytes) (il_dport bytes) (message_of bytes) bytes
-spells_read bytes fits sound = record {
+pub spells_il_read : (bytes : List ℕ) → IsBytes bytes → IsSoundIl bytes → SpellsIl (il_sport bytes) (il_dport bytes) (message_of bytes) bytes
+spells_il_read bytes fits sound = record {
   sport_fits = omega (arith, fits 6, fits 7);
   dport_fits = omega (arith, fits 8, fits 9);
   message = record { spec = fits 5; id = omega (arith, fits 10, fits 11, fits 12, fits 13); ack = omega (arith, fits 14, fits 15, fits 16, fits 17) };

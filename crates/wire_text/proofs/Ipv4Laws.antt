@@ -33,7 +33,7 @@ header_again reserved h payload fits =
     rw (word_again h.ident fits.ident, flag_again reserved h.dont_fragment, long_again h.src fits.src, long_again h.dst fits.dst) refl
 
 -- a spelled datagram passes every test of a reader
-pub record IsSound (bytes : List ℕ) : Type 0 where
+pub record IsSoundIpv4 (bytes : List ℕ) : Type 0 where
   pub plain : IsPlain bytes
   pub summed : word_at 10 bytes ≡ header_sum bytes
   pub whole : total_length bytes ≡ length bytes
@@ -44,7 +44,7 @@ fragment_none true false = refl
 fragment_none false true = refl
 fragment_none false false = refl
 
-pub sound_again : (reserved : Bool) (h : Ipv4) (payload : List ℕ) → 20 + length payload < 2 ^ 16 → IsSound (flagged_bytes reserved h payload)
+pub sound_again : (reserved : Bool) (h : Ipv4) (payload : List ℕ) → 20 + length payload < 2 ^ 16 → IsSoundIpv4 (flagged_bytes reserved h payload)
 unfolding flagged_bytes
 sound_again reserved h payload fits = record {
   plain = record { long = omega arith; version = refl; words = refl; whole = fragment_none reserved h.dont_fragment };
@@ -90,7 +90,7 @@ blanked_items bytes h =
 total_read : (bytes : List ℕ) → 20 ≤ length bytes → total_length bytes ≡ length bytes → 20 + length (drop 20 bytes) ≡ total_length bytes
 total_read bytes long e = omega (arith, length-drop 20 bytes)
 
-pub spelled_read : (bytes : List ℕ) → IsBytes bytes → IsSound bytes → bytes ≡ flagged_bytes (reserved_of bytes) (header_of bytes) (payload_of bytes)
+pub spelled_read : (bytes : List ℕ) → IsBytes bytes → IsSoundIpv4 bytes → bytes ≡ flagged_bytes (reserved_of bytes) (header_of bytes) (payload_of bytes)
 unfolding flagged_bytes
 spelled_read bytes fits sound =
     let b : ℕ → ℕ = λ i. get_or bytes i 0 in
@@ -116,8 +116,8 @@ header_fits bytes fits = record {
   dst = omega (arith, fits 16, fits 17, fits 18, fits 19);
 }
 
-pub spells_read : (bytes : List ℕ) → IsBytes bytes → IsSound bytes → SpellsIpv4 (header_of bytes) (payload_of bytes) bytes
-spells_read bytes fits sound = record {
+pub spells_ipv4_read : (bytes : List ℕ) → IsBytes bytes → IsSoundIpv4 bytes → SpellsIpv4 (header_of bytes) (payload_of bytes) bytes
+spells_ipv4_read bytes fits sound = record {
   header = header_fits bytes fits;
   fits = omega (arith, total_read bytes sound.plain.long sound.whole, fits 2, fits 3);
   reserved = reserved_of bytes;
@@ -126,8 +126,8 @@ spells_read bytes fits sound = record {
 
 -- ---- all that a decoder needs of bytes that spell something
 
-pub spells_sound : (h : Ipv4) (payload bytes : List ℕ) → SpellsIpv4 h payload bytes → IsSound bytes
-spells_sound h payload bytes s = rw s.spelled (sound_again s.reserved h payload s.fits)
+pub spells_ipv4_sound : (h : Ipv4) (payload bytes : List ℕ) → SpellsIpv4 h payload bytes → IsSoundIpv4 bytes
+spells_ipv4_sound h payload bytes s = rw s.spelled (sound_again s.reserved h payload s.fits)
 
 pub spells_header : (h : Ipv4) (payload bytes : List ℕ) → SpellsIpv4 h payload bytes → header_of bytes ≡ h
 spells_header h payload bytes s = ap header_of s.spelled ∙ header_again s.reserved h payload s.header

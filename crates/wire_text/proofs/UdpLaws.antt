@@ -12,7 +12,7 @@ use Rattle.wire_text.proofs.WireSums.{sum_of-fits}
 -- ---- what was spelled is read
 
 -- a spelled datagram passes every test of a reader
-pub record IsSound (src dst : ℕ) (bytes : List ℕ) : Type 0 where
+pub record IsSoundUdp (src dst : ℕ) (bytes : List ℕ) : Type 0 where
   pub long : 8 ≤ length bytes
   pub summed : (sum_field bytes ≡ 0) ⊎ (sum_field bytes ≡ received_sum src dst bytes)
   pub whole : udp_length bytes ≡ length bytes
@@ -29,7 +29,7 @@ text_again sum sport dport text = refl
 whole_again : (sum sport dport : ℕ) (text : List ℕ) → 8 + length text < 2 ^ 16 → udp_length (udp_with sum sport dport text) ≡ length (udp_with sum sport dport text)
 whole_again sum sport dport text fits = word_again (8 + length text) fits ∙ omega arith
 
-unsummed_sound : (src dst : Addr) (text : List ℕ) → 8 + length text < 2 ^ 16 → IsSound src.ip dst.ip (unsummed_bytes src dst text)
+unsummed_sound : (src dst : Addr) (text : List ℕ) → 8 + length text < 2 ^ 16 → IsSoundUdp src.ip dst.ip (unsummed_bytes src dst text)
 unfolding unsummed_bytes
 unsummed_sound src dst text fits = record {
   long = omega arith;
@@ -43,7 +43,7 @@ summed_again src dst text fits =
     word_again (udp_sum src dst text) (sent_sum-fits (pseudo_header src.ip dst.ip (8 + length text) ++ udp_with 0 src.port dst.port text))
     ∙ ap (λ (n : ℕ). sent_sum (sum_of (pseudo_header src.ip dst.ip n ++ udp_with 0 src.port dst.port text))) (sym (word_again (8 + length text) fits))
 
-pub summed_sound : (src dst : Addr) (text : List ℕ) → 8 + length text < 2 ^ 16 → IsSound src.ip dst.ip (udp_bytes src dst text)
+pub summed_sound : (src dst : Addr) (text : List ℕ) → 8 + length text < 2 ^ 16 → IsSoundUdp src.ip dst.ip (udp_bytes src dst text)
 unfolding udp_bytes
 summed_sound src dst text fits = record {
   long = omega arith;
@@ -51,12 +51,12 @@ summed_sound src dst text fits = record {
   whole = whole_again (udp_sum src dst text) src.port dst.port text fits;
 }
 
-sound_either : (src dst : Addr) (text bytes : List ℕ) → 8 + length text < 2 ^ 16 → (bytes ≡ udp_bytes src dst text) ⊎ (bytes ≡ unsummed_bytes src dst text) → IsSound src.ip dst.ip bytes
+sound_either : (src dst : Addr) (text bytes : List ℕ) → 8 + length text < 2 ^ 16 → (bytes ≡ udp_bytes src dst text) ⊎ (bytes ≡ unsummed_bytes src dst text) → IsSoundUdp src.ip dst.ip bytes
 sound_either src dst text bytes fits (inl e) = rw e (summed_sound src dst text fits)
 sound_either src dst text bytes fits (inr e) = rw e (unsummed_sound src dst text fits)
 
-pub spells_sound : (src dst : Addr) (text bytes : List ℕ) → SpellsUdp src dst text bytes → IsSound src.ip dst.ip bytes
-spells_sound src dst text bytes s = sound_either src dst text bytes s.fits s.spelled
+pub spells_udp_sound : (src dst : Addr) (text bytes : List ℕ) → SpellsUdp src dst text bytes → IsSoundUdp src.ip dst.ip bytes
+spells_udp_sound src dst text bytes s = sound_either src dst text bytes s.fits s.spelled
 
 abbrev HasFields : Addr → Addr → List ℕ → List ℕ → Type 0
 HasFields src dst text bytes = (sport_of bytes ≡ src.port) × (dport_of bytes ≡ dst.port) × (udp_text bytes ≡ text)
@@ -110,8 +110,8 @@ spelled_either src dst bytes fits long whole (inr e) =
     ∙ ap (λ (x : List ℕ). sent_sum (sum_of (pseudo_header src dst (8 + length (drop 8 bytes)) ++ x))) (sym (blanked_read bytes fits long whole)) in
     inl (itself_read bytes fits long whole ∙ ap (λ (s : ℕ). udp_with s (sport_of bytes) (dport_of bytes) (udp_text bytes)) (e ∙ sum))
 
-pub spells_read : (src dst : ℕ) (bytes : List ℕ) → IsBytes bytes → IsSound src dst bytes → SpellsUdp (address src (sport_of bytes)) (address dst (dport_of bytes)) (udp_text bytes) bytes
-spells_read src dst bytes fits sound = record {
+pub spells_udp_read : (src dst : ℕ) (bytes : List ℕ) → IsBytes bytes → IsSoundUdp src dst bytes → SpellsUdp (address src (sport_of bytes)) (address dst (dport_of bytes)) (udp_text bytes) bytes
+spells_udp_read src dst bytes fits sound = record {
   sport = omega (arith, fits 0, fits 1);
   dport = omega (arith, fits 2, fits 3);
   fits = omega (arith, length-drop 8 bytes, sound.long, sound.whole, fits 4, fits 5);
