@@ -17,7 +17,7 @@ use Rattle.net_base.specs.Tasks.{Asking, Tasks, asking_of, asks_after, told_all}
 use Rattle.agenda.specs.Given.{AreBack, AreBegun, AreTheirs, IsBack, NoneElse, WereTold, own_task, task_at, tasks_of}
 use Rattle.host_net.specs.Answering.{AreAfter}
 use Rattle.host_net.specs.Playing.{AreGoing, guests_of, replies_of}
-use Rattle.host_net.proofs.Answered.{replies_after}
+use Rattle.host_net.proofs.Shared.{replies_after}
 use Rattle.net_guests.specs.Visits.{HasGuest, Visit}
 use Rattle.whole_script.specs.declared.place.PlaceTask.{PlaceTask}
 use Rattle.whole_script.specs.declared.place.PlaceTask.TheVariants as place

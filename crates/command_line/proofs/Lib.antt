@@ -1,3 +1,4 @@
 pub mod BadLines
 pub mod Endings
 pub mod Statuses
+pub mod Shared

@@ -11,7 +11,7 @@ use Rattle.world_file.specs.SessionText.{Says}
 use Rattle.commands.specs.Built.{asking, cs_found, cs_over, dns_found, dns_over, made, query_found, query_over, translation, unless_bad, IsAnswer, IsBadTold, IsExported, IsFound, IsRun, IsSummed, IsWorldOf}
 use Rattle.checked_input.specs.Input.{bad_world}
 use Rattle.command_line.specs.Asking.{IsGiven}
-use Rattle.command_line.proofs.BadLines.{answer_within, within_limit}
+use Rattle.command_line.proofs.Shared.{answer_within, within_limit}
 
 -- what was found, unless a line is bad
 given_unless : (asked : Command) (input : List ℕ) (answer found : Answer) (bad : Option (ℕ × ℕ)) → (answer ≡ found → IsFound asked input answer)

@@ -12,7 +12,7 @@ use Rattle.checked_input.specs.declared.fault.InputError.{InputError}
 use Rattle.checked_input.specs.declared.fault.InputError.TheVariants as error
 use Rattle.commands.specs.Built.{asking, IsAnswer, IsJudged}
 use Rattle.commands.specs.Checked.{IsChecked, IsEntryFault, IsOwn, TellsError}
-use Rattle.command_line.proofs.BadLines.{answer_within, within_limit}
+use Rattle.command_line.proofs.Shared.{answer_within, within_limit}
 
 -- The rules.
 

@@ -14,13 +14,12 @@ use Rattle.net_base.specs.Cs.{once_each, is_numeric, name_attr, word_addresses}
 use Rattle.net_base.specs.Search.{has_attr}
 use Rattle.ndb_tuple.specs.declared.numbers.Kind.TheVariants.{Address}
 use Rattle.ndb_tuple.specs.Numbers.{numbers_on, numbers_in, numbers_near, numbers_found}
-use Rattle.ndb_tuple.proofs.Pieces.{near_on, near_in}
-use Rattle.ndb_tuple.proofs.Covered.{equal, itself}
+use Rattle.ndb_tuple.proofs.Shared.{near_on, near_in, equal, itself}
 use Rattle.net_base.specs.declared.ndb.spot.Spot.{Spot}
 use Rattle.net_base.specs.Spots.{same_spot}
 use Rattle.ndb_index.specs.Kept.{spots_with}
 use Rattle.ndb_index.specs.Index.{found}
-use Rattle.ndb_index.proofs.Nearby.{spots_count}
+use Rattle.ndb_index.proofs.Shared.{spots_count}
 use Rattle.cs_resolver.specs.Gathering.{Gathers, AreAmong, TuplesRead, SpotsRead, words_seen}
 use Rattle.cs_resolver.specs.Probes.{numbers_at, word_found}
 use Rattle.cs_resolver.proofs.AtSpots.{at_spot_is, spots_numbers}

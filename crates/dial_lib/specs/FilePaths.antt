@@ -8,7 +8,7 @@ use Rattle.net_base.specs.declared.names.FileName.{FileName}
 use Rattle.net_base.specs.declared.names.FileName.TheVariants as file
 use Rattle.net_base.specs.declared.names.Node.TheVariants as node
 use Rattle.net_base.specs.Paths.{proto_name, file_name, path_of, proto_named, file_named, node_of, walk}
-use Rattle.net_base.proofs.Texts.{decimal_without, cut_at, value_of}
+use Rattle.net_base.proofs.Shared.{decimal_without, cut_at, value_of}
 
 abbrev parts : List ℕ → List (List ℕ)
 parts path = slice_split (λ b. b == 47) path

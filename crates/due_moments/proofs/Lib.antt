@@ -1,3 +1,4 @@
 mod Puts
 mod Ordered
 pub mod Covering
+pub mod Shared

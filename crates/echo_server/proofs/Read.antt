@@ -11,7 +11,7 @@ use Rattle.net_base.specs.declared.world.World.{World}
 use Rattle.net_base.specs.Next.{own_replies}
 use Rattle.net_base.specs.Steps.{Names}
 use Rattle.agenda.specs.Given.{NoneElse, WasTold, WereTold, task_at}
-use Rattle.agenda.proofs.Backing.{script_at, task_within}
+use Rattle.agenda.proofs.Shared.{script_at, task_within}
 use Rattle.whole_script.specs.declared.either.EitherTask.{EitherTask}
 use Rattle.whole_script.specs.declared.either.EitherTask.TheVariants as either
 use Rattle.echo_server.specs.declared.client.EchoClient.{EchoClient}

@@ -13,7 +13,7 @@ use Rattle.net_base.specs.Duties.{Duty, duties}
 use Rattle.net_base.specs.Net.{Net, opening_net}
 use Rattle.net_base.specs.Next.{by}
 use Rattle.net_base.specs.Stamped.{at, at_from}
-use Rattle.journal.proofs.Lists.{at-append}
+use Rattle.journal.proofs.Shared.{at-append}
 use Rattle.history_laws.specs.Apart as apart
 use Rattle.guest_laws.specs.Works.{step_by, noted_after, next_noted, noted_from, noted_net, owed_in, entries}
 use Rattle.guest_laws.specs.Own.{IsTurnOf, IsNextOf, IsTimelyIn, OwnFrom, EachOwn, StandsStill, Gains}

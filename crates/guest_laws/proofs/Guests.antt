@@ -25,7 +25,7 @@ use Rattle.journal.specs.declared.law.Roster.{Roster}
 use Rattle.journal.specs.declared.tokens.Sight.{Sight}
 use Rattle.journal.specs.Rule.{Held, gain}
 use Rattle.journal.specs.Tokens.{Looked, Met}
-use Rattle.journal.proofs.Lists.{at-snoc, in-gain, in-left, in-right}
+use Rattle.journal.proofs.Shared.{at-snoc, in-gain, in-left, in-right}
 use Rattle.locked.specs.Acts.{made, state_at, without_copy}
 use Rattle.guest_laws.specs.Named.{Named, named, named_step, opening, answer_in}
 use Rattle.guest_laws.specs.Works.{noted_net, owed_in, entries}

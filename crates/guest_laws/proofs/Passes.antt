@@ -14,7 +14,7 @@ use Rattle.net_base.specs.Stamped.{at, In}
 use Rattle.journal.specs.declared.law.Roster.{Roster}
 use Rattle.journal.specs.declared.tokens.Sight.{Sight}
 use Rattle.journal.specs.Rule.{Held, gain, same_number}
-use Rattle.journal.proofs.Lists.{at-snoc, in-gain, in-left, in-right, prefix_snoc, prefix_trans}
+use Rattle.journal.proofs.Shared.{at-snoc, in-gain, in-left, in-right, prefix_snoc, prefix_trans}
 use Rattle.locked.specs.Acts.{made}
 use Rattle.guest_laws.specs.Guests.{IsGuest, Records, StaysGuest, HandsOver}
 use Rattle.guest_laws.proofs.Apart.{LaterStands}

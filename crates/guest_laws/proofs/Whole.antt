@@ -20,7 +20,7 @@ use Rattle.net_base.specs.Net.{Net, actors_after, after, moment_after, net_after
 use Rattle.net_base.specs.Next.{by, next, next_by, next_of, next_of_by}
 use Rattle.net_base.specs.Tasks.{Tasks}
 use Rattle.net_base.specs.Stamped.{In, at}
-use Rattle.history_laws.proofs.Histories.{in_pushed}
+use Rattle.history_laws.proofs.Shared.{in_pushed}
 use Rattle.journal.specs.declared.law.Roster.{Roster}
 use Rattle.journal.specs.Rule.{Lawful, Fits}
 use Rattle.guest_laws.specs.Works.{step_by, noted_after, next_noted, noted_net, entries}

@@ -10,3 +10,4 @@ pub mod CallEvents
 pub mod Limits
 pub mod Callers
 pub mod Asked
+pub mod Shared

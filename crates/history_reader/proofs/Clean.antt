@@ -7,7 +7,7 @@ use Rattle.net_base.specs.Hexadecimal.{hex_digit, hex_digits, hex_word}
 use Rattle.net_base.specs.Numeral.{numeral}
 use Rattle.net_base.specs.Plain.{IsClean, IsLine}
 use Rattle.net_base.specs.Transcript.{ip_word}
-use Rattle.words.proofs.Numerals.{numeral_by_steps}
+use Rattle.words.proofs.Shared.{numeral_by_steps}
 
 -- no byte of the word is this one
 abbrev pub IsFree : ℕ → List ℕ → Type 0

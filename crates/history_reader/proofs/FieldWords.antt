@@ -26,7 +26,7 @@ use Rattle.net_base.specs.Numeral.{numeral}
 use Rattle.net_base.specs.Paths.{all_files, file_name, file_named, proto_name, proto_named}
 use Rattle.net_base.specs.StateWords.{state_word}
 use Rattle.net_base.specs.Transcript.{actor_word, addr_word, cause_number, ip_or_star, ip_word, kind_word, mode_word, number_or_dash, number_or_star}
-use Rattle.words.proofs.Numerals.{addresses_alike, decimal_is_numeral, numeral_by_steps}
+use Rattle.words.proofs.Shared.{addresses_alike, decimal_is_numeral, numeral_by_steps}
 use Rattle.history_reader.specs.Fields as spec
 use Rattle.history_reader.specs.Fields.{Words, Read, both, made, one}
 use Rattle.history_reader.specs.Wide.{IfAny, IsLong, IsNarrow, IsOctet, IsPlace, IsPort, IsWideActor}

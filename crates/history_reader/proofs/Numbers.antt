@@ -19,7 +19,7 @@ use Rattle.net_base.specs.Addresses.{parts_at, read_digits, read_byte, within, j
 use Rattle.net_base.specs.ControlWords as control
 use Rattle.net_base.specs.World.{is_within}
 use Rattle.net_base.specs.Addresses.{is_padded, number_in, octet_of, octets_joined, address_in}
-use Rattle.net_base.proofs.Texts.{four_parts, value_of}
+use Rattle.net_base.proofs.Shared.{four_parts, value_of}
 
 -- Numbers.
 

@@ -5,3 +5,4 @@ pub mod Ready
 pub mod Rows
 pub mod Sure
 pub mod Takers
+pub mod Shared

@@ -23,10 +23,9 @@ use Rattle.net_base.specs.Versions.{Tuples}
 use Rattle.net_base.specs.Steps.{Names}
 use Rattle.net_base.specs.Summary.{answered_by, answered_steps}
 use Rattle.guest_laws.specs.Works.{entries}
-use Rattle.net_guests.proofs.Handing.{apart_test, in_back, in_front}
+use Rattle.net_guests.proofs.Shared.{apart_test, in_back, in_front, last_or}
 use Rattle.host_net.proofs.Histories.{lists_are}
 use Rattle.host_net.proofs.Joining.{get_index}
-use Rattle.net_guests.proofs.Passes.{last_or}
 use Rattle.host_net.proofs.Seating.{get_seats, in_parts, seats_long}
 use Rattle.host_net.proofs.Standings.{no_script, seats_in}
 use Rattle.host_net.proofs.Taking.{not_itself, visit_in, with_front}

@@ -16,3 +16,4 @@ pub mod Naming
 pub mod Joining
 pub mod Answered
 pub mod Parting
+pub mod Shared

@@ -40,7 +40,7 @@ use Rattle.host_net.specs.Playing.{GoesOn, HasRole, IsPlayed, IsPlayer, Playing}
 use Rattle.net_guests.specs.Visits.{HasGuest, IsWith, Visit}
 use Rattle.net_locks.specs.Turns.{Stays, bare, own}
 use Rattle.locked.specs.Acts.{made, without_copy}
-use Rattle.net_guests.proofs.Handing.{same_number_is}
+use Rattle.net_guests.proofs.Shared.{same_number_is}
 
 -- A player stays one where its caller recorded nothing.
 

@@ -14,7 +14,7 @@ use Rattle.net_base.specs.Stamped.{In}
 use Rattle.net_base.specs.Tasks.{Tasks}
 use Rattle.journal.specs.declared.law.Roster.{Roster}
 use Rattle.net_locks.specs.declared.clock.Standing.{Standing}
-use Rattle.net_guests.proofs.Handing.{apart_test}
+use Rattle.net_guests.proofs.Shared.{apart_test}
 use Rattle.host_net.proofs.Taking.{ClockIs, Clocks, all_callers_are, all_not, caller_in, in_visits, of_both, of_callers, others_apart, visit_in}
 use Rattle.host_net.specs.Advancing.{Adds, AreLent, AreStandings, IsStanding, other_players}
 use Rattle.host_net.specs.Groups.{Apart, AreUpTo, Grouped, IsSeated, Seats, all_callers, all_members, all_seats, caller, callers_of}

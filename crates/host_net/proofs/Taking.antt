@@ -8,8 +8,7 @@ use Rattle.std.proofs.lemmas.Option.{none-some, same_Some}
 use Rattle.net_base.specs.declared.world.World.{World}
 use Rattle.net_base.specs.Stamped.{In}
 use Rattle.net_base.specs.Tasks.{Tasks}
-use Rattle.net_guests.proofs.Handing.{in_back, in_front, none_more, same_number_is}
-use Rattle.net_guests.proofs.Passes.{last_or}
+use Rattle.net_guests.proofs.Shared.{in_back, in_front, none_more, same_number_is, last_or}
 use Rattle.net_locks.specs.declared.clock.Advance.{Advance}
 use Rattle.net_locks.specs.declared.clock.Advance.TheVariants as advance
 use Rattle.host_net.specs.Advancing.{AreBack, AreKept, ClockStays, EachIsKept, GroupsAreBack, GroupsAreKept, IsBack, IsClockKept}

@@ -6,7 +6,7 @@ use borrow.Rule.Slice.PartMut.{put_mid}
 use Rattle.net_base.specs.declared.il.IlMsg.{IlMsg}
 use Rattle.wire_text.specs.Sum.{sum_of}
 use Rattle.wire_text.specs.IlWire.{IsMessage, SpellsIl, il_with, il_bytes}
-use Rattle.net_base.proofs.Laid.{laid}
+use Rattle.net_base.proofs.Shared.{laid}
 
 pub encoded : (sport dport : ℕ) (m : IlMsg) (front old : List ℕ) → length front ≡ 18 → front ++ m.text ≡ il_with 0 sport dport m
     → bytes_high_first 2 (sum_of (take (18 + length m.text) (put_mid 18 (18 + length m.text - 18) (front ++ drop 18 old) m.text))) ++ drop 2 (put_mid 18 (18 + length m.text - 18) (front ++ drop 18 old) m.text)

@@ -15,7 +15,7 @@ use Rattle.net_base.specs.Exports.{is_dotted}
 use Rattle.net_base.specs.Next.{zone_of}
 use Rattle.net_base.specs.World.{IsWorld, is_letter, is_name, is_name_byte, is_script, is_step}
 use Rattle.net_base.specs.Written.{Conversation}
-use Rattle.history_laws.proofs.Ordered.{all_at}
+use Rattle.history_laws.proofs.Shared.{all_at}
 use Rattle.import_law.specs.Scripted.{scripted}
 use Rattle.import_law.specs.Spans.{Scripted, Span, kept_after, left_by, own_of, spans_from}
 use Rattle.import_law.specs.WorldImports.{AllExported}

@@ -13,7 +13,7 @@ use Rattle.net_base.specs.Legal.{IsAsked, IsLegal, MayFollow, asked_by, cites_of
 use Rattle.net_base.specs.Net.{owed}
 use Rattle.net_base.specs.Next.{by, finished_by, next, next_of, own_entries, own_replies, standing, zone_of}
 use Rattle.net_base.specs.Scripts.{at_first}
-use Rattle.history_laws.proofs.Histories.{by_entries}
+use Rattle.history_laws.proofs.Shared.{by_entries}
 use Rattle.import_law.specs.ImportLaw.{StandsInOrder}
 use Rattle.import_law.specs.Order.{StandInOrder}
 use Rattle.import_law.specs.Scripted.{scripted}

@@ -3,7 +3,7 @@ use Rattle.std.proofs.Common.{◌≡◌, ℕ, suc, ◌+◌, ◌*◌, ◌-◌, �
 use Rattle.std.proofs.lemmas.Bool.Decides.{nat_tests}
 use Rattle.std.proofs.lemmas.List.Sums.{sum_by-cons}
 use Rattle.wire_text.specs.Sum.{words, add_around, total_of, sum_of}
-use Rattle.wire_text.proofs.WireNumbers.{IsBytes}
+use Rattle.wire_text.proofs.Shared.{IsBytes}
 use Rattle.ip_wire.specs.Carries.{around}
 
 -- one more word in front

@@ -4,8 +4,7 @@ use Rattle.std.proofs.lemmas.List.{length-take, take-take, drop-take}
 use Rattle.net_base.specs.Bytes.{blanked}
 use Rattle.wire_text.specs.Sum.{words}
 use Rattle.wire_text.specs.Ipv4.{header_sum}
-use Rattle.wire_text.proofs.WireNumbers.{IsBytes}
-use Rattle.wire_text.proofs.WireSums.{IsBytes-blanked, IsBytes-take, sum-words-blanked}
+use Rattle.wire_text.proofs.Shared.{IsBytes, IsBytes-blanked, IsBytes-take, sum-words-blanked}
 use Rattle.ip_wire.specs.Carries.{around}
 use Rattle.ip_wire.proofs.Carrying.{sum_of-words}
 

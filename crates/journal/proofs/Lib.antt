@@ -8,3 +8,4 @@ pub mod Counts
 pub mod Dealing
 pub mod Gathering
 pub mod Placing
+pub mod Shared

@@ -13,8 +13,7 @@ use Rattle.journal.specs.declared.tokens.Sight.{Sight}
 use Rattle.journal.specs.Rule.{Held, gain}
 use Rattle.journal.specs.declared.tokens.Volume.{Volume}
 use Rattle.journal.specs.Tokens.{Holds, AreBlank}
-use Rattle.journal.proofs.Lists.{in-gain}
-use Rattle.journal.proofs.Steps.{in_has_caller}
+use Rattle.journal.proofs.Shared.{in-gain, in_has_caller}
 use Rattle.locked.specs.declared.guarded.Answer.{Answer}
 use Rattle.locked.specs.declared.guarded.Answer.TheVariants as answered
 use Rattle.locked.specs.Acts.{made, Acted}

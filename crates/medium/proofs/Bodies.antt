@@ -10,10 +10,7 @@ use Rattle.wire_text.specs.Ipv4.{Ipv4, IsHeader, SpellsIpv4, header_of, payload_
 use Rattle.wire_text.specs.UdpWire.{SpellsUdp, address, dport_of, udp_text}
 use Rattle.wire_text.specs.IlWire.{SpellsIl, il_dport, message_of}
 use Rattle.wire_text.specs.Datagram.{IsPacket, between, il_packet, udp_packet, packet_in, header_for, body_bytes, protocol, packet_of}
-use Rattle.wire_text.proofs.Ipv4Laws.{spells_header, spells_payload}
-use Rattle.wire_text.proofs.IlLaws.{spells_sport, spells_dport, spells_message}
-use Rattle.wire_text.proofs.UdpLaws.{spells_fields}
-use Rattle.wire_text.proofs.DatagramLaws.{spells_datagram, spells_il_body, spells_udp_body}
+use Rattle.wire_text.proofs.Shared.{spells_header, spells_payload, spells_sport, spells_dport, spells_message, spells_fields, spells_datagram, spells_il_body, spells_udp_body}
 use Rattle.medium.specs.Spelled.{HasBody, IsSpelled}
 
 -- the header and the body of a packet make it one that has a spelling

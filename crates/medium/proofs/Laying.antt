@@ -14,7 +14,7 @@ use Rattle.net_base.specs.declared.world.Fate.TheVariants.{Deliver, Lose, Twice,
 use Rattle.wire_text.specs.Datagram.{IsPacket, body_bytes, header_for, packet_of, spelling}
 use Rattle.wire_text.specs.Ipv4.{Ipv4, flagged_bytes, summed}
 use Rattle.net_base.specs.Medium.{datagram_length, fate_of, held_of, lays, now_of, puts}
-use Rattle.wire_text.proofs.DatagramLaws.{packet_again}
+use Rattle.wire_text.proofs.Shared.{packet_again}
 use Rattle.medium.specs.declared.frame.Frame.{Frame}
 use Rattle.medium.specs.OnMedium.{OnMedium, AllSpelled, copies_now, copy_held, medium_of, taken_of, with_frame}
 use Rattle.medium.specs.Spelled.{IsSpelled}

@@ -6,8 +6,7 @@ use Rattle.net_base.specs.Bytes.{word_at}
 use Rattle.net_base.specs.declared.question.Question.{Question}
 use Rattle.net_base.specs.DomainNames.{ReadsName}
 use Rattle.net_base.specs.DomainQuestions.{HasHeader, name_at_front, question_named, question_of}
-use Rattle.dns_text.proofs.Found.{name_short}
-use Rattle.dns_text.proofs.QuestionLaws.{is_found, is_read, read_at_front}
+use Rattle.dns_text.proofs.Shared.{name_short, is_found, is_read, read_at_front}
 use Rattle.ndb_dns.specs.declared.fault.DnsError.{DnsError}
 use Rattle.ndb_dns.specs.declared.fault.DnsError.TheVariants as error
 use Rattle.ndb_dns.specs.Refusals.{IsQuery, Refuses}

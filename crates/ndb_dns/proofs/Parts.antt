@@ -16,13 +16,13 @@ use Rattle.net_base.specs.Networks.{first_of}
 use Rattle.net_base.specs.Search.{all_beside, beside, or_where_empty, tuples_with}
 use Rattle.net_base.specs.Bytes.{word_at}
 use Rattle.ndb_reader.specs.Names.{names_seen, with_name, with_names}
-use Rattle.ndb_reader.proofs.Once.{names_append}
+use Rattle.ndb_reader.proofs.Shared.{names_append}
 use Rattle.net_base.specs.declared.ndb.spot.Spot.{Spot}
 use Rattle.ndb_index.specs.Index.{found}
 use Rattle.ndb_index.specs.Kept.{spots_with}
 use Rattle.ndb_index.specs.Near.{spot_tuples}
-use Rattle.ndb_index.proofs.Nearby.{Db, spots_count, spots_found}
-use Rattle.cs_resolver.proofs.Once.{among, once_push, same_any, turned}
+use Rattle.ndb_index.proofs.Shared.{Db, spots_count, spots_found}
+use Rattle.cs_resolver.proofs.Shared.{among, once_push, same_any, turned}
 use Rattle.net_base.specs.declared.question.Question.{Question}
 use Rattle.net_base.specs.DomainAnswers.{Key, address_record, address_records, addresses_named, alias_of, alias_records, answer_read, asked, dns_answer, is_unknown, key_of, naming_record, rcode_of, records_beside, records_found, records_of, reply_of}
 use Rattle.net_base.specs.DomainNames.{name_in}

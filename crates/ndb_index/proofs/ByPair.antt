@@ -14,8 +14,7 @@ use Rattle.net_base.specs.Store.{all_pairs}
 use Rattle.net_base.specs.declared.ndb.spot.Spot.{Spot}
 use Rattle.ndb_chains.specs.declared.chains.Chains.{Chains}
 use Rattle.ndb_chains.specs.Chains.{first_in, width_of, AreChains}
-use Rattle.ndb_chains.proofs.Entries.{first-within}
-use Rattle.ndb_chains.proofs.Walks.{in_bucket, Met, met, none-met}
+use Rattle.ndb_chains.proofs.Shared.{first-within, in_bucket, Met, met, none-met}
 use Rattle.ndb_index.specs.Chained.{width_for, AreByPair}
 use Rattle.ndb_index.specs.Hashing.{bucket_in, pair_bucket}
 use Rattle.ndb_index.specs.Kept.{noted, spots_with}

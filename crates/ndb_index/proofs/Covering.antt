@@ -9,7 +9,7 @@ use Rattle.net_base.specs.Ndb.{NdbPair}
 use Rattle.net_base.specs.Networks.{Network, network_of, contains_address, is_on, is_filled}
 use Rattle.ndb_tuple.specs.Prefixes.{first_bits, prefix_of, is_prefix, is_on_prefix}
 use Rattle.ndb_tuple.specs.Places.{places_of}
-use Rattle.ndb_tuple.proofs.Covered.{same_truth, both, joined, equal, itself, any_wider, any_gives}
+use Rattle.ndb_tuple.proofs.Shared.{same_truth, both, joined, equal, itself, any_wider, any_gives}
 use Rattle.ndb_index.specs.Nets.{has_prefix, has_length, places_kept, HasPlaces, HasAllLengths, is_covered}
 use Rattle.ndb_index.proofs.Own.{Db, Kept}
 

@@ -4,3 +4,4 @@ pub mod Nearby
 pub mod Notes
 pub mod Own
 pub mod Unnamed
+pub mod Shared

@@ -15,9 +15,7 @@ use Rattle.ndb_tuple.specs.declared.numbers.Kind.TheVariants.{Address}
 use Rattle.ndb_tuple.specs.Numbers.{numbers_in}
 use Rattle.ndb_tuple.specs.Places.{places_of, places_with}
 use Rattle.ndb_tuple.specs.Closest.{first_filled}
-use Rattle.ndb_tuple.proofs.Lists.{Joins}
-use Rattle.ndb_tuple.proofs.NonEmpty.{first_here, first_past, one_filled, none_filled, near_is}
-use Rattle.ndb_tuple.proofs.Covered.{equal}
+use Rattle.ndb_tuple.proofs.Shared.{Joins, first_here, first_past, one_filled, none_filled, near_is, equal}
 use Rattle.net_base.specs.declared.ndb.spot.Spot.{Spot}
 use Rattle.net_base.specs.Spots.{spot_at}
 use Rattle.ndb_index.specs.Kept.{spot_in, spots_from, spots_with}

@@ -14,8 +14,7 @@ use Rattle.net_base.specs.Networks.{Network, network_of, contains_address}
 use Rattle.ndb_tuple.specs.declared.prefixes.Prefix.{Prefix}
 use Rattle.ndb_tuple.specs.Prefixes.{first_bits, is_prefix}
 use Rattle.ndb_tuple.specs.Places.{places_of}
-use Rattle.ndb_tuple.proofs.Covered.{same_any, equal, itself}
-use Rattle.ndb_tuple.proofs.Firsts.{turned}
+use Rattle.ndb_tuple.proofs.Shared.{same_any, equal, itself, turned}
 use Rattle.ndb_index.specs.Nets.{prefix, has_prefix, has_length, places_kept, place_noted, HasPlaces, is_among, is_own, own_places}
 
 abbrev pub Db : Type 0

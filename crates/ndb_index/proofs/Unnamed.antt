@@ -9,7 +9,7 @@ use Rattle.net_base.specs.Addresses.{read_address}
 use Rattle.net_base.specs.Search.{has_attr, values_in}
 use Rattle.net_base.specs.Networks.{Network, network_of, tuple_names, first_of, bits_of}
 use Rattle.net_base.specs.Store.{all_pairs}
-use Rattle.net_base.proofs.Among.{either, neither}
+use Rattle.net_base.proofs.Shared.{either, neither}
 use Rattle.ndb_tuple.specs.declared.prefixes.Prefix.{Prefix}
 use Rattle.ndb_tuple.specs.Prefixes.{is_prefix}
 use Rattle.ndb_tuple.specs.Places.{places_of}

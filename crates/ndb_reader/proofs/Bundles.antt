@@ -10,9 +10,7 @@ use Rattle.net_base.specs.Ndb.{NdbPair}
 use Rattle.net_base.specs.NdbText.{is_white, is_zero, is_empty, pairs_of, starts, goes_on, going_on, tuples_of, lines_of, begins_with}
 use Rattle.net_base.specs.NdbBundle.{File, local_name, local_file, named_files, file_of, file_name, is_file_line, has_tuple, cause, causes_of, least, told, first_bad, bad_line, database}
 use Rattle.ndb_text.specs.NdbSpelling.{ReadsTuples, ReadsFile, ReadsFiles, ReadsBundle, IsFileName}
-use Rattle.ndb_text.proofs.NdbLists.{some_none}
-use Rattle.ndb_text.proofs.NdbPlain.{none-drop}
-use Rattle.ndb_text.proofs.NdbFiles.{EachSpelled, line_is_spelled, tuples_spelled}
+use Rattle.ndb_text.proofs.Shared.{some_none, none-drop, EachSpelled, line_is_spelled, tuples_spelled}
 use Rattle.ndb_reader.proofs.Reading.{Next, has-file, has-line, before-more, before-stop, named-more, named-stop}
 
 cause-none : (n : ℕ) (b : Bool) (rest : List ℕ) → cause n b ++ rest ≡ [] → (b ≡ false) × (rest ≡ [])

@@ -11,7 +11,7 @@ use Rattle.net_base.specs.NdbBundle.{File, tuples_named}
 use Rattle.net_base.specs.Store.{Grown, with_tuples, empty}
 use Rattle.ndb_chains.specs.declared.chains.Chains.{Chains}
 use Rattle.ndb_chains.specs.Chains.{first_in, width_of, AreChains}
-use Rattle.ndb_chains.proofs.Walks.{in_bucket, Met, met, none-met}
+use Rattle.ndb_chains.proofs.Shared.{in_bucket, Met, met, none-met}
 use Rattle.ndb_reader.specs.Filed.{tuples_of}
 use Rattle.ndb_reader.specs.Names.{names_seen, bucket_in, AreByName}
 use Rattle.ndb_reader.proofs.Once.{is_one, turned, itself}

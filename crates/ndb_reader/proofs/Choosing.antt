@@ -7,7 +7,7 @@ use Rattle.net_base.specs.Ndb.{NdbPair}
 use Rattle.net_base.specs.Search.{has_attr}
 use Rattle.net_base.specs.Store.{all_pairs}
 use Rattle.net_base.specs.NdbBundle.{choosing}
-use Rattle.net_base.proofs.Among.{either, neither}
+use Rattle.net_base.proofs.Shared.{either, neither}
 
 flat-none : (p : NdbPair → Bool) (tuple : List (List NdbPair)) → list_any p (flat_map (λ line. line) tuple) ≡ false → list_any (list_any p) tuple ≡ false
 flat-none p [] none = refl

@@ -5,8 +5,7 @@ use Rattle.std.proofs.lemmas.List.{drop-append-le}
 use Rattle.net_base.specs.Ndb.{NdbPair}
 use Rattle.net_base.specs.NdbBundle.{File}
 use Rattle.net_base.specs.Store.{Grown, tuple_ended}
-use Rattle.net_base.proofs.Cuts.{slice-more, slice-rest}
-use Rattle.net_base.proofs.Growth.{drop-all}
+use Rattle.net_base.proofs.Shared.{slice-more, slice-rest, drop-all}
 use Rattle.ndb_reader.specs.declared.files.FileEnd.{FileEnd}
 use Rattle.ndb_reader.specs.Filed.{files_in, name_at, tuple_at, last_name, last_tuple, FilesRise, tuple_of, Filed, filed_by, last_ended, file_begun}
 

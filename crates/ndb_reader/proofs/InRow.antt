@@ -7,7 +7,7 @@ use Rattle.std.proofs.lemmas.List.Folds.{drop_split}
 use Rattle.std.proofs.Math.Seq.{take-append-add}
 use Rattle.net_base.specs.NdbBundle.{File, tuples_named}
 use Rattle.net_base.specs.Store.{Grown, with_tuples, empty}
-use Rattle.net_base.proofs.Cuts.{slice-length}
+use Rattle.net_base.proofs.Shared.{slice-length}
 use Rattle.ndb_reader.specs.declared.files.FileEnd.{FileEnd}
 use Rattle.ndb_reader.specs.Filed.{files_in, tuple_at, tuples_of, FilesRise}
 use Rattle.ndb_reader.specs.Names.{names_seen}

@@ -14,3 +14,4 @@ pub mod Lined
 pub mod Breaks
 pub mod Choosing
 pub mod InRow
+pub mod Shared

@@ -10,9 +10,7 @@ use Rattle.std.proofs.lemmas.List.Sums.{suffix_len-take_no, suffix_len-take_yes}
 use Rattle.net_base.specs.Ndb.{NdbPair}
 use Rattle.net_base.specs.NdbText.{is_white, begins, is_empty, pairs_of, starts, goes_on, going_on, tuples_of, lines_of}
 use Rattle.net_base.specs.NdbBundle.{File, local_name, local_file, named_files, file_of, file_name, is_file_line, has_tuple, cause, causes_of, least, told, first_bad, bad_line, reading, database}
-use Rattle.ndb_text.proofs.NdbPlain.{one_add}
-use Rattle.ndb_text.proofs.NdbLists.{some_none}
-use Rattle.ndb_text.proofs.NdbFiles.{starts-at, goes_on-at}
+use Rattle.ndb_text.proofs.Shared.{one_add, some_none, starts-at, goes_on-at}
 use Rattle.ndb_reader.specs.declared.fault.NdbError.{NdbError}
 use Rattle.ndb_reader.specs.declared.fault.NdbError.TheVariants.{Memory, Bad}
 use Rattle.ndb_reader.specs.Told.{Tells}

@@ -4,7 +4,7 @@ use Rattle.std.specs.List.{list_any}
 use Rattle.net_base.specs.Ndb.{NdbPair}
 use Rattle.net_base.specs.NdbText.{is_white, is_percent, begins, is_empty, pair_of, pairs_of, words_of, words_behind}
 use Rattle.net_base.specs.NdbBundle.{File, file_name, is_file_line, causes_of, least, first_bad, local_name, local_file, named_files}
-use Rattle.ndb_text.proofs.NdbComplete.{false_true}
+use Rattle.ndb_text.proofs.Shared.{false_true}
 use Rattle.ndb_reader.specs.Filed.{Filed, line_filed, gone_on, started, file_begun, file_grown}
 use Rattle.ndb_reader.proofs.Headed.{unheaded}
 use Rattle.ndb_reader.proofs.Reading.{Read, Next, read-none, read-blank, read-on, read-start, read-file, read-all}

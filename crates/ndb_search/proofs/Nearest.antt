@@ -9,9 +9,8 @@ use Rattle.net_base.specs.Networks.{is_filled}
 use Rattle.ndb_tuple.specs.Closest.{first_filled}
 use Rattle.ndb_tuple.specs.Prefixes.{network_seen}
 use Rattle.ndb_tuple.specs.declared.network.Network.{Network}
-use Rattle.net_base.proofs.Among.{own-default}
-use Rattle.ndb_tuple.proofs.Lists.{Joins}
-use Rattle.ndb_tuple.proofs.NonEmpty.{first_here, first_past, one_filled, none_filled}
+use Rattle.net_base.proofs.Shared.{own-default}
+use Rattle.ndb_tuple.proofs.Shared.{Joins, first_here, first_past, one_filled, none_filled}
 
 system_joins : (me : List ℕ) → Joins (tuples_with (codes "sys") me)
 system_joins me = record { none = refl; both = filter-append (tuple_has (codes "sys") me) }

@@ -15,8 +15,7 @@ use Rattle.ndb_tuple.specs.declared.numbers.Kind.TheVariants.{Address}
 use Rattle.ndb_tuple.specs.Numbers.{numbers_in}
 use Rattle.ndb_tuple.specs.Prefixes.{network_seen, first_bits}
 use Rattle.ndb_search.specs.Own.{own_at}
-use Rattle.ndb_tuple.proofs.Lists.{Joins, joins_more}
-use Rattle.ndb_tuple.proofs.Firsts.{contained}
+use Rattle.ndb_tuple.proofs.Shared.{Joins, joins_more, contained}
 
 addresses_joins : (me : List ℕ) → Joins (addresses_of me)
 addresses_joins me = record {

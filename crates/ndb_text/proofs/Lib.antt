@@ -3,3 +3,4 @@ pub mod NdbFiles
 pub mod NdbLists
 pub mod NdbPlain
 pub mod NdbSound
+pub mod Shared

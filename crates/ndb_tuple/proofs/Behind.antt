@@ -4,7 +4,7 @@ use Rattle.std.specs.Prelude.{find}
 use Rattle.std.proofs.lemmas.List.{take_all}
 use Rattle.net_base.specs.Ndb.{NdbPair}
 use Rattle.net_base.specs.Search.{has_attr, values_on, values_in}
-use Rattle.net_base.proofs.Among.{find-here, find-on, own-default}
+use Rattle.net_base.proofs.Shared.{find-here, find-on, own-default}
 use Rattle.ndb_tuple.proofs.Copied.{on_more, on_less, in_more}
 
 -- Values.

@@ -7,3 +7,4 @@ pub mod FoundNumbers
 pub mod Lists
 pub mod NonEmpty
 pub mod Pieces
+pub mod Shared

@@ -29,7 +29,7 @@ use Rattle.conversation.specs.Kept.{Seat}
 use Rattle.conversation.specs.Memory.{work_takes}
 use Rattle.conversation.specs.Stands.{StandsFor, StandsForSome, Gives, IsShort, IsReady as IsTalkReady, Says, step_at}
 use Rattle.host_dir.specs.Ready.{is_ready}
-use Rattle.host_dir.proofs.Ready.{ready_is}
+use Rattle.host_dir.proofs.Shared.{ready_is}
 use Rattle.medium.specs.OnMedium.{OnMedium, medium_of}
 use Rattle.net_actors.specs.AtDesk.{AtDesk, IsAtHost, IsAtSome, IsDeskOf, Replies, desk_at, host_of, leaves_desk}
 use Rattle.net_actors.specs.Kept.{IsActorOf, IsMediumOf, Keeps, seen, state_of}

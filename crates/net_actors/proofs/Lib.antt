@@ -5,3 +5,4 @@ pub mod InForce
 pub mod Numbering
 pub mod Placed
 pub mod Said
+pub mod Shared

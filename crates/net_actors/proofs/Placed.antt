@@ -16,8 +16,7 @@ use Rattle.net_actors.specs.Small.{IsSmall}
 use Rattle.net_actors.specs.Stepping.{IsReady, ActorMayWant, Steps as StepsOne}
 use Rattle.net_actors.specs.Together.{AreActors, AreFirst, CanStep, IsAt, MayWantAt, Numbered, Steps, StepsIn, has_name, state_in}
 use Rattle.net_actors.specs.declared.actor.Actor.{Actor as Kept}
-use Rattle.history_laws.proofs.Histories.{same_actor_is}
-use Rattle.history_laws.proofs.PairsOnce.{same_itself}
+use Rattle.history_laws.proofs.Shared.{same_actor_is, same_itself}
 use Rattle.net_actors.proofs.Numbering.{among_is, below, below_in, same_in}
 
 -- what stands at a name's number is the actor of that name

@@ -9,3 +9,4 @@ pub mod Laid
 pub mod Texts
 pub mod Kept
 pub mod Skipped
+pub mod Shared

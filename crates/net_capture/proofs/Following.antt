@@ -13,7 +13,7 @@ use Rattle.plain_runner.specs.Callers.{IsCaller}
 use Rattle.plain_runner.specs.Followed.{Followed, Follows}
 use Rattle.plain_runner.specs.declared.caller.Caller.{Caller}
 use Rattle.plain_runner.specs.declared.runner.Runner.{Runner}
-use Rattle.plain_runner.proofs.Halting.{moment_within}
+use Rattle.plain_runner.proofs.Shared.{moment_within}
 use Rattle.wire_text.specs.Datagram.{IsPacket, packet_of, spelling}
 use Rattle.net_capture.specs.Capture.{Frame, IsReadBack, capture, frame_of, frames, is_shown, laid_by, laid_from, medium_of, packet_in, seen, shown_frames}
 use Rattle.net_capture.specs.Following.{AddsIn, is_on, shown_at}

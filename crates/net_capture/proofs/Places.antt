@@ -10,7 +10,7 @@ use Rattle.net_base.specs.declared.world.World.{World}
 use Rattle.net_base.specs.Legal.{IsLegal, MayFollow}
 use Rattle.net_base.specs.Net.{after, opening_net, with_of}
 use Rattle.net_base.specs.World.{IsWorld}
-use Rattle.history_laws.proofs.Histories.{by_entries}
+use Rattle.history_laws.proofs.Shared.{by_entries}
 use Rattle.net_capture.specs.Capture.{Place, frame_of, frames, laid_at, laid_by, medium_of, packet_in, place, place_of}
 use Rattle.net_capture.proofs.Following.{laid_more}
 use Rattle.net_capture.proofs.Laying.{laid_gives}

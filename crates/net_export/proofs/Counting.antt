@@ -17,10 +17,8 @@ use Rattle.net_base.specs.Net.{Net, after, net_after, next_net, owed, step_of, w
 use Rattle.net_base.specs.Next.{next_of, own_replies, zone_of}
 use Rattle.net_base.specs.Scripts.{at_first, position}
 use Rattle.net_base.specs.Steps.{Ask}
-use Rattle.history_laws.proofs.Histories.{after_push, by_entries}
-use Rattle.history_laws.proofs.Ordered.{Each, each_append}
-use Rattle.history_laws.proofs.StepEvents.{IsNextEvent}
-use Rattle.session_answers.proofs.OwnReplies.{drop_next}
+use Rattle.history_laws.proofs.Shared.{after_push, by_entries, Each, each_append, IsNextEvent}
+use Rattle.session_answers.proofs.Shared.{drop_next}
 use Rattle.net_export.specs.Counted.{brought, count_after, follow_ups, puts, releases}
 use Rattle.net_export.proofs.FreeEvents.{IsFree, IsFreeDuty, duties_free, script_free}
 use Rattle.net_export.proofs.Lengths.{duties_length}

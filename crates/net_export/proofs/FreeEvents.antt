@@ -25,9 +25,7 @@ use Rattle.net_base.specs.Routes.{Way, way, has_address}
 use Rattle.net_base.specs.Scripts.{at_first, position}
 use Rattle.net_base.specs.Steps.{call_names, clone_path, lines_in}
 use Rattle.net_base.specs.Versions.{Tuples}
-use Rattle.history_laws.proofs.Ordered.{Each, each_any, each_append, each_flat_map}
-use Rattle.history_laws.proofs.CallEvents.{next_event}
-use Rattle.history_laws.proofs.StepEvents.{Fits, IsNamed, IsNextEvent, IsOpened, IsOwn, Says}
+use Rattle.history_laws.proofs.Shared.{Each, each_any, each_append, each_flat_map, next_event, Fits, IsNamed, IsNextEvent, IsOpened, IsOwn, Says}
 
 -- no copy is taken, and the clock doesn't move
 abbrev pub IsFree : Event → Type 0

@@ -18,7 +18,7 @@ use Rattle.net_base.specs.SessionAnswers.{Found, replied}
 use Rattle.net_base.specs.SessionScript.{after, attaches, begins, bound_by, changed, opened, step_of}
 use Rattle.net_base.specs.SessionTable.{Table, fresh, opening, put, set}
 use Rattle.net_export.specs.Serving.{IsServing, Known, Past, after_one, known_after}
-use Rattle.session_answers.proofs.Told.{same_reply}
+use Rattle.session_answers.proofs.Shared.{same_reply}
 use Rattle.session_answers.specs.Told.{is_told, told_by}
 use Rattle.session_script.specs.declared.table.Table.{Table as Code}
 use Rattle.session_script.specs.Seen.{Kept, brings_fid, kept, seen}

@@ -8,7 +8,7 @@ use Rattle.net_base.specs.declared.world.Script.{Script}
 use Rattle.net_base.specs.declared.world.Step.{Step}
 use Rattle.net_base.specs.Stamped.{In}
 use Rattle.net_base.specs.World.{IsWorld, all_apart, is_script, is_step}
-use Rattle.history_laws.proofs.Ordered.{all_at}
+use Rattle.history_laws.proofs.Shared.{all_at}
 use Rattle.sessions.specs.declared.world.Session.{Session}
 use Rattle.sessions.specs.declared.world.SessionWorld.{SessionWorld}
 use Rattle.net_base.specs.SessionScript.{IsScript}

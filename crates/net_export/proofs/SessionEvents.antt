@@ -20,13 +20,12 @@ use Rattle.net_base.specs.Paths.{reads, walk, writes}
 use Rattle.net_base.specs.Remotes.{is_remote}
 use Rattle.net_base.specs.Scripts.{Kept, heard, kept_after, new_names, own_play, play_by, position, step_play}
 use Rattle.net_base.specs.Steps.{Asking, Asks, Ends, Fid, Finished, Names, Play, Position, Stand, bind, controls, conversation_of, fid_of, if_accepted, is_accepted, is_bound, misuses, on_fid, open_actor, open_event, openable, opened_fid, opens, play_of, position_by, puts, read_event, stands, unbind, uses}
-use Rattle.history_laws.proofs.Ordered.{Each}
-use Rattle.history_laws.proofs.StepEvents.{IsNextEvent, Records}
+use Rattle.history_laws.proofs.Shared.{Each, IsNextEvent, Records}
 use Rattle.net_base.specs.declared.ninep.Tmsg.{Tmsg}
 use Rattle.net_base.specs.SessionScript.{IsScript, after, step_of, steps_of}
 use Rattle.net_base.specs.SessionTable.{Table, opening}
 use Rattle.session_answers.specs.Served.{IsServed}
-use Rattle.session_answers.proofs.Serving.{step_served}
+use Rattle.session_answers.proofs.Shared.{step_served}
 
 -- a session records it there
 abbrev pub IsSessionEvent : ActorName → Event → Type 0

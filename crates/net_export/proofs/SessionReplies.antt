@@ -15,8 +15,7 @@ use Rattle.net_base.specs.Net.{after, owed}
 use Rattle.net_base.specs.Next.{by, next_of, own_replies, standing, zone_of}
 use Rattle.net_base.specs.Scripts.{at_first}
 use Rattle.net_base.specs.Steps.{Ask}
-use Rattle.history_laws.proofs.Ordered.{Each, each_from_get}
-use Rattle.history_laws.proofs.StepEvents.{IsNextEvent}
+use Rattle.history_laws.proofs.Shared.{Each, each_from_get, IsNextEvent}
 use Rattle.net_base.specs.SessionScript as streams
 use Rattle.sessions.specs.InHistory.{IsSessionOf}
 use Rattle.session_answers.specs.Told.{AreTold, is_told}

@@ -5,3 +5,4 @@ pub mod Operating
 pub mod Handing
 pub mod Decided
 pub mod Returning
+pub mod Shared

@@ -17,7 +17,7 @@ use Rattle.journal.specs.declared.tokens.Volume.{Volume}
 use Rattle.journal.specs.Closing.{IsWhole, plain}
 use Rattle.journal.specs.Rule.{Held}
 use Rattle.journal.specs.Tokens.{Holds, HoldsAll, Met}
-use Rattle.journal.proofs.Lists.{in-left, in-right, prefix_trans}
+use Rattle.journal.proofs.Shared.{in-left, in-right, prefix_trans}
 use Rattle.guest_laws.specs.Guests.{IsGuest, IsOfGuests, StaysGuest}
 use Rattle.guest_laws.specs.Own.{AreNext, AreTimely, AreTurns, IsLegalButScripts, StandsStill}
 use Rattle.guest_laws.specs.Works.{entries, noted_net}

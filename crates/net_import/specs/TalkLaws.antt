@@ -8,7 +8,7 @@ use Rattle.net_import.specs.declared.talk.TalkPhase.{TalkPhase}
 use Rattle.net_import.specs.declared.talk.TalkPhase.TheVariants as phase
 use Rattle.net_import.specs.Standings.{TalksBy, reading}
 use Rattle.net_import.specs.Talks as talk
-use Rattle.script_task.proofs.Events.{read_is, write_is}
+use Rattle.script_task.proofs.Shared.{read_is, write_is}
 use Rattle.net_base.specs.declared.request.Request.{Request}
 use Rattle.net_base.specs.declared.request.Request.TheVariants as request
 use Rattle.net_base.specs.Requests.{settled}

@@ -14,11 +14,11 @@ use Rattle.net_base.specs.declared.world.World.{World}
 use Rattle.net_base.specs.Duties.{Duty}
 use Rattle.net_base.specs.Stamped.{at, at_from}
 use Rattle.net_base.specs.Tasks.{Tasks}
-use Rattle.journal.proofs.Lists.{prefix_trans}
+use Rattle.journal.proofs.Shared.{prefix_trans}
 use Rattle.journal.specs.declared.law.Roster.{Roster}
 use Rattle.journal.specs.declared.tokens.Sight.{Sight}
 use Rattle.locked.specs.Acts.{made, without_copy}
-use Rattle.due_moments.proofs.Covering.{covers_other}
+use Rattle.due_moments.proofs.Shared.{covers_other}
 use Rattle.due_moments.specs.Marks.{Covers, Marks}
 use Rattle.guest_laws.specs.Guests.{IsGuest, Records}
 use Rattle.net_locks.specs.declared.turn.Turn.{Turn}

@@ -12,8 +12,8 @@ use Rattle.net_base.specs.Networks.{Network, own_networks, is_on}
 use Rattle.net_base.specs.Search.{all_beside}
 use Rattle.net_base.specs.Cs.{CsAnswer, Lines, Query, read_query, answer_read, answer_query, cs_list, refused_where_empty, nets_of, proto_name, host_words, address_texts, host_addresses, word_addresses, is_numeric, name_attr, once_each, named_ports, ports_of, cs_line, lines_of, is_any}
 use Rattle.net_model.specs.CsOrder.{Dials, MayPrecede, OnFirst}
-use Rattle.net_base.proofs.Texts.{IsWithout}
-use Rattle.history_laws.proofs.Ordered.{Each, Later, each_weaker, each_any, each_both, each_append, each_map, each_filter, each_passes, each_filter_map, each_flat_map, later_append, later_filter, later_map, later_flat_map, pairs_from_later, later_from_pairs}
+use Rattle.net_base.proofs.Shared.{IsWithout}
+use Rattle.history_laws.proofs.Shared.{Each, Later, each_weaker, each_any, each_both, each_append, each_map, each_filter, each_passes, each_filter_map, each_flat_map, later_append, later_filter, later_map, later_flat_map, pairs_from_later, later_from_pairs}
 use Rattle.net_model.proofs.CsTexts.{SameDial, same_line, same_address, address_without}
 
 -- Numbers that are read are within their bounds.

@@ -7,7 +7,7 @@ use Rattle.net_base.specs.declared.address.Proto.{Proto}
 use Rattle.net_base.specs.declared.address.Proto.TheVariants.{Il, Udp}
 use Rattle.net_base.specs.Addresses.{address_text, parts_at}
 use Rattle.net_base.specs.Cs.{cs_line}
-use Rattle.net_base.proofs.Texts.{IsWithout, decimal_without, one_part, cut_at, four_parts, dotted_without}
+use Rattle.net_base.proofs.Shared.{IsWithout, decimal_without, one_part, cut_at, four_parts, dotted_without}
 
 -- the text of an address as four numbers
 dotted_is : (ip : ℕ) → address_text ip ≡ dotted_text (ip / 2 ^ 24) (ip / 2 ^ 16 % 256) (ip / 2 ^ 8 % 256) (ip % 256)

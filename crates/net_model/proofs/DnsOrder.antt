@@ -42,12 +42,11 @@ use Rattle.net_base.specs.SessionScript.{step_of}
 use Rattle.net_base.specs.Steps as s
 use Rattle.net_base.specs.Steps.{Ask, Names, Fid, Play, Asks, Ends, Position, Stand, Asking, Finished, bytes_in, fid_of, is_accepted, is_bound, on_fid, opened_fid, play_of, position_by, stands}
 use Rattle.net_base.specs.Versions.{Tuples}
-use Rattle.history_laws.proofs.Histories.{legal_take}
+use Rattle.history_laws.proofs.Shared.{legal_take}
 use Rattle.net_model.specs.DnsOrder.{AnswersQuestions, AnswersRead}
 use Rattle.import_law.specs.Order.{Begins, IsPlayed, StandInOrder}
 use Rattle.import_law.specs.Scripted.{scripted}
-use Rattle.import_law.proofs.Plays.{begins_asks, goes_on, replies}
-use Rattle.import_law.proofs.Stood.{asks_next}
+use Rattle.import_law.proofs.Shared.{begins_asks, goes_on, replies, asks_next}
 use Rattle.net_model.proofs.OwnEntries.{keeps_script}
 
 -- The database from which a script answers stays.

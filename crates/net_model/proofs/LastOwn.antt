@@ -13,9 +13,7 @@ use Rattle.net_base.specs.Legal.{IsLegal, MayFollow, cites_of}
 use Rattle.net_base.specs.Net.{Net, after, net_after, opening_net, owed, step_of, work_of}
 use Rattle.net_base.specs.Stamped.{In}
 use Rattle.net_model.specs.ScriptOrder.{IsLastOwn, IsOfLastStep}
-use Rattle.history_laws.proofs.Histories.{after_push, at_push, before_push, by_entries, in_pushed}
-use Rattle.history_laws.proofs.Ordered.{Each, each_append, each_weaker}
-use Rattle.history_laws.proofs.Owed.{duties_each, past_after}
+use Rattle.history_laws.proofs.Shared.{after_push, at_push, before_push, by_entries, in_pushed, Each, each_append, each_weaker, duties_each, past_after}
 
 -- these duties cite entries from the stamp on
 abbrev CiteFrom : ℕ → List Duty → Type 0

@@ -9,9 +9,8 @@ use Rattle.net_base.specs.Networks.{tuple_names}
 use Rattle.std.specs.Prelude.{codes}
 use Rattle.net_base.specs.NdbText.{is_empty, lines_of}
 use Rattle.net_base.specs.NdbBundle.{File, local_name, local_file, named_files, each_once, tuples_named, tuples_chosen, choosing, chosen, bad_line, reading}
-use Rattle.ndb_text.proofs.NdbComplete.{cons_none}
-use Rattle.ndb_text.proofs.NdbFiles.{some_once}
-use Rattle.ndb_reader.proofs.Reading.{reading-is}
+use Rattle.ndb_text.proofs.Shared.{cons_none, some_once}
+use Rattle.ndb_reader.proofs.Shared.{reading-is}
 use Rattle.net_model.specs.NdbWhole.{files_in, is_local, is_whole, begins_local, is_first}
 use Rattle.net_model.proofs.NdbBack.{names-are}
 use Rattle.net_model.proofs.NdbBundles.{good-if}

@@ -13,8 +13,7 @@ use Rattle.net_base.specs.Next.{answered, finished_by, own_entries, own_replies,
 use Rattle.net_base.specs.Scripts.{at_first}
 use Rattle.import_law.specs.Order.{StandInOrder}
 use Rattle.import_law.specs.Scripted.{scripted}
-use Rattle.import_law.proofs.Plays.{replies, stood_take}
-use Rattle.import_law.proofs.Stood.{HasStood, finished, stood}
+use Rattle.import_law.proofs.Shared.{replies, stood_take, HasStood, finished, stood}
 use Rattle.net_model.specs.ScriptOrder.{KeepsScript, settled}
 use Rattle.net_model.proofs.LastOwn.{of_last_step}
 

@@ -26,9 +26,8 @@ use Rattle.net_base.specs.Numeral.{numeral}
 use Rattle.net_base.specs.Paths.{file_name, path_of, proto_name}
 use Rattle.net_base.specs.Remotes.{is_remote_path}
 use Rattle.net_base.specs.World.{is_within, is_letter, is_name_byte, is_name, is_byte, is_text, is_word, is_step}
-use Rattle.history_laws.proofs.Ordered.{Each}
+use Rattle.history_laws.proofs.Shared.{Each, IsOther, own_other, IsOpened, IsNamed, Fits, IsExporting, Says}
 use Rattle.net_model.proofs.PlainTexts.{IsText, ListsTexts, decimal_text, text_append}
-use Rattle.history_laws.proofs.StepEvents.{IsOther, own_other, IsOpened, IsNamed, Fits, IsExporting, Says}
 
 -- The words of a file.
 

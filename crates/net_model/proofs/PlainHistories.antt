@@ -19,15 +19,11 @@ use Rattle.net_base.specs.Next.{by, own_replies, next, next_of, zone_of}
 use Rattle.net_base.specs.Plain.{IsPlainEvent, IsPlain}
 use Rattle.net_base.specs.Steps.{Ask}
 use Rattle.net_base.specs.World.{is_step, is_script, IsWorld}
-use Rattle.history_laws.proofs.Histories.{after_push, by_entries}
-use Rattle.history_laws.proofs.Ordered.{Each, all_at, each_weaker, each_append, each_map, each_filter}
-use Rattle.history_laws.proofs.Owed.{owed_each}
+use Rattle.history_laws.proofs.Shared.{after_push, by_entries, Each, all_at, each_weaker, each_append, each_map, each_filter, owed_each, next_event, IsNextEvent}
 use Rattle.net_model.proofs.PlainEvents.{PlainAt, plain_other, plain_reply, fits_plain, steps_plain}
 use Rattle.net_model.proofs.PlainReplies.{entry_replies}
 use Rattle.net_model.proofs.PlainTexts.{ListsTexts}
 use Rattle.net_base.specs.Scripts.{at_first}
-use Rattle.history_laws.proofs.CallEvents.{next_event}
-use Rattle.history_laws.proofs.StepEvents.{IsNextEvent}
 
 -- What a caller records next.
 

@@ -18,7 +18,7 @@ use Rattle.net_base.specs.Desk.{cs_reply}
 use Rattle.net_base.specs.Paths.{names}
 use Rattle.net_base.specs.World.{is_text}
 use Rattle.net_model.proofs.CsLaws.{any_text}
-use Rattle.history_laws.proofs.Ordered.{Each, each_any, each_append, each_map, each_flat_map}
+use Rattle.history_laws.proofs.Shared.{Each, each_any, each_append, each_map, each_flat_map}
 
 -- Texts.
 

@@ -12,7 +12,7 @@ use Rattle.net_model.specs.NdbWhole.{is_whole}
 use Rattle.ndb_reader.specs.Written.{db_text}
 use Rattle.world_text.specs.VersionLines.{bad_version_line, versions_in}
 use Rattle.world_text.specs.WorldSpelling.{IsWorldText, laid, lines_of_world}
-use Rattle.world_text.proofs.VersionTexts.{versions-back}
+use Rattle.world_text.proofs.Shared.{versions-back}
 use Rattle.world_writer.specs.Written.{file_text, versions_text}
 use Rattle.net_model.proofs.WrittenVersions.{are-back, written-says}
 

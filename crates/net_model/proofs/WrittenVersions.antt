@@ -10,12 +10,11 @@ use Rattle.net_base.specs.NdbBundle.{File, bad_line, causes_of, chosen, database
 use Rattle.net_base.specs.NdbText.{going_on, goes_on, is_newline, lines_of, pairs_of, starts, tuples_of}
 use Rattle.net_base.specs.Versions.{are_later, are_timed}
 use Rattle.net_base.specs.World.{IsDatabase}
-use Rattle.net_base.proofs.Texts.{IsWithout, cut_at, decimal_without, without_one}
+use Rattle.net_base.proofs.Shared.{IsWithout, cut_at, decimal_without, without_one}
 use Rattle.ndb_reader.specs.Written.{db_text, line_text, more_lines, tuple_text}
-use Rattle.ndb_reader.proofs.Reading.{before-more, before-stop}
+use Rattle.ndb_reader.proofs.Shared.{before-more, before-stop}
 use Rattle.world_text.specs.WorldSpelling.{IsGoodBundle, LaterText, SaysVersions, line_of_moment, lines_of_later}
-use Rattle.world_text.proofs.VersionCuts.{AreGood, saids}
-use Rattle.world_text.proofs.VersionTexts.{all-good}
+use Rattle.world_text.proofs.Shared.{AreGood, saids, all-good}
 use Rattle.world_writer.specs.Written.{later_text, versions_text}
 use Rattle.net_model.specs.NdbWhole.{is_whole}
 

@@ -8,7 +8,7 @@ use Rattle.net_base.specs.declared.world.World.{World}
 use Rattle.net_base.specs.Callers.{Caller, caller_count}
 use Rattle.net_base.specs.Legal.{IsFault, IsLegal, IsTimed, Rule, rule_number}
 use Rattle.net_base.specs.Next.{next, next_of}
-use Rattle.history_laws.proofs.Histories.{fault_is_not_legal}
+use Rattle.history_laws.proofs.Shared.{fault_is_not_legal}
 use Rattle.netcheck.specs.Judged.{KeepsAt}
 use Rattle.netcheck.proofs.Least.{same_rule}
 use Rattle.netcheck.proofs.Nobody.{is_nobody}

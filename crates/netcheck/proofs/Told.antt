@@ -7,7 +7,7 @@ use Rattle.net_base.specs.declared.world.World.{World}
 use Rattle.net_base.specs.Calm.{calm, unfinished}
 use Rattle.net_base.specs.Legal.{IsFault, IsInTime, IsLegal, IsTimed, Rule as AnyRule, rule_number}
 use Rattle.net_base.specs.Net.{Net, after}
-use Rattle.history_laws.proofs.Histories.{fault_is_not_legal}
+use Rattle.history_laws.proofs.Shared.{fault_is_not_legal}
 use Rattle.netcheck.specs.declared.checking.CheckError.{CheckError}
 use Rattle.netcheck.specs.declared.checking.CheckError.TheVariants as error
 use Rattle.netcheck.specs.declared.rule.Rule.{Rule}

@@ -8,7 +8,7 @@ use Rattle.commands.specs.Built.{asking, IsAnswer, IsFirstBad, IsJudged}
 use Rattle.checked_input.specs.Input.{bad_world, no_history, parts_of, Handed, IsBadFrom, IsBadHanded, IsBadHistory, Parts}
 use Rattle.commands.specs.Checked.{BreaksOne, IsChecked, KeepsAll}
 use Rattle.command_line.specs.Asking.{IsGiven, is_over}
-use Rattle.command_line.proofs.BadLines.{given_good, told_of}
+use Rattle.command_line.proofs.Shared.{given_good, told_of}
 
 none_some : (bad : ℕ × ℕ) → None ≡ Some bad → ⊥
 none_some bad h = cc

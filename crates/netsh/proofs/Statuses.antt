@@ -16,9 +16,8 @@ use Rattle.commands.specs.Checked.{BreaksOne, IsChecked, KeepsAll}
 use Rattle.command_line.specs.Asking.{IsGiven}
 use Rattle.command_line.specs.Calls.{Intake, Output}
 use Rattle.command_line.specs.Ends.{Answers, TookAll, no_row, answered, unread, no_memory}
-use Rattle.command_line.proofs.BadLines.{given_good}
-use Rattle.command_line.proofs.Statuses as calls
-use Rattle.command_line.proofs.Statuses.{IsGood, Sound}
+use Rattle.command_line.proofs.Shared.{given_good, IsGood, Sound}
+use Rattle.command_line.proofs.Shared as calls
 use Rattle.netsh.specs.Ends.{IsStatusOf, IsHanded, HasChecked, HasGood, HasRun, Ends, EndsIll, EndsWell, Causes}
 use Rattle.std.proofs.lemmas.Bool.{false≢true}
 use Rattle.netsh.proofs.Checks.{broken_so, checked_0, checked_5, handed_in, judges, kept_so}

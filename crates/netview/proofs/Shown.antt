@@ -11,7 +11,7 @@ use Rattle.net_base.specs.NdbBundle.{bad_line}
 use Rattle.netview.specs.Views.{asking, input_limit, view, whole, IsAnswer, IsShown}
 use Rattle.netview.specs.Words.{Lint, Show, View}
 use Rattle.command_line.specs.Asking.{IsGiven}
-use Rattle.command_line.proofs.BadLines.{answer_within, within_limit}
+use Rattle.command_line.proofs.Shared.{answer_within, within_limit}
 
 -- a history with a fault isn't both legal and timed, and has no other fault
 abbrev pub NotLegal : Type 0

@@ -9,9 +9,8 @@ use Rattle.netview.specs.Views.{asking, capture_on, medium_named, view, IsAnswer
 use Rattle.netview.specs.Words.{Command, Lint, Show, View, Chart, ChartOfTalks, Pcap, Steps, Words}
 use Rattle.command_line.specs.Calls.{Intake, Output}
 use Rattle.command_line.specs.Ends.{IsStatusOf, TookAll}
-use Rattle.command_line.proofs.BadLines.{given_good}
-use Rattle.command_line.proofs.Statuses as calls
-use Rattle.command_line.proofs.Statuses.{IsGood, Sound}
+use Rattle.command_line.proofs.Shared.{given_good, IsGood, Sound}
+use Rattle.command_line.proofs.Shared as calls
 use Rattle.netview.specs.Ends.{HasBundle, HasHanded, IsBroken, IsHanded, IsRefused, IsShownWith, Ends, Causes}
 
 -- words that gave the command

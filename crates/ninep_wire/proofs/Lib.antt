@@ -8,3 +8,4 @@ pub mod Spelling
 pub mod Telling
 pub mod Whole
 pub mod WholeRead
+pub mod Shared

@@ -18,7 +18,7 @@ use Rattle.net_base.specs.Duties.{Duty}
 use Rattle.net_base.specs.Legal.{IsAsked, IsInTime, IsMove, cites_of}
 use Rattle.net_base.specs.Net.{Play, after, moment, owed, played, stepped_to, with_of, works}
 use Rattle.net_base.specs.Next.{by, next}
-use Rattle.history_laws.proofs.Histories.{state_is_fold}
+use Rattle.history_laws.proofs.Shared.{state_is_fold}
 use Rattle.plain_runner.specs.Callers.{IsCaller, IsTurning}
 use Rattle.plain_runner.specs.Tracks.{IsBefore, Tracks}
 use Rattle.plain_runner.specs.Turns.{IsMoving}

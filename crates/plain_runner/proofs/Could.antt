@@ -15,7 +15,7 @@ use Rattle.net_base.specs.Next.{by, finished_by, is_unfinished, own_replies, zon
 use Rattle.net_base.specs.Summary.{end_word}
 use Rattle.net_base.specs.Versions.{Tuples}
 use Rattle.script_player.specs.Players.{IsAt, Playing, position_after}
-use Rattle.history_laws.proofs.Owed.{past_after}
+use Rattle.history_laws.proofs.Shared.{past_after}
 use Rattle.plain_runner.specs.Callers.{HasRole, IsScriptAt}
 use Rattle.plain_runner.specs.Waiting.{could}
 use Rattle.plain_runner.specs.Tracks.{Tracks}

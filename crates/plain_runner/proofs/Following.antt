@@ -23,10 +23,8 @@ use Rattle.net_base.specs.Legal.{Follows, IsAsked, IsInTime, IsLegal, IsMove, Is
 use Rattle.net_base.specs.Net.{Net, after, outcome_in, owed, step_of, with_of, work_of}
 use Rattle.net_base.specs.Next.{next, next_of}
 use Rattle.net_base.specs.Steps.{Ask}
-use Rattle.history_laws.proofs.Histories.{at_push, one_more}
-use Rattle.history_laws.proofs.Ordered.{Each}
-use Rattle.progress_law.proofs.Always.{steady_after}
-use Rattle.progress_law.proofs.Duties.{OfKind}
+use Rattle.history_laws.proofs.Shared.{at_push, one_more, Each}
+use Rattle.progress_law.proofs.Shared.{steady_after, OfKind}
 use Rattle.plain_runner.specs.Followed.{Followed, Follows as FollowsOn, GoesOnWith, IsOf}
 use Rattle.plain_runner.specs.Recording.{IsHistory}
 use Rattle.plain_runner.specs.Tracks.{Grows, IsBefore, IsReady, RecordedSo, Tracks}

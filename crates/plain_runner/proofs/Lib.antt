@@ -16,3 +16,4 @@ mod Growing
 mod NoBytes
 mod Replies
 mod Ticks
+pub mod Shared

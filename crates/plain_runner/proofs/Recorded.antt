@@ -18,8 +18,7 @@ use Rattle.duties.specs.WaysOf.{AreWaysOfWorld}
 use Rattle.net_actors.specs.Together.{AreActors}
 use Rattle.script_player.specs.Players.{IsAt}
 use Rattle.history_laws.specs.Apart.{StandsStill}
-use Rattle.history_laws.proofs.Callers.{stands_still}
-use Rattle.history_laws.proofs.Histories.{after_push, legal_push, timed_push}
+use Rattle.history_laws.proofs.Shared.{stands_still, after_push, legal_push, timed_push}
 use Rattle.plain_runner.specs.Callers.{HasRole, IsCaller}
 use Rattle.plain_runner.specs.Recording.{Comes, IsHistory, Recorded}
 use Rattle.plain_runner.specs.Tracks.{IsBefore, RecordedSo}

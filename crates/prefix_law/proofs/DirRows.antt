@@ -26,7 +26,7 @@ use Rattle.prefix_law.proofs.Trace.{Owner, Trace, dir_trace, HasPlaces}
 use Rattle.prefix_law.proofs.Deeds.{both_ways}
 use Rattle.prefix_law.proofs.Sides.{put_here}
 use Rattle.prefix_law.proofs.Touch.{owner_of, Owned, Later, Emitted, emitted_later}
-use Rattle.history_laws.proofs.Takers.{TakerFound, slot_found, taker_found}
+use Rattle.history_laws.proofs.Shared.{TakerFound, slot_found, taker_found}
 use Rattle.prefix_law.proofs.DirSteps.{WithFine, EachDuty, SlotFine, SlotIsFine, DirFine, DirIsFine, Addressed, DirStep, dir_keeps, owns, owner_stays, owner_back, owned_owns, addressed_owns, convs_owns, slot_owns, slot_gets, other_dir_owns, known_owns, set_cases, place_push, place_last, has_pair_is, free_or_announced}
 use Rattle.table_laws.specs.DirRows.{DirRow, pair_by, slot_in}
 use Rattle.table_laws.specs.DirRows as row

@@ -22,7 +22,7 @@ use Rattle.prefix_law.proofs.Accounts.{AtEnd, HasEmpty, no_empty, joined-append}
 use Rattle.prefix_law.proofs.Books.{conv_of, reads, read_here, reads_push, got_sized, Booked, EntryAccount, NoEntry}
 use Rattle.prefix_law.proofs.Said.{closed_by}
 use Rattle.prefix_law.proofs.Happened.{Happened, happened, kept_at}
-use Rattle.history_laws.proofs.Histories.{by_entries, legal_take, one_more, take_before}
+use Rattle.history_laws.proofs.Shared.{by_entries, legal_take, one_more, take_before}
 use Rattle.prefix_law.proofs.Trace.{Owner, Trace, empty_side, actor_trace, trace}
 use Rattle.prefix_law.proofs.Whole.{Kept}
 

@@ -16,10 +16,9 @@ use Rattle.net_base.specs.World.{IsWorld}
 use Rattle.net_base.specs.Written.{Given, gave, given_in}
 use Rattle.net_base.specs.declared.reply.Reply.{Reply}
 use Rattle.prefix_law.proofs.Deeds.{both_ways}
-use Rattle.history_laws.proofs.Histories.{after_push, by_entries}
+use Rattle.history_laws.proofs.Shared.{after_push, by_entries, legal_short}
 use Rattle.prefix_law.proofs.Linked.{Linked, step_linked, given_push}
 use Rattle.prefix_law.proofs.Places.{places}
-use Rattle.history_laws.proofs.Short.{legal_short}
 use Rattle.prefix_law.proofs.Trace.{Owner, Trace, opening_trace, actor_trace, trace_after, trace}
 use Rattle.prefix_law.proofs.Whole.{Next, Kept, all_kept, next, work_fine, trace_push}
 

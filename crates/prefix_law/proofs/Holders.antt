@@ -18,8 +18,7 @@ use Rattle.net_base.specs.Tasks.{Tasks}
 use Rattle.net_base.specs.World.{IsWorld}
 use Rattle.net_base.specs.Written.{Conversation, Given, actor_of, given_in, holder, pair_of, peer, same_conversation}
 use Rattle.prefix_law.proofs.Deeds.{both_ways}
-use Rattle.history_laws.proofs.Histories.{same_proto_is}
-use Rattle.history_laws.proofs.PairsOnce.{in_of_get, once, same_itself}
+use Rattle.history_laws.proofs.Shared.{same_proto_is, in_of_get, once, same_itself}
 use Rattle.prefix_law.proofs.Peers.{same_conversation_is}
 use Rattle.prefix_law.proofs.Places.{places}
 use Rattle.prefix_law.proofs.Sides.{same_pair_is, same_pair_itself}

@@ -16,7 +16,7 @@ use Rattle.net_base.specs.Stamped.{same_actor, same_proto}
 use Rattle.net_base.specs.Written.{Conversation, Given, actor_of, given_in, same_conversation, pair_of, holder, peer}
 use Rattle.prefix_law.proofs.Books.{conv_of}
 use Rattle.prefix_law.proofs.Deeds.{both_ways}
-use Rattle.history_laws.proofs.Histories.{same_actor_is}
+use Rattle.history_laws.proofs.Shared.{same_actor_is}
 use Rattle.prefix_law.proofs.Linked.{Has, Linked, owner_in}
 use Rattle.prefix_law.proofs.Sides.{same_pair_is, same_pair_itself}
 use Rattle.prefix_law.proofs.Trace.{Owner, Trace}

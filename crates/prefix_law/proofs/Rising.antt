@@ -35,9 +35,7 @@ use Rattle.net_base.specs.Steps.{Ask}
 use Rattle.net_base.specs.World.{IsWorld, is_script, is_step}
 use Rattle.prefix_law.proofs.ConvWaits.{TimedActor, actor_later, IsConvName, tick_later, timed_opening}
 use Rattle.prefix_law.proofs.Deeds.{both_ways}
-use Rattle.history_laws.proofs.Histories.{after_push, by_entries, legal_take, one_more, next_same, next_other, same_actor_is}
-use Rattle.history_laws.proofs.PairsOnce.{same_itself}
-use Rattle.history_laws.proofs.Ordered.{all_at, in_range}
+use Rattle.history_laws.proofs.Shared.{after_push, by_entries, legal_take, one_more, next_same, next_other, same_actor_is, same_itself, all_at, in_range}
 use Rattle.prefix_law.proofs.Untils.{UntilAt, FineNext, fine_position}
 use Rattle.prefix_law.proofs.Waits.{Beyond}
 

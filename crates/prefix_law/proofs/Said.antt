@@ -19,7 +19,7 @@ use Rattle.net_base.specs.World.{IsWorld}
 use Rattle.net_base.specs.Written.{HasClosed}
 use Rattle.prefix_law.proofs.Books.{conv_of}
 use Rattle.prefix_law.proofs.Happened.{Happened, happened, kept_at, linked}
-use Rattle.history_laws.proofs.Histories.{at_push, before_push, by_entries}
+use Rattle.history_laws.proofs.Shared.{at_push, before_push, by_entries}
 use Rattle.prefix_law.proofs.Pairs.{Side}
 use Rattle.prefix_law.proofs.Peers.{owned_pair}
 use Rattle.prefix_law.proofs.Touch.{IsIn, HeardClose}

@@ -21,7 +21,7 @@ use Rattle.net_base.specs.Written.{Conversation, actor_of, end_in, shown_in, sto
 use Rattle.prefix_law.proofs.Books.{conv_of, EntryAccount, NoEntry}
 use Rattle.prefix_law.proofs.ConvMoves.{is_connected}
 use Rattle.prefix_law.proofs.Happened.{Happened, happened, kept_at}
-use Rattle.history_laws.proofs.Histories.{by_entries, legal_push, after_push, next_same}
+use Rattle.history_laws.proofs.Shared.{by_entries, legal_push, after_push, next_same}
 use Rattle.prefix_law.proofs.Pairs.{Side}
 use Rattle.prefix_law.proofs.Touch.{owner_of, HasEnd, ConvFine, ActorFine}
 use Rattle.prefix_law.proofs.Trace.{Owner, Trace, empty_side, actor_trace, trace}

@@ -24,7 +24,7 @@ use Rattle.net_base.specs.Duties.{close_calls, follow_up}
 use Rattle.net_base.specs.Routes.{Way, way, has_address}
 use Rattle.net_base.specs.Written.{Given, gave}
 use Rattle.prefix_law.proofs.Deeds.{both_ways}
-use Rattle.history_laws.proofs.Takers.{TakerFound, slot_found, taker_found}
+use Rattle.history_laws.proofs.Shared.{TakerFound, slot_found, taker_found}
 use Rattle.prefix_law.proofs.DirSteps.{set_cases, has_pair_is, free_or_announced}
 use Rattle.prefix_law.proofs.Trace.{HasPlaces}
 use Rattle.prefix_law.proofs.UdpConvs.{SentIf}

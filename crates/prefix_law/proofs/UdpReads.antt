@@ -19,8 +19,7 @@ use Rattle.net_base.specs.Tasks.{Tasks}
 use Rattle.net_base.specs.World.{IsWorld}
 use Rattle.net_base.specs.Written.{Conversation, Given, IsRead, gives, given_from, given_in}
 use Rattle.prefix_law.specs.PrefixLaw.{WasWritten}
-use Rattle.history_laws.proofs.DirPairs.{in_more}
-use Rattle.history_laws.proofs.Histories.{legal_take, slice_get_take}
+use Rattle.history_laws.proofs.Shared.{in_more, legal_take, slice_get_take}
 use Rattle.prefix_law.proofs.Holders.{peer_is}
 use Rattle.prefix_law.proofs.Places.{places}
 use Rattle.prefix_law.proofs.Trace.{HasPlaces}

@@ -28,11 +28,9 @@ use Rattle.net_base.specs.Stamped.{In, same_actor}
 use Rattle.net_base.specs.Tasks.{Tasks}
 use Rattle.net_base.specs.Written.{Conversation, Given, gave, given_in, IsWrite}
 use Rattle.prefix_law.proofs.Deeds.{both_ways}
-use Rattle.history_laws.proofs.DirPairs.{in_more, in_last}
+use Rattle.history_laws.proofs.Shared.{in_more, in_last, after_push, at_push, before_push, by_entries, same_actor_is, in_parts, same_itself}
 use Rattle.prefix_law.proofs.DirSteps.{all_free}
-use Rattle.history_laws.proofs.Histories.{after_push, at_push, before_push, by_entries, same_actor_is}
 use Rattle.prefix_law.proofs.Linked.{given_push}
-use Rattle.history_laws.proofs.PairsOnce.{in_parts, same_itself}
 use Rattle.prefix_law.proofs.Trace.{HasPlaces}
 use Rattle.prefix_law.proofs.UdpConvs.{SentAs, SentIf}
 use Rattle.prefix_law.proofs.UdpSteps.{StateFine, state_more, Next, next}

@@ -10,9 +10,7 @@ use Rattle.net_base.specs.declared.world.Step.TheVariants as step
 use Rattle.net_base.specs.Scripts.{at_first, position}
 use Rattle.net_base.specs.Steps.{call_names, clone_path, lines_in, Ask}
 use Rattle.net_base.specs.Versions.{Tuples}
-use Rattle.history_laws.proofs.Ordered.{each_any}
-use Rattle.history_laws.proofs.CallEvents.{next_event}
-use Rattle.history_laws.proofs.StepEvents.{IsOther, own_other, IsNamed, IsOpened, Fits, Says, IsNextEvent}
+use Rattle.history_laws.proofs.Shared.{each_any, next_event, IsOther, own_other, IsNamed, IsOpened, Fits, Says, IsNextEvent}
 
 -- a wait for a moment is recorded at the host's desk
 abbrev pub UntilAt : ℕ → ActorName → Event → Type 0

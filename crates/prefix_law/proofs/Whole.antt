@@ -50,7 +50,7 @@ use Rattle.prefix_law.proofs.DirRows.{dir_steps}
 use Rattle.table_laws.specs.ActorRows.{seen_as}
 use Rattle.table_laws.proofs.Shared.{map_some}
 use Rattle.prefix_law.proofs.OtherSteps.{IsUdp, harmless_emitted, udp_steps, dir_harmless, udp_dir_follow, conv_follow, MediumFine, TakenIf, medium_grows, medium_steps}
-use Rattle.history_laws.proofs.Histories.{after_push, by_entries}
+use Rattle.history_laws.proofs.Shared.{after_push, by_entries}
 use Rattle.prefix_law.proofs.Accounts.{AllSized, AtEnd, given_by, Reading}
 use Rattle.prefix_law.proofs.Books.{got_sized, Booked, Books, NoEntry, booked_quiet, books_next, conv_booked}
 

@@ -28,10 +28,7 @@ use Rattle.net_base.specs.Scripts.{at_first, position}
 use Rattle.net_base.specs.Steps.{Ask, call_names, clone_path, lines_in}
 use Rattle.net_base.specs.Versions.{Tuples}
 use Rattle.net_base.specs.World.{IsWorld}
-use Rattle.history_laws.proofs.Histories.{after_push, by_entries}
-use Rattle.history_laws.proofs.Ordered.{Each, each_any}
-use Rattle.history_laws.proofs.CallEvents.{next_event}
-use Rattle.history_laws.proofs.StepEvents.{Fits, IsNextEvent, IsNamed, IsOpened, IsOwn, Says}
+use Rattle.history_laws.proofs.Shared.{after_push, by_entries, Each, each_any, next_event, Fits, IsNextEvent, IsNamed, IsOpened, IsOwn, Says}
 use Rattle.progress_law.proofs.Duties.{Steady, IsActorOf, IsCallIn, bears, generation_in}
 use Rattle.progress_law.proofs.Entries.{changes}
 use Rattle.progress_law.proofs.Keeping.{steady_on}

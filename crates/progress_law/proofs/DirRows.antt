@@ -29,8 +29,7 @@ use Rattle.net_base.specs.Directory as directory
 use Rattle.net_base.specs.Directory.{Dir, Slot, dir_step, pair_of, is_free, reserves, withdraws, frees, bears as brings, Taker, home_at, is_live_with, is_of, start_of, limit_of, limit_to}
 use Rattle.net_base.specs.Duties.{Duty, follow_up, close_calls}
 use Rattle.net_base.specs.Routes.{Way, way}
-use Rattle.history_laws.proofs.Ordered.{Each, each_append}
-use Rattle.history_laws.proofs.Takers.{TakerFound, slot_found, taker_found}
+use Rattle.history_laws.proofs.Shared.{Each, each_append, TakerFound, slot_found, taker_found}
 use Rattle.table_laws.specs.DirRows.{DirRow, pair_by, slot_in}
 use Rattle.table_laws.specs.DirRows as row
 use Rattle.table_laws.proofs.Shared.{dir_rows, map_some}

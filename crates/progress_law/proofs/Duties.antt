@@ -19,7 +19,7 @@ use Rattle.net_base.specs.Directory.{Slot, is_of}
 use Rattle.net_base.specs.Duties.{Duty}
 use Rattle.net_base.specs.Net.{Net}
 use Rattle.net_base.specs.Stamped.{In}
-use Rattle.history_laws.proofs.Ordered.{Each, Later}
+use Rattle.history_laws.proofs.Shared.{Each, Later}
 
 -- Kinds.
 

@@ -26,10 +26,7 @@ use Rattle.net_base.specs.Medium.{Medium, medium_step, takes, lays, fate_of, now
 use Rattle.net_base.specs.Net.{Net, actors_after}
 use Rattle.net_base.specs.Stamped.{In, same_actor}
 use Rattle.net_base.specs.World.{IsWorld}
-use Rattle.history_laws.proofs.Histories.{same_actor_is}
-use Rattle.history_laws.proofs.Owed.{duties_each}
-use Rattle.history_laws.proofs.PairsOnce.{same_itself}
-use Rattle.history_laws.proofs.Ordered.{Each, Later, each_append, each_weaker}
+use Rattle.history_laws.proofs.Shared.{same_actor_is, duties_each, same_itself, Each, Later, each_append, each_weaker}
 use Rattle.progress_law.proofs.Duties.{Steady, OfKind, IsKind, IsMediumKind, AreSlots, AreCopies, IsActorOf, IsBirth, Apart, bears, named, same_core, reached, given_last, generation_at, conv_generation, generation_in}
 use Rattle.progress_law.proofs.DirRows.{Moved, MovesIf, FollowsAt, dir_moves}
 use Rattle.progress_law.proofs.ConvRows.{Kept, KeptIf, conv_kept, birth_done}

@@ -14,7 +14,7 @@ use Rattle.net_base.specs.declared.history.With.{With}
 use Rattle.net_base.specs.Duties.{Duty}
 use Rattle.net_base.specs.Net.{Net}
 use Rattle.net_base.specs.Stamped.{In}
-use Rattle.history_laws.proofs.Ordered.{Each, Later, each_append}
+use Rattle.history_laws.proofs.Shared.{Each, Later, each_append}
 use Rattle.progress_law.proofs.Duties.{Steady, OfKind, IsKind, IsActorOf, IsBirth, IsOwedBirth, Apart, bears, named, reached, given_last}
 use Rattle.progress_law.proofs.Least.{each_in}
 

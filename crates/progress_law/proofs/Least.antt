@@ -23,7 +23,7 @@ use Rattle.std.specs.Option.{option_map}
 use Rattle.net_base.specs.Duties.{Duty}
 use Rattle.net_base.specs.Net.{Net}
 use Rattle.net_base.specs.Stamped.{In}
-use Rattle.history_laws.proofs.Ordered.{Each, Later}
+use Rattle.history_laws.proofs.Shared.{Each, Later}
 use Rattle.net_base.specs.declared.packet.Body.{Body}
 use Rattle.net_base.specs.declared.packet.Body.TheVariants as body
 use Rattle.net_base.specs.declared.packet.Packet.{Packet}

@@ -8,3 +8,4 @@ pub mod Keeping
 pub mod New
 pub mod Entries
 pub mod Always
+pub mod Shared

@@ -25,7 +25,7 @@ use Rattle.net_base.specs.Duties.{Duty, put_by, emitted_put, close_calls, follow
 use Rattle.net_base.specs.Net.{Net}
 use Rattle.net_base.specs.Routes.{Way, way, has_address}
 use Rattle.net_base.specs.World.{IsWorld}
-use Rattle.history_laws.proofs.Ordered.{Each, Later, each_append, each_map, each_weaker}
+use Rattle.history_laws.proofs.Shared.{Each, Later, each_append, each_map, each_weaker}
 use Rattle.progress_law.proofs.Duties.{OfKind, Apart, bears, given_last, reached, conv_generation}
 use Rattle.progress_law.proofs.Worlds.{IsWithin, way_within}
 use Rattle.progress_law.proofs.Keeping.{IsNew, NotConv}

@@ -4,7 +4,7 @@ use Rattle.std.proofs.lemmas.Bool.Decides.{eqb_tells}
 use Rattle.std.proofs.lemmas.Option.{same_Some, slice_get_within}
 use Rattle.net_base.specs.declared.actor.Call.{Call}
 use Rattle.net_base.specs.Directory.{Slot}
-use Rattle.history_laws.proofs.Ordered.{Each, each_weaker}
+use Rattle.history_laws.proofs.Shared.{Each, each_weaker}
 use Rattle.progress_law.proofs.Duties.{AreSlots, IsCallIn, generation_in}
 
 pub get_set : {A : Type 0} (xs : List A) (i : ℕ) (y : A) → i < length xs → slice_get (slice_set xs i y) i ≡ Some y

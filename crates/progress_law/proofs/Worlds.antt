@@ -14,7 +14,7 @@ use Rattle.net_base.specs.Directory.{Dir, host_start}
 use Rattle.net_base.specs.Draws.{drawn_word}
 use Rattle.net_base.specs.Routes.{Route, Way, iface_routes, way, way_by, way_from, way_of_route, way_to_itself, longest_match, host_routes, stands_at}
 use Rattle.net_base.specs.World.{IsWorld, all_apart, is_host, is_iface, is_name, is_nets, is_route, is_start, same_medium, same_network}
-use Rattle.history_laws.proofs.Ordered.{all_at}
+use Rattle.history_laws.proofs.Shared.{all_at}
 use Rattle.progress_law.proofs.DirRows.{MayGive}
 
 -- the parts of a host

@@ -20,7 +20,7 @@ use Rattle.script_task.specs.Effects.{effect_of, opened, settles}
 use Rattle.script_task.specs.Fitting.{fits}
 use Rattle.net_base.specs.Requests.{head, settled}
 use Rattle.script_task.specs.Task.{Heads, follow, fits_play}
-use Rattle.script_task.proofs.Settling.{settles_so}
+use Rattle.script_task.proofs.Shared.{settles_so}
 use Rattle.step_task.specs.declared.step.StepTask.{StepTask}
 use Rattle.step_task.specs.Leaving.{after_one, leaves_so}
 use Rattle.step_task.specs.StepTasks.{StandsFor, asks, after, after_all, begun, leaves, left_by as left_by_task}

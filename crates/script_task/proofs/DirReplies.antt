@@ -11,7 +11,7 @@ use Rattle.net_base.specs.declared.world.World.{World}
 use Rattle.net_base.specs.ActorStep.{Step}
 use Rattle.net_base.specs.Actors.{opening_dir}
 use Rattle.net_base.specs.Directory.{Dir, Slot, free_slot, is_free}
-use Rattle.history_laws.proofs.Takers.{slot_found}
+use Rattle.history_laws.proofs.Shared.{slot_found}
 use Rattle.script_task.specs.Fitting.{fits}
 use Rattle.table_laws.specs.DirRows.{DirRow, slot_in}
 use Rattle.table_laws.specs.DirRows as row

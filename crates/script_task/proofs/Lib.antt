@@ -2,3 +2,4 @@ pub mod DirReplies
 pub mod Replies
 pub mod Events
 pub mod Settling
+pub mod Shared

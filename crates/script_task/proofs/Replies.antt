@@ -23,7 +23,7 @@ use Rattle.net_base.specs.Desk.{Desk}
 use Rattle.net_base.specs.Legal.{IsLegal, MayFollow, Shows}
 use Rattle.net_base.specs.Medium.{Medium}
 use Rattle.net_base.specs.Net.{Net, after, works, played, stepped_to, Play, work_of, outcome_in}
-use Rattle.history_laws.proofs.Histories.{state_is_fold}
+use Rattle.history_laws.proofs.Shared.{state_is_fold}
 use Rattle.script_task.specs.Fitting.{fits}
 use Rattle.script_task.proofs.DirReplies.{Fine, dir_fits, opening_fine}
 use Rattle.table_laws.specs.ActorRows.{ActorRow, AtDesk, AtDir, AtConv, AtMedium, AtClock, DeskRow, MediumRow, NoStation, Tells}

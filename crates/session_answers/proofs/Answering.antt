@@ -7,8 +7,8 @@ use Rattle.net_base.specs.SessionScript.{AreMessages, Begins, IsStream, after}
 use Rattle.net_base.specs.Server.{Answered, Outcome, answers_by, answers_to, outcome}
 use Rattle.net_base.specs.Session.{State, first}
 use Rattle.net_base.specs.SessionTable.{IsSound, Table}
-use Rattle.sessions.proofs.Sayable.{after_sound}
-use Rattle.session_script.proofs.Messages.{none_begins, one_beginning}
+use Rattle.sessions.proofs.Shared.{after_sound}
+use Rattle.session_script.proofs.Shared.{none_begins, one_beginning}
 use Rattle.session_answers.specs.Served.{Goes, IsLast, IsServedFirst, served}
 use Rattle.session_answers.specs.Told.{session}
 

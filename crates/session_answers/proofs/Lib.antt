@@ -6,3 +6,4 @@ mod Answering
 pub mod Serving
 mod Short
 pub mod Told
+pub mod Shared

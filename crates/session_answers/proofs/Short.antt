@@ -17,7 +17,7 @@ use Rattle.net_base.specs.Numeral.{numeral}
 use Rattle.net_base.specs.StateWords.{state_word}
 use Rattle.net_base.specs.Transcript.{addr_word, cause_number, ip_word, reply_words}
 use Rattle.net_base.specs.SessionAnswers.{longest_text, printed}
-use Rattle.sessions.proofs.Words.{has_room, is_short}
+use Rattle.sessions.proofs.Shared.{has_room, is_short}
 
 length_shown : (ds : List ℕ) → length (map (λ digit. 48 + digit) ds) ≡ length ds
 length_shown [] = refl

@@ -1,3 +1,4 @@
 pub mod Messages
 pub mod Walks
 pub mod Tables
+pub mod Shared

@@ -9,7 +9,7 @@ use Rattle.net_base.specs.declared.world.Step.{Step}
 use Rattle.net_base.specs.declared.ninep.Tmsg.{Tmsg}
 use Rattle.net_base.specs.NinepFields.{number}
 use Rattle.net_base.specs.NinepMessages.{SpellsT, longest, t_bytes, t_fields, t_tag, t_type}
-use Rattle.ninep_wire.proofs.Whole.{t_only}
+use Rattle.ninep_wire.proofs.Shared.{t_only}
 use Rattle.net_base.specs.SessionScript.{AreMessages, Begins, IsBadStream, IsScript, IsStream, after, script, step_of, steps_of}
 use Rattle.net_base.specs.SessionTable.{Table, opening}
 use Rattle.session_script.specs.Streams.{Takes}

@@ -2,3 +2,4 @@ mod Tags
 pub mod Words
 mod WorkedSession
 pub mod Sayable
+pub mod Shared

@@ -20,7 +20,7 @@ use Rattle.net_base.specs.declared.world.Step.TheVariants as step
 use Rattle.net_base.specs.Numeral.{numeral}
 use Rattle.net_base.specs.Paths.{checked, file_name, in_range, is_named, node_of, path_of, walk}
 use Rattle.net_base.specs.World.{is_byte, is_name, is_name_byte, is_step, is_text, is_within, is_word}
-use Rattle.words.proofs.Numerals.{numeral_by_steps}
+use Rattle.words.proofs.Shared.{numeral_by_steps}
 use Rattle.net_base.specs.declared.ninep.Tmsg.{Tmsg}
 use Rattle.net_base.specs.declared.ninep.Tmsg.TheVariants as t
 use Rattle.net_base.specs.NinepFields.{Holds, number}

@@ -13,7 +13,7 @@ use Rattle.net_base.specs.ActorStep.{Step}
 use Rattle.net_base.specs.Directory.{Dir, Slot, Taker, first_slot, is_free, match_of, may_bear, pair_of, pair_place, taker_of}
 use Rattle.net_base.specs.Mirror.{mirror}
 use Rattle.net_base.specs.Same.{same_pair}
-use Rattle.history_laws.proofs.Takers.{taker_found}
+use Rattle.history_laws.proofs.Shared.{taker_found}
 use Rattle.table_laws.specs.DirRows.{DirRow}
 use Rattle.table_laws.specs.DirRows as row
 use Rattle.table_laws.specs.Waiting.{EachWaiting, IsOfWaiting, OfTold}

@@ -2,7 +2,7 @@
 use Rattle.std.proofs.Common.{◌≡◌, ℕ, zero, suc, ◌+◌, ◌-◌, ◌*◌, ◌/◌, ◌%◌, ◌<◌, Bool, true, false, ◌&&◌, nat_le, if◌then◌else◌, List, [], ◌∷◌, ◌++◌, drop, refl, sym, ◌∙◌, ap, append_assoc, append-nil, arith}
 use Rattle.net_base.specs.Numeral.{numeral}
 use Rattle.net_base.specs.Plain.{IsClean}
-use Rattle.words.proofs.Numerals.{numeral_by_steps}
+use Rattle.words.proofs.Shared.{numeral_by_steps}
 
 abbrev pub is_digit : ℕ → Bool
 is_digit b = nat_le 48 b && nat_le b 57

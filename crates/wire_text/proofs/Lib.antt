@@ -4,3 +4,4 @@ pub mod Ipv4Laws
 pub mod UdpLaws
 pub mod WireNumbers
 pub mod WireSums
+pub mod Shared

@@ -3,3 +3,4 @@ mod Digits
 mod HexPairs
 mod Ranges
 mod Splits
+pub mod Shared

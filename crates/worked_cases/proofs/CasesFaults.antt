@@ -23,7 +23,7 @@ use Rattle.net_base.specs.Legal.{Shown}
 use Rattle.worked_worlds.specs.WorkedUdp.{datagram_world, datagram_history}
 use Rattle.worked_worlds.specs.WorkedIl.{lossy_world, lossy_history, refused_world, refused_history}
 use Rattle.worked_worlds.specs.WorkedFaults.{with_at, another_text, another_moment, another_cite, another_event, taken_too_early, moved_too_early, moved_too_far, sent_as_data, read_too_early, refused_otherwise, not_ended}
-use Rattle.history_laws.proofs.Histories.{legal_take, timed_take}
+use Rattle.history_laws.proofs.Shared.{legal_take, timed_take}
 use Rattle.worked_cases.proofs.CasesUdp.{datagram_is_legal, datagram_is_timed}
 use Rattle.worked_cases.proofs.CasesIl.{lossy_is_legal, lossy_is_timed, refused_is_legal, refused_is_timed}
 

@@ -7,3 +7,4 @@ pub mod CasesIl
 pub mod CasesFaults
 pub mod CasesRuns
 pub mod CasesLimits
+pub mod Shared

@@ -4,7 +4,7 @@ use Rattle.std.proofs.lemmas.Option.{none-some, same_Some}
 use Rattle.net_base.specs.declared.history.Entry.{Entry}
 use Rattle.net_base.specs.declared.world.World.{World}
 use Rattle.net_base.specs.Net.{Net, next_net, net_of, after, opening_net}
-use Rattle.history_laws.proofs.Histories.{legal_push, after_push}
+use Rattle.history_laws.proofs.Shared.{legal_push, after_push}
 use Rattle.net_base.specs.Legal.{Follows, IsLegal, IsInTime, IsTimed}
 
 -- each of these entries follows in turn

@@ -23,7 +23,7 @@ use Rattle.import_law.specs.Phases.{Reads, on_own}
 use Rattle.import_law.specs.Scripted.{is_importing, scripted}
 use Rattle.import_law.specs.Spans.{Span, numbered, own_of, spans}
 use Rattle.import_law.specs.WorldImports.{AllExported, AllImported}
-use Rattle.worked_cases.proofs.Walk.{Follow, is_legal, legal_along}
+use Rattle.worked_cases.proofs.Shared.{Follow, is_legal, legal_along}
 use Rattle.worked_worlds.specs.Worked.{small_bundle}
 use Rattle.worked_imports.specs.WorkedImport.{answers_attach, answers_version, asks_attach, asks_version, called, calling, carried_history, carried_world, exporter, importer}
 use Rattle.worked_imports.proofs.Asked.{stands}

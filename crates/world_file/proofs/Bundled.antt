@@ -7,11 +7,11 @@ use Rattle.net_base.specs.Ndb.{NdbPair}
 use Rattle.net_base.specs.declared.world.Version.{Version}
 use Rattle.net_base.specs.NdbBundle.{bad_line, causes_of, database, first_bad}
 use Rattle.net_base.specs.NdbText.{lines_of}
-use Rattle.net_base.proofs.Texts.{cut_at, one_part}
+use Rattle.net_base.proofs.Shared.{cut_at, one_part}
 use Rattle.world_text.specs.VersionLines.{at_causes, bad_version_line, first_bad_version, is_at_line, last_moment, later_versions, moment_of, own_lines, version_from, versions_in, with_version}
 use Rattle.world_text.specs.WorldSpelling.{is_line, laid}
 use Rattle.world_text.specs.WorldText.{Cut, cuts_of}
-use Rattle.world_text.proofs.VersionCuts.{Free, any-free, before-all, before-at, begins-some, bundle-told, free-later, last-at, last-free, moved, or_else, own-at, version-bad, version-goes, versions-append}
+use Rattle.world_text.proofs.Shared.{Free, any-free, before-all, before-at, begins-some, bundle-told, free-later, last-at, last-free, moved, or_else, own-at, version-bad, version-goes, versions-append}
 use Rattle.world_file.specs.declared.fault.WorldError.{WorldError}
 use Rattle.world_file.specs.declared.fault.WorldError.TheVariants as error
 use Rattle.world_file.specs.Bundles.{IsFront, IsLast, TellsMoment}

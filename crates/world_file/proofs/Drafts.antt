@@ -14,7 +14,7 @@ use Rattle.net_base.specs.World.{all_apart, is_mask}
 use Rattle.world_text.specs.declared.line.LineCause.{LineCause}
 use Rattle.world_text.specs.declared.line.LineCause.TheVariants as cause
 use Rattle.world_text.specs.WorldLines.{Draft, at_last, has_iface_on, has_medium, host_under, if_cause, is_medium_named, is_net, is_under, knows_network, medium_number, on_medium, reaches, refuse, route_cause}
-use Rattle.world_text.proofs.WorldMedia.{unrefused}
+use Rattle.world_text.proofs.Shared.{unrefused}
 use Rattle.world_file.proofs.Placed.{last_is, last_set, medium_none, medium_set}
 
 -- Other lists.

@@ -10,8 +10,7 @@ use Rattle.net_base.specs.declared.world.MediumSpec.{MediumSpec}
 use Rattle.net_base.specs.World.{all_apart, overlap}
 use Rattle.net_base.specs.declared.world.FateRange.{FateRange}
 use Rattle.world_text.specs.WorldLines.{at_last, is_fated, is_medium_named, on_medium}
-use Rattle.world_text.proofs.WorldLists.{false-of-not, or-parts}
-use Rattle.world_text.proofs.WorldMedia.{equal}
+use Rattle.world_text.proofs.Shared.{false-of-not, or-parts, equal}
 
 -- The last element.
 

@@ -5,12 +5,11 @@ use Rattle.std.proofs.lemmas.Bool.{and_from, and_parts}
 use Rattle.std.proofs.lemmas.List.Elements.{All-nil}
 use Rattle.std.proofs.lemmas.List.Folds.{list_all-append, list_any-append}
 use Rattle.net_base.specs.NdbText.{is_newline, lines_of}
-use Rattle.net_base.proofs.Texts.{IsWithout, cut_at, one_part, without_one}
+use Rattle.net_base.proofs.Shared.{IsWithout, cut_at, one_part, without_one}
 use Rattle.world_text.specs.VersionLines.{is_at_line}
 use Rattle.world_text.specs.WorldSpelling.{is_line, laid}
 use Rattle.world_text.specs.WorldText.{cuts_of}
-use Rattle.world_text.proofs.WorldLists.{false-of-not, or-parts}
-use Rattle.world_text.proofs.WorldTexts.{Shape, shape}
+use Rattle.world_text.proofs.Shared.{false-of-not, or-parts, Shape, shape}
 use Rattle.world_file.specs.Bundles.{IsFront, IsLast}
 
 -- Lines of a text.

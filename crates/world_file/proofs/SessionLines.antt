@@ -7,7 +7,7 @@ use Rattle.std.proofs.lemmas.List.{map-append}
 use Rattle.std.proofs.lemmas.List.Splits.{join_with_byte-slice_split}
 use Rattle.net_base.specs.declared.world.Script.{Script}
 use Rattle.net_base.specs.World.{is_name}
-use Rattle.net_base.proofs.Texts.{cut_at}
+use Rattle.net_base.proofs.Shared.{cut_at}
 use Rattle.world_text.specs.declared.line.MediumLine.{MediumLine}
 use Rattle.world_text.specs.declared.line.MediumLine.TheVariants as medium
 use Rattle.world_text.specs.declared.line.WorldLine.{WorldLine}
@@ -15,9 +15,7 @@ use Rattle.world_text.specs.declared.line.WorldLine.TheVariants as line
 use Rattle.world_text.specs.LineReading.{argued, read_line, script_of, words_line}
 use Rattle.world_text.specs.WorldLines.{Draft, Goes, after, at_last, good_line, host_number, is_passed, line_verdict, with_step, world_of}
 use Rattle.world_text.specs.WorldWords.{words_of}
-use Rattle.world_text.proofs.WorldLists.{without-none}
-use Rattle.world_text.proofs.WorldMedia.{equal}
-use Rattle.world_text.proofs.WorldTexts.{First, Good, Passed, Refused, View, bad-goes, begins-goes, same-goes, view}
+use Rattle.world_text.proofs.Shared.{without-none, equal, First, Good, Passed, Refused, View, bad-goes, begins-goes, same-goes, view}
 use Rattle.world_file.specs.SessionText.{Feeds, OpensSession, Other, Passes, as_script, row_by, row_of}
 
 -- ---- scripts

@@ -13,7 +13,7 @@ use Rattle.world_text.specs.VersionLines.{bad_version_line}
 use Rattle.world_text.specs.WorldLines.{Bad, Begins, Draft, Goes, Verdict, line_verdict, opening_draft, world_of}
 use Rattle.world_text.specs.WorldRefusal.{Leads}
 use Rattle.world_text.specs.WorldText.{Cut, cuts_of, missing, with_versions}
-use Rattle.world_text.proofs.WorldSmall.{led-next, small-led}
+use Rattle.world_text.proofs.Shared.{led-next, small-led}
 use Rattle.world_words.specs.declared.fault.LineFault.{LineFault}
 use Rattle.world_words.specs.declared.fault.LineFault.TheVariants as fault
 use Rattle.world_file.specs.declared.fault.WorldError.{WorldError}

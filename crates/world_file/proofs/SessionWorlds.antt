@@ -19,12 +19,7 @@ use Rattle.world_text.specs.VersionLines.{bad_version_line, versions_in}
 use Rattle.world_text.specs.WorldLines.{Bad, Begins, Draft, Goes, Verdict, after, at_last, empty_script, host_number, line_verdict, opening_draft, world_of}
 use Rattle.world_text.specs.WorldRefusal.{Leads}
 use Rattle.world_text.specs.WorldText.{Cut, cuts_of, with_first, with_versions}
-use Rattle.world_text.proofs.VersionTexts.{versions-databases, versions-timed}
-use Rattle.world_text.proofs.WorldLists.{apart-map, apart-push, at_last-push, last-push, same-numbers}
-use Rattle.world_text.proofs.WorldSmall.{led-next}
-use Rattle.world_text.proofs.WorldSound.{Behind, Opening, Stage, read-all}
-use Rattle.world_text.proofs.WorldStands.{complete}
-use Rattle.world_text.proofs.WorldTexts.{Ends, ends}
+use Rattle.world_text.proofs.Shared.{versions-databases, versions-timed, apart-map, apart-push, at_last-push, last-push, same-numbers, led-next, Behind, Opening, Stage, read-all, complete, Ends, ends}
 use Rattle.world_text.specs.declared.line.LineCause.{LineCause}
 use Rattle.world_text.specs.declared.line.LineCause.TheVariants as cause
 use Rattle.world_text.specs.declared.line.WorldLine.{WorldLine}

@@ -8,7 +8,7 @@ use Rattle.std.proofs.lemmas.List.Elements.{All-nil}
 use Rattle.std.proofs.lemmas.Option.{none-some, same_Some}
 use Rattle.net_base.specs.Hexadecimal.{hex_byte, hex_bytes, hex_digit, hex_digits, hex_text, hex_value, hex_word}
 use Rattle.net_base.specs.World.{is_byte}
-use Rattle.net_base.proofs.Texts.{IsWithout, without_one}
+use Rattle.net_base.proofs.Shared.{IsWithout, without_one}
 use Rattle.world_text.proofs.WorldLists.{and-false}
 use Rattle.world_text.proofs.WorldMedia.{equal}
 

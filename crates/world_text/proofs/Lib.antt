@@ -21,3 +21,4 @@ pub mod WorldRefusals
 pub mod WorldSmall
 pub mod WorldCanon
 pub mod WorldWritten
+pub mod Shared

@@ -25,7 +25,7 @@ use Rattle.net_base.specs.Paths.{proto_name}
 use Rattle.net_base.specs.Transcript.{mode_word}
 use Rattle.net_base.specs.Remotes.{is_remote_path}
 use Rattle.net_base.specs.World.{is_address, is_byte, is_letter, is_name, is_name_byte, is_nets, is_step, is_text, is_within, is_word}
-use Rattle.net_base.proofs.Texts.{IsWithout, cut_at, decimal_without, one_part, without_one}
+use Rattle.net_base.proofs.Shared.{IsWithout, cut_at, decimal_without, one_part, without_one}
 use Rattle.world_text.specs.declared.line.Frames.{Frames}
 use Rattle.world_text.specs.declared.line.Frames.TheVariants as frames
 use Rattle.world_text.specs.declared.line.HostLine.TheVariants as host

@@ -10,7 +10,7 @@ use Rattle.net_base.specs.NdbBundle.{bad_line, causes_of, database, first_bad, r
 use Rattle.net_base.specs.NdbText.{lines_of}
 use Rattle.net_base.specs.Versions.{are_later, are_timed}
 use Rattle.net_base.specs.World.{IsDatabase, is_byte}
-use Rattle.net_base.proofs.Texts.{IsWithout, cut_at, one_part, without_one}
+use Rattle.net_base.proofs.Shared.{IsWithout, cut_at, one_part, without_one}
 use Rattle.world_text.specs.VersionLines.{bad_version_line, first_bad_version, later_versions, versions_in}
 use Rattle.world_text.specs.WorldSpelling.{IsGoodBundle, LaterText, SaysVersions, lines_of_later, version_said}
 use Rattle.world_text.proofs.VersionCuts.{AreGood, Split, back, said, saids, split}

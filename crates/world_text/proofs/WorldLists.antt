@@ -9,7 +9,7 @@ use Rattle.std.proofs.lemmas.Slice.Eq.{bytes_eq-Decides}
 use Rattle.net_base.specs.World.{all_apart, is_letter, is_name, is_name_byte, is_within}
 use Rattle.world_text.specs.WorldLines.{at_last}
 use Rattle.world_text.specs.WorldSpelling.{EachBehind}
-use Rattle.net_base.proofs.Texts.{IsWithout, without_one}
+use Rattle.net_base.proofs.Shared.{IsWithout, without_one}
 
 -- Tests.
 

@@ -3,7 +3,7 @@ use Rattle.std.specs.Prelude.{flat_map}
 use Rattle.std.specs.Borrow.{Bor}
 use Rattle.std.specs.List.{sum_by}
 use Rattle.net_base.specs.Cs.{once_each}
-use Rattle.ndb_index.proofs.Nearby.{same_default}
+use Rattle.ndb_index.proofs.Shared.{same_default}
 use Rattle.cs_resolver.specs.Gathering.{words_seen}
 use Rattle.cs_resolver.proofs.Gathered.{words_more, count_more}
 use Rattle.cs_resolver.proofs.named.words_once.Goals as goal

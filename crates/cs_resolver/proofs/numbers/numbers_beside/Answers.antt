@@ -1,7 +1,7 @@
 use Rattle.std.proofs.Common.{List, ℕ, ◌++◌, sym, ap, ◌∙◌, arith, subst, length}
 use Rattle.std.specs.Prelude.{flat_map}
 use Rattle.net_base.specs.declared.ndb.spot.Spot.{Spot}
-use Rattle.ndb_index.proofs.Nearby.{spots_count}
+use Rattle.ndb_index.proofs.Shared.{spots_count}
 use Rattle.cs_resolver.specs.Probes.{AreSpots, numbers_at}
 use Rattle.cs_resolver.proofs.AtSpots.{spots_are_spots, spots_numbers}
 use Rattle.cs_resolver.proofs.numbers.numbers_beside.Goals as goal

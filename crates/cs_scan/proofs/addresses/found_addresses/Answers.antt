@@ -2,7 +2,7 @@ use Rattle.std.proofs.Common.{ap, ◌∙◌, map, List, ℕ}
 use Rattle.net_base.specs.Networks.{Network, is_on}
 use Rattle.net_base.specs.Cs.{own_first, once_each}
 use Rattle.ndb_tuple.specs.Prefixes.{network_seen}
-use Rattle.cs_resolver.proofs.Answering.{covered_first_is}
+use Rattle.cs_resolver.proofs.Shared.{covered_first_is}
 use Rattle.cs_scan.proofs.Longest.{own_on}
 use Rattle.cs_scan.proofs.addresses.found_addresses.Goals as goal
 

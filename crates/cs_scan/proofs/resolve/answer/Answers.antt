@@ -1,7 +1,7 @@
 use Rattle.std.proofs.Common.{ap, ◌∙◌, arith}
 use Rattle.std.proofs.lemmas.Bool.Decides.{nat_tests}
 use Rattle.cs_resolver.specs.Targets.{target_texts}
-use Rattle.cs_resolver.proofs.Answering.{no_service, with_lines, some_texts}
+use Rattle.cs_resolver.proofs.Shared.{no_service, with_lines, some_texts}
 use Rattle.cs_scan.proofs.resolve.answer.Goals as goal
 
 pub returns-then-len-eq0-2-clause-err : goal.returns-then-len-eq0-2-clause-err

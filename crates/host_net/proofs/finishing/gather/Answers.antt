@@ -1,5 +1,5 @@
 use Rattle.std.proofs.Common.{◌≡◌, [], arith}
-use Rattle.net_guests.proofs.Passes.{gathered, gathering, gathers_on, nil_of}
+use Rattle.net_guests.proofs.Shared.{gathered, gathering, gathers_on, nil_of}
 use Rattle.host_net.proofs.finishing.gather.Goals as goal
 
 pub loop-guest-init : goal.loop-guest-init

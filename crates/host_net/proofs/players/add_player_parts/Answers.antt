@@ -3,7 +3,7 @@ use Rattle.std.proofs.lemmas.List.{append-nil, reverse-reverse}
 use Rattle.std.proofs.lemmas.Result.{err_from_is_err_and}
 use Rattle.host_net.specs.Groups.{visits}
 use Rattle.host_net.specs.Playing.{guests_of}
-use Rattle.net_guests.proofs.Passes.{nil_of}
+use Rattle.net_guests.proofs.Shared.{nil_of}
 use Rattle.host_net.proofs.Parting.{goes_part, guests_push, plays_part}
 use Rattle.host_net.proofs.Seating.{players_on}
 use Rattle.host_net.proofs.players.add_player_parts.Goals as goal

@@ -3,7 +3,7 @@ use Rattle.std.proofs.lemmas.List.{append-nil, reverse-reverse}
 use Rattle.host_net.specs.Groups.{visits}
 use Rattle.host_net.specs.Playing.{ArePlayed}
 use Rattle.net_guests.specs.Visits.{Visit}
-use Rattle.net_guests.proofs.Passes.{nil_of}
+use Rattle.net_guests.proofs.Shared.{nil_of}
 use Rattle.host_net.proofs.Seating.{players_on, plays_more}
 use Rattle.host_net.proofs.players.add_players.Goals as goal
 

@@ -1,6 +1,6 @@
 use Rattle.std.proofs.Common.{◌≡◌, ℕ, List, ◌+◌, ◌++◌, length, take, drop, ap, ◌∙◌, inl, arith}
 use Rattle.std.proofs.lemmas.List.{length-append, length-take-le, take_at}
-use Rattle.net_base.proofs.Laid.{laid}
+use Rattle.net_base.proofs.Shared.{laid}
 use Rattle.ip_wire.proofs.udp.encode_udp.Goals as goal
 
 pub returns-clause-spelled : goal.returns-clause-spelled

@@ -2,8 +2,7 @@ use Rattle.std.proofs.Common.{ℕ, List, [], sym, ap, ◌∙◌}
 use Rattle.std.specs.Prelude.{filter_map}
 use Rattle.std.proofs.lemmas.List.{take_all}
 use Rattle.ndb_reader.specs.Names.{names_seen, with_names}
-use Rattle.ndb_reader.proofs.Chosen.{name_put}
-use Rattle.ndb_reader.proofs.Once.{once_all}
+use Rattle.ndb_reader.proofs.Shared.{name_put, once_all}
 use Rattle.net_base.specs.DomainNames.{name_in}
 use Rattle.ndb_dns.proofs.Parts.{name_less, name_more}
 use Rattle.ndb_dns.proofs.beside.names_in.Goals as goal

@@ -2,7 +2,7 @@ use Rattle.std.proofs.Common.{List, ℕ, ◌++◌, sym, ap, ◌∙◌, arith, su
 use Rattle.std.specs.Prelude.{flat_map}
 use Rattle.net_base.specs.Search.{beside}
 use Rattle.ndb_index.specs.Near.{SpotsWithin, spot_tuples}
-use Rattle.ndb_index.proofs.Nearby.{spots_within}
+use Rattle.ndb_index.proofs.Shared.{spots_within}
 use Rattle.ndb_dns.proofs.Parts.{spots_cost, values_are}
 use Rattle.ndb_dns.proofs.beside.values_beside.Goals as goal
 

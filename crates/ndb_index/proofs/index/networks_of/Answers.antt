@@ -1,6 +1,6 @@
 use Rattle.std.proofs.Common.{nat_eq, [], arith, ◌<◌, length, sym, ap, ◌∙◌}
 use Rattle.std.specs.List.{list_any}
-use Rattle.net_base.proofs.Among.{own-default}
+use Rattle.net_base.proofs.Shared.{own-default}
 use Rattle.ndb_index.specs.Nets.{has_prefix, has_length, places_kept}
 use Rattle.ndb_index.proofs.Notes.{taken}
 use Rattle.ndb_index.proofs.Own.{Kept, places_more, any_more}

@@ -1,7 +1,7 @@
 use Rattle.std.proofs.Common.{[], sym, ap, ◌∙◌, arith}
 use Rattle.std.specs.Prelude.{codes}
 use Rattle.net_base.specs.Networks.{tuple_names}
-use Rattle.net_base.proofs.Among.{find-here, find-on}
+use Rattle.net_base.proofs.Shared.{find-here, find-on}
 use Rattle.ndb_reader.proofs.Choosing.{none-chooses}
 use Rattle.ndb_reader.proofs.choice.choosing.Goals as goal
 

@@ -3,7 +3,7 @@ use Rattle.std.specs.Prelude.{filter_map}
 use Rattle.std.proofs.lemmas.List.{at_drop_all}
 use Rattle.net_base.specs.Search.{tuple_has}
 use Rattle.ndb_tuple.specs.Places.{places_of, places_with}
-use Rattle.ndb_tuple.proofs.Found.{places_found}
+use Rattle.ndb_tuple.proofs.Shared.{places_found}
 use Rattle.ndb_search.proofs.places.search.Goals as goal
 
 pub returns-clause-tuples : goal.returns-clause-tuples

@@ -2,7 +2,7 @@ use Rattle.std.proofs.Common.{ℕ, List, ◌++◌, [], sym, ap, ◌∙◌, arith
 use Rattle.std.specs.Prelude.{filter}
 use Rattle.net_base.specs.Search.{values_on, values_in}
 use Rattle.net_base.specs.Networks.{is_filled}
-use Rattle.net_base.proofs.Among.{own-default}
+use Rattle.net_base.proofs.Shared.{own-default}
 use Rattle.ndb_tuple.proofs.Behind.{of-all}
 use Rattle.ndb_tuple.proofs.NonEmpty.{in_more}
 use Rattle.ndb_tuple.proofs.filled.filled_in.Goals as goal

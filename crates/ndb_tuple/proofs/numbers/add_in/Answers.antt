@@ -1,5 +1,5 @@
 use Rattle.std.proofs.Common.{◌++◌, ◌+◌, [], take, arith, ◌<◌, length}
-use Rattle.net_base.proofs.Among.{own-default}
+use Rattle.net_base.proofs.Shared.{own-default}
 use Rattle.ndb_tuple.specs.Numbers.{numbers_on, numbers_in}
 use Rattle.ndb_tuple.proofs.Behind.{join-more, of-all}
 use Rattle.ndb_tuple.proofs.Pieces.{in_more}

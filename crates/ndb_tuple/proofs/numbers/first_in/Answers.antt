@@ -1,6 +1,6 @@
 use Rattle.std.proofs.Common.{[], sym, ap, ◌∙◌, arith, ◌<◌, length}
 use Rattle.net_base.specs.Networks.{first_of}
-use Rattle.net_base.proofs.Among.{own-default}
+use Rattle.net_base.proofs.Shared.{own-default}
 use Rattle.ndb_tuple.specs.Numbers.{numbers_in}
 use Rattle.ndb_tuple.proofs.Behind.{of-all}
 use Rattle.ndb_tuple.proofs.Pieces.{in_none, in_first}

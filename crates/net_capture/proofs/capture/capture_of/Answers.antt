@@ -1,5 +1,5 @@
 use Rattle.std.proofs.Common.{refl, ◌∙◌}
-use Rattle.plain_runner.proofs.Following.{may_next}
+use Rattle.plain_runner.proofs.Shared.{may_next}
 use Rattle.net_capture.proofs.Following.{captured_all, captured_more, captured_none}
 use Rattle.net_capture.proofs.capture.capture_of.Goals as goal
 

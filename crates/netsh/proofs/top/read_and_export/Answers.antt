@@ -1,6 +1,6 @@
 use Rattle.std.proofs.Common.{Err, ap, refl, ◌∙◌}
 use Rattle.std.proofs.lemmas.Result.{err_from_is_err_and}
-use Rattle.command_line.proofs.Endings.{answered_failed}
+use Rattle.command_line.proofs.Shared.{answered_failed}
 use Rattle.commands.specs.Built.{asking}
 use Rattle.netsh.proofs.top.read_and_export.Goals as goal
 

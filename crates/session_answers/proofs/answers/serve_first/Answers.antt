@@ -1,7 +1,7 @@
 use Rattle.std.proofs.Common.{arith}
 use Rattle.session_answers.specs.Served.{state_of}
 use Rattle.session_script.specs.Seen.{seen}
-use Rattle.session_script.proofs.Messages.{has_header}
+use Rattle.session_script.proofs.Shared.{has_header}
 use Rattle.session_answers.proofs.Answering.{first_waits, still_sound}
 use Rattle.session_answers.proofs.answers.serve_first.Goals as goal
 

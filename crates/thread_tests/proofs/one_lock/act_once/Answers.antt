@@ -1,7 +1,7 @@
 use Rattle.std.proofs.Common.{ap, ◌∙◌}
 use Rattle.net_base.specs.declared.actor.ActorName.TheVariants as name
 use Rattle.net_base.specs.Stamped.{same_actor}
-use Rattle.locked.proofs.Turns.{still_holds, same_moment}
+use Rattle.locked.proofs.Shared.{still_holds, same_moment}
 use Rattle.thread_tests.proofs.one_lock.act_once.Goals as goal
 
 pub returns-clause-held : goal.returns-clause-held

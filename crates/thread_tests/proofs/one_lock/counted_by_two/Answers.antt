@@ -7,9 +7,8 @@ use Rattle.net_base.specs.Stamped.{same_actor, In}
 use Rattle.journal.specs.Rule.{Held, caller_numbers, same_number}
 use Rattle.journal.specs.declared.tokens.Volume.{Volume}
 use Rattle.journal.specs.Tokens.{Holds, AreBlank}
-use Rattle.journal.proofs.Lists.{in-left, in-right}
-use Rattle.journal.proofs.Names.{same_actor_is}
-use Rattle.locked.proofs.Turns.{below_two, only_blank}
+use Rattle.journal.proofs.Shared.{in-left, in-right, same_actor_is}
+use Rattle.locked.proofs.Shared.{below_two, only_blank}
 use Rattle.thread_tests.proofs.one_lock.counted_by_two.Goals as goal
 
 pub join-one-requires-after_bounds : goal.join-one-requires-after_bounds

@@ -7,7 +7,7 @@ use Rattle.net_base.specs.Stamped.{moment, In}
 use Rattle.journal.specs.Rule.{Held, caller_numbers, same_number}
 use Rattle.journal.specs.declared.tokens.Volume.{Volume}
 use Rattle.journal.specs.Tokens.{Holds, AreBlank}
-use Rattle.locked.proofs.Turns.{first_blank, below_one}
+use Rattle.locked.proofs.Shared.{first_blank, below_one}
 use Rattle.thread_tests.proofs.one_lock.watched.Goals as goal
 
 pub act_once-told-requires-clause-held : goal.act_once-told-requires-clause-held

@@ -5,7 +5,7 @@ use Rattle.host_net.proofs.Continuing.{own_stays}
 use Rattle.host_net.proofs.Counting.{counts_stay}
 use Rattle.host_net.proofs.Lending.{advances_at, all_stand, players_left}
 use Rattle.host_net.proofs.Outcomes.{player_stays}
-use Rattle.net_guests.proofs.Passes.{nil_of}
+use Rattle.net_guests.proofs.Shared.{nil_of}
 use Rattle.host_net.proofs.Passing.{OthersStay, advances_here, are_back, group_lists, mine_caller, mine_names}
 use Rattle.host_net.proofs.Passing.{next_apart, next_lent, other, others_stay_here, player, still_with}
 use Rattle.host_net.specs.Advancing.{Advances, AreBack, AreLent, other_players}

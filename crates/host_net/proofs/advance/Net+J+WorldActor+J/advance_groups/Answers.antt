@@ -3,7 +3,7 @@ use Rattle.net_base.specs.Callers.{caller_of}
 use Rattle.host_net.proofs.Counting.{counts_none}
 use Rattle.host_net.proofs.Outcomes.{clock_played, clock_player}
 use Rattle.host_net.proofs.Standings.{no_script}
-use Rattle.net_guests.proofs.Passes.{itself}
+use Rattle.net_guests.proofs.Shared.{itself}
 use Rattle.host_net.proofs.Passing.{player}
 use Rattle.host_net.proofs.Replacing.{all_advanced, all_at_once, all_kept, all_lent_first, all_seated, clock_alone, is_clock, place_within}
 use Rattle.host_net.proofs.Taking.{kept_itself}

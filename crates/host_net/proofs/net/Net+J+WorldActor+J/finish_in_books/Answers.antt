@@ -1,7 +1,7 @@
 use Rattle.std.proofs.lemmas.Result.{IfOk-weaker}
 use Rattle.journal.specs.Closing.{IsWhole}
 use Rattle.net_guests.specs.Visits.{Finished}
-use Rattle.net_guests.proofs.Passes.{all_with, finished, holds_all, itself, kept}
+use Rattle.net_guests.proofs.Shared.{all_with, finished, holds_all, itself, kept}
 use Rattle.host_net.proofs.net.Net+J+WorldActor+J.finish_in_books.Goals as goal
 
 pub close_in_books-requires-clause-callers : goal.close_in_books-requires-clause-callers

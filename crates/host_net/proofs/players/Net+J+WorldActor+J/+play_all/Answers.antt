@@ -1,6 +1,6 @@
 use Rattle.std.proofs.Common.{sym, subst}
 use Rattle.host_net.specs.Groups.{AreWaiting, all_members, members}
-use Rattle.net_guests.proofs.Passes.{nil_of}
+use Rattle.net_guests.proofs.Shared.{nil_of}
 use Rattle.host_net.proofs.Seating.{seats_on, some_short, waiting_parts}
 use Rattle.host_net.proofs.players.Net+J+WorldActor+J.+play_all.Goals as goal
 

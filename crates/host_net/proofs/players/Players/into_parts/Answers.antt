@@ -3,7 +3,7 @@ use Rattle.std.proofs.lemmas.List.{append-nil, reverse-reverse}
 use Rattle.host_net.specs.Groups.{IsDealt, all_members, all_seats, visits}
 use Rattle.host_net.specs.Playing.{AreGoing, ArePlayed, guests_of}
 use Rattle.net_guests.specs.Visits.{HasGuest, Visit}
-use Rattle.net_guests.proofs.Passes.{nil_of}
+use Rattle.net_guests.proofs.Shared.{nil_of}
 use Rattle.host_net.proofs.Seating.{groups_on, has_guest}
 use Rattle.host_net.proofs.players.Players.into_parts.Goals as goal
 

@@ -1,6 +1,6 @@
 use Rattle.std.proofs.Common.{sym, subst, ◌∙◌}
 use Rattle.net_base.specs.declared.actor.ActorName.{ActorName}
-use Rattle.journal.proofs.Names.{same_actor_is}
+use Rattle.journal.proofs.Shared.{same_actor_is}
 use Rattle.locked.specs.Acts.{Acted}
 use Rattle.locked.proofs.lock.Locked.act_locked.Goals as goal
 

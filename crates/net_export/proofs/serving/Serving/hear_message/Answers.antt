@@ -1,5 +1,5 @@
 use Rattle.std.proofs.Common.{sym, ◌∙◌}
-use Rattle.session_answers.proofs.Serving.{step_served}
+use Rattle.session_answers.proofs.Shared.{step_served}
 use Rattle.session_script.specs.Seen.{seen}
 use Rattle.net_export.proofs.serving.Serving.hear_message.Goals as goal
 
