@@ -19,7 +19,7 @@ use Rattle.net_base.specs.Net.{Net}
 use Rattle.net_base.specs.Next.{next_of_by}
 use Rattle.net_base.specs.Tasks.{Tasks}
 use Rattle.calm_laws.specs.Could.{could}
-use Rattle.calm_laws.proofs.Ranges.{all_range, and_left, and_right, fails_range, or_false}
+use Rattle.net_base.proofs.Shared.{all_range, and_left, and_right, fails_range, or_false}
 
 -- Callers.
 

@@ -20,7 +20,7 @@ use Rattle.history_reader.specs.Wide.{AreByteLines}
 use Rattle.history_reader.proofs.Clean.{AreFree, first_part, free_hex, free_line, line_free, parts_free}
 use Rattle.history_reader.proofs.Exact.{Exact, ExactWord, exact_one}
 use Rattle.history_reader.proofs.FieldWords.{file_sound}
-use Rattle.history_reader.proofs.Hexes.{digit-is, hex-back, hex-spelled}
+use Rattle.net_base.proofs.Shared.{digit-is, hex-back, hex-spelled}
 
 -- Bytes.
 

@@ -1,4 +1,3 @@
 pub mod Longest
 pub mod OfWorld
-pub mod Ranges
 pub mod Refusals

@@ -9,4 +9,8 @@ pub mod Laid
 pub mod Texts
 pub mod Kept
 pub mod Skipped
+pub mod Alike
+pub mod NumberTexts
+pub mod HexTexts
+pub mod Ranges
 pub mod Shared

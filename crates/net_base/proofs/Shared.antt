@@ -6,8 +6,14 @@ pub use Rattle.net_base.proofs.Among.{either, find-here, find-on, neither, own-d
 pub use Rattle.net_base.proofs.Cuts.{slice-length, slice-more, slice-rest}
 -- runs that grow by a pair, by the end of a line and by the end of a tuple
 pub use Rattle.net_base.proofs.Growth.{drop-all}
+-- bytes in hexadecimal: what is read of a word is what it spells, and what is spelled is read
+pub use Rattle.net_base.proofs.HexTexts.{digit-is, hex-back, hex-spelled, hex-without}
 -- what a slice holds after a front and a back were copied into it
 pub use Rattle.net_base.proofs.Laid.{laid}
+-- numbers and addresses as words: what is read of a word is what it spells, and what is spelled is read
+pub use Rattle.net_base.proofs.NumberTexts.{address-back, address-dotted, le-true, lt-is, number-back, number_in-spelled, within-is}
+-- tests, and which numbers of a range pass them
+pub use Rattle.net_base.proofs.Ranges.{all_range, and_both, and_left, and_right, fails_range, found_in_range, none_in_range, none_more, none_range, not_below, or_false, or_left, or_right, passed_range, some_range, unpassed}
 -- where the pair with a number stands, by where lines and tuples end
 pub use Rattle.net_base.proofs.Spots.{lines-length}
 -- texts of numbers and addresses, cut at their separators

@@ -24,9 +24,9 @@ use Rattle.plain_runner.specs.declared.caller.Caller.{Caller}
 use Rattle.plain_runner.specs.declared.caller.Role.{Role}
 use Rattle.plain_runner.specs.declared.caller.Role.TheVariants as role
 use Rattle.plain_runner.specs.declared.runner.Runner.{Runner}
-use Rattle.plain_runner.proofs.Calming.{is_busy}
+use Rattle.calm_laws.proofs.Shared.{is_busy}
 use Rattle.plain_runner.proofs.Halting.{NobodyCould, busy_unfinished, done_word, full_word, idle_calm, limit_word, moment_within, other_word, stopped_word}
-use Rattle.plain_runner.proofs.Ranges.{and_left, and_right, passed_range, unpassed}
+use Rattle.net_base.proofs.Shared.{and_left, and_right, passed_range, unpassed}
 use Rattle.plain_runner.proofs.Standing.{script_at, script_role, unfinished_from, unfinished_more, unfinished_none}
 
 pub past_is : (w : World) (h : List Entry) → (after w h).past ≡ h

@@ -16,8 +16,8 @@ use Rattle.net_base.specs.Duties.{conversations, due_of}
 use Rattle.net_base.specs.Next.{by, next_of}
 use Rattle.net_base.specs.Summary.{end_word}
 use Rattle.history_laws.proofs.Shared.{after_push, at_push, by_entries, timed_take}
-use Rattle.plain_runner.proofs.Calming.{Kind, OfScript, OfCourier, OfClock, clock_is, clock_waits, courier_is, is_calm, kind_of, script_is}
-use Rattle.plain_runner.proofs.Ranges.{and_both, and_left, and_right, none_range, not_below, some_range}
+use Rattle.calm_laws.proofs.Shared.{Kind, OfScript, OfCourier, OfClock, clock_is, clock_waits, courier_is, is_calm, kind_of, script_is}
+use Rattle.net_base.proofs.Shared.{and_both, and_left, and_right, none_range, not_below, some_range}
 use Rattle.plain_runner.proofs.Recorded.{step_moment}
 
 -- The moment is never past the end.

@@ -1,8 +1,6 @@
 pub mod Unmoved
 pub mod Recorded
 pub mod Taking
-pub mod Ranges
-pub mod Calming
 pub mod Opening
 pub mod Halting
 pub mod Standing

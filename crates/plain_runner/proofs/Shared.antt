@@ -1,7 +1,5 @@
 -- What other crates cite of these proofs.
 
--- where no caller could record the net is calm, and else it isn't
-pub use Rattle.plain_runner.proofs.Calming.{script_is}
 -- a run that follows a history: the entry that it records is the one that may follow
 pub use Rattle.plain_runner.proofs.Following.{IsClockMove, clock_moves, followed_all, may_next, same_fields}
 -- how a run stands after a legal history: done, stopped, limited, or none of these

@@ -19,7 +19,7 @@ use Rattle.plain_runner.specs.declared.caller.Caller.{Caller}
 use Rattle.plain_runner.specs.declared.caller.Role.{Role}
 use Rattle.plain_runner.specs.declared.caller.Role.TheVariants as role
 use Rattle.plain_runner.specs.declared.runner.Runner.{Runner}
-use Rattle.plain_runner.proofs.Calming.{script_is}
+use Rattle.calm_laws.proofs.Shared.{script_is}
 
 -- One script.
 

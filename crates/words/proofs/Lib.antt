@@ -1,6 +1,5 @@
 pub mod Numerals
 mod Digits
 mod HexPairs
-mod Ranges
 mod Splits
 pub mod Shared

@@ -1,13 +1,11 @@
 pub mod Controls
 pub mod PathNames
-pub mod WorldNumbers
 pub mod WorldLists
 pub mod VersionCuts
 pub mod VersionTexts
 pub mod WorldMedia
 pub mod WorldMediums
 pub mod WorldHosts
-pub mod Hexes
 pub mod LineSpelled
 pub mod LineBack
 pub mod WorldHostForms

@@ -1,7 +1,7 @@
 use Rattle.std.proofs.Common.{sym, ap, is_some, arith, ◌==◌}
 use Rattle.std.proofs.lemmas.Bool.Decides.{nat_tests}
 use Rattle.net_base.specs.Networks.{mask_of}
-use Rattle.ip_route.proofs.Ranges.{found_in_range, none_in_range}
+use Rattle.net_base.proofs.Shared.{found_in_range, none_in_range}
 use Rattle.ip_route.proofs.mask.is_mask.Goals as goal
 
 pub returns-then-mask_of-from : goal.returns-then-mask_of-from

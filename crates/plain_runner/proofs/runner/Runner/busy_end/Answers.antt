@@ -3,7 +3,7 @@ use Rattle.net_base.specs.Calm.{most_entries}
 use Rattle.net_base.specs.Next.{by}
 use Rattle.plain_runner.specs.Waiting.{could}
 use Rattle.plain_runner.proofs.Could.{limit_told, none_told}
-use Rattle.plain_runner.proofs.Ranges.{and_left, and_right, none_more}
+use Rattle.net_base.proofs.Shared.{and_left, and_right, none_more}
 use Rattle.plain_runner.proofs.runner.Runner.busy_end.Goals as goal
 use Rattle.plain_runner.proofs.runner.Runner.busy_end.Goals.{else-is_full-via-then-is_full+else-could, else-is_full-via-else-is_full}
 

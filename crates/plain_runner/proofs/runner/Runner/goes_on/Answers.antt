@@ -1,7 +1,7 @@
 use Rattle.std.proofs.Common.{sym, arith, ◌∙◌}
 use Rattle.net_base.specs.Callers.{caller_count}
 use Rattle.plain_runner.specs.Waiting.{could}
-use Rattle.plain_runner.proofs.Ranges.{none_more, none_range, some_range}
+use Rattle.net_base.proofs.Shared.{none_more, none_range, some_range}
 use Rattle.plain_runner.proofs.runner.Runner.goes_on.Goals as goal
 
 pub returns-then-could : goal.returns-then-could

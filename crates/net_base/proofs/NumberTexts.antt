@@ -1,4 +1,4 @@
--- The numbers and addresses of a world's text: what is read of a word is what it spells, and what is spelled is read.
+-- Numbers and addresses as words: what is read of a word is what it spells, and what is spelled is read.
 use Rattle.std.proofs.Common.{◌≡◌, ℕ, ◌+◌, ◌*◌, ◌/◌, ◌%◌, ◌<◌, ◌≤◌, ◌^◌, ◌==◌, Bool, true, false, ◌&&◌, List, [], ◌∷◌, ◌++◌, length, get_or, refl, sym, ap, subst, ◌∙◌, arith, Option, Some, None, append_assoc, rules}
 use Rattle.std.specs.Prelude.{decimal, nat_lt, nat_le, if◌then◌else◌}
 use Rattle.std.specs.List.{list_all, join_with_byte}
@@ -15,11 +15,10 @@ use Rattle.std.proofs.lemmas.List.Splits.{join_with_byte-slice_split}
 use Rattle.std.proofs.lemmas.Option.{none-some, same_Some}
 use Rattle.std.proofs.lemmas.Str.{digit_value_digit}
 use Rattle.std.proofs.lemmas.Str.Parse.{numerals_by_value, tells_digits, tells_all_ascii_digits}
-use Rattle.net_base.specs.Addresses.{parts_at, read_digits, read_byte, within, join_bytes}
+use Rattle.net_base.specs.Addresses.{address_in, is_padded, join_bytes, number_in, octet_of, octets_joined, parts_at, read_byte, read_digits, within}
 use Rattle.net_base.specs.ControlWords as control
 use Rattle.net_base.specs.World.{is_within}
-use Rattle.world_text.specs.WorldWords.{is_padded, number_in, octet_of, octets_joined, address_in}
-use Rattle.net_base.proofs.Shared.{four_parts, value_of}
+use Rattle.net_base.proofs.Texts.{four_parts, value_of}
 
 -- Numbers.
 

@@ -2,11 +2,13 @@
 use Rattle.std.proofs.Common.{◌≡◌, ℕ, ◌+◌, ◌-◌, ◌*◌, ◌/◌, ◌%◌, ◌<◌, ◌==◌, Bool, true, false, ◌&&◌, List, [], ◌∷◌, length, refl, sym, ap, ◌∙◌, arith, Option, Some, None}
 use Rattle.std.specs.Prelude.{bytes_eq, codes, nat_le, nat_lt, if◌then◌else◌}
 use Rattle.std.specs.List.{list_all}
-use Rattle.std.proofs.lemmas.Bool.{and_parts}
+use Rattle.std.proofs.lemmas.Bool.{and_parts, ne_eqb}
 use Rattle.std.proofs.lemmas.Bool.Decides.{nat_tests}
+use Rattle.std.proofs.lemmas.List.Elements.{All-nil}
 use Rattle.std.proofs.lemmas.Option.{none-some, same_Some}
 use Rattle.net_base.specs.Hexadecimal.{hex_byte, hex_bytes, hex_digit, hex_digits, hex_text, hex_value, hex_word}
 use Rattle.net_base.specs.World.{is_byte}
+use Rattle.net_base.proofs.Texts.{IsWithout, without_one}
 use Rattle.std.proofs.lemmas.Slice.Eq.{bytes_eq-Decides}
 
 and-false : (b : Bool) → b && false ≡ false
@@ -105,3 +107,22 @@ pub hex-back : (bytes : List ℕ) → list_all is_byte bytes ≡ true → hex_te
 hex-back [] all = refl
 hex-back (b ∷ bytes) all =
     ap (λ v. if v then Some [] else hex_bytes (hex_digits (b ∷ bytes))) (and-false (hex_digit (b / 16) == 45)) ∙ digits-back (b ∷ bytes) all
+
+-- A word of digits has no byte that is no digit.
+
+digit-other : (s n : ℕ) → s < 45 → (hex_digit n == s) ≡ false
+digit-other s n low = by (nat_lt n 10)
+  where
+    by : (v : Bool) → ((if v then 48 + n else 87 + n) == s) ≡ false
+    by true = ne_eqb (48 + n) s (λ is. omega (arith, is, low))
+    by false = ne_eqb (87 + n) s (λ is. omega (arith, is, low))
+
+digits-without : (s : ℕ) (bytes : List ℕ) → s < 45 → IsWithout s (hex_digits bytes)
+digits-without s [] low = All-nil (λ (x : ℕ). (x == s) ≡ false)
+digits-without s (b ∷ bytes) low =
+    without_one s (hex_digit (b / 16)) (hex_digit (b % 16) ∷ hex_digits bytes) (digit-other s (b / 16) low)
+    (without_one s (hex_digit (b % 16)) (hex_digits bytes) (digit-other s (b % 16) low) (digits-without s bytes low))
+
+pub hex-without : (s : ℕ) (bytes : List ℕ) → s < 45 → IsWithout s (hex_word bytes)
+hex-without s [] low = without_one s 45 [] (ne_eqb 45 s (λ is. omega (arith, is, low))) (All-nil (λ (x : ℕ). (x == s) ≡ false))
+hex-without s (b ∷ bytes) low = digits-without s (b ∷ bytes) low

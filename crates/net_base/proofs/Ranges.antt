@@ -1,7 +1,8 @@
--- Tests, and whether the numbers of a range pass them.
-use Rattle.std.proofs.Common.{◌≡◌, ℕ, zero, suc, ◌+◌, ◌<◌, ◌≤◌, ◌==◌, ◌&&◌, ◌||◌, Bool, true, false, nat_lt, refl, sym, ap, ◌∙◌, arith}
+-- Tests, and which numbers of a range pass them.
+use Rattle.std.proofs.Common.{◌≡◌, ◌≢◌, ℕ, zero, suc, ◌+◌, ◌<◌, ◌≤◌, ◌==◌, ◌&&◌, ◌||◌, ◌⊎◌, inl, inr, Bool, true, false, cond, nat_lt, Some, None, refl, sym, ap, ◌∙◌, arith}
+use Rattle.std.specs.Prelude.{find}
 use Rattle.std.specs.List.{list_all, list_any, range_with_len}
-use Rattle.std.proofs.lemmas.Bool.{true≢false, false≢true, eqb-true, eqb-false}
+use Rattle.std.proofs.lemmas.Bool.{true≢false, false≢true, cases_eq, eqb-true, eqb-false}
 use Rattle.std.proofs.lemmas.Bool.Decides.{nat_tests}
 
 pub and_left : (a b : Bool) → a ≡ false → (a && b) ≡ false
@@ -13,6 +14,13 @@ and_right false b is = refl
 
 pub and_both : (a b : Bool) → a ≡ true → b ≡ true → (a && b) ≡ true
 and_both a b left right = rw (left, right) refl
+
+pub or_left : (a b : Bool) → a ≡ true → (a || b) ≡ true
+or_left a b is = rw is refl
+
+pub or_right : (a b : Bool) → b ≡ true → (a || b) ≡ true
+or_right true b is = refl
+or_right false b is = is
 
 pub or_false : (a b : Bool) → (a || b) ≡ false → (a ≡ false) × (b ≡ false)
 or_false true b is = absurd (true≢false is)
@@ -78,3 +86,27 @@ none_more test n b old is none c lt = by_last (c == n) refl
     by_last : (e : Bool) → (c == n) ≡ e → test c ≡ false
     by_last true same = ap test (eqb-true c n same) ∙ sym is ∙ none
     by_last false apart = old c (omega (arith, lt, eqb-false c n apart))
+
+-- The first number of a range that passes a test.
+
+pub cond_true : {X : Type 0} (b : Bool) (x y : X) → b ≡ true → cond b x y ≡ x
+cond_true b x y e = ap (λ v. cond v x y) e
+
+pub cond_false : {X : Type 0} (b : Bool) (x y : X) → b ≡ false → cond b x y ≡ y
+cond_false b x y e = ap (λ v. cond v x y) e
+
+-- it is found where none before it passes
+pub found_in_range : (p : ℕ → Bool) (n a m : ℕ) → a ≤ m → m < a + n → ((k : ℕ) → a ≤ k → k < m → p k ≡ false) → p m ≡ true → find p (range_with_len a n) ≡ Some m
+found_in_range p zero a m low high before here = absurd (omega arith)
+found_in_range p (suc n) a m low high before here =
+    at (cases_eq a m) (λ apart. found_in_range p n (a + 1) m (omega arith) (omega arith) (λ k above below. before k (omega arith) below) here)
+  where
+    at : (a ≡ m) ⊎ (a ≢ m) → (a ≢ m → find p (range_with_len (a + 1) n) ≡ Some m) → find p (range_with_len a (suc n)) ≡ Some m
+    at (inl same) later = cond_true (p a) _ _ (ap p same ∙ here) ∙ ap Some same
+    at (inr apart) later = cond_false (p a) _ _ (before a (omega arith) (omega arith)) ∙ later apart
+
+-- none is found where none passes
+pub none_in_range : (p : ℕ → Bool) (n a : ℕ) → ((k : ℕ) → a ≤ k → k < a + n → p k ≡ false) → find p (range_with_len a n) ≡ None
+none_in_range p zero a before = refl
+none_in_range p (suc n) a before =
+    cond_false (p a) _ _ (before a (omega arith) (omega arith)) ∙ none_in_range p n (a + 1) (λ k above below. before k (omega arith) (omega arith))
