@@ -1,25 +1,11 @@
 -- Pieces that are written one behind the other.
-use Rattle.std.proofs.Common.{◌≡◌, ℕ, ◌+◌, ◌/◌, ◌%◌, ◌^◌, ◌<◌, ◌≤◌, suc, zero, List, [], ◌∷◌, ◌++◌, length, get_or, take, drop, refl, sym, ap, ◌∙◌, arith, append_assoc, length-append, add-one}
+use Rattle.std.proofs.Common.{◌≡◌, ℕ, ◌+◌, ◌/◌, ◌%◌, ◌^◌, ◌<◌, ◌≤◌, suc, zero, List, [], ◌∷◌, ◌++◌, length, get_or, take, refl, sym, ap, ◌∙◌, arith, append_assoc, length-append, add-one}
 use Rattle.std.specs.Prelude.{decimal}
 use Rattle.std.proofs.lemmas.Fmt.{length-decimal-le}
-use Rattle.std.proofs.lemmas.List.{append-nil, take_at, drop_at, drop-drop}
+use Rattle.std.proofs.lemmas.List.{append-nil}
 use Rattle.net_base.specs.ControlWords.{place}
 use Rattle.ctl_words.specs.declared.spelled.Piece.{Piece}
 use Rattle.ctl_words.specs.Written.{piece_text, written}
-
--- a text behind what was written
-pub laid_more : (front text old now next : List ℕ) (n r : ℕ) → n ≡ length front → now ≡ front ++ drop n old → r ≡ n + length text
-    → next ≡ take n now ++ (text ++ drop r now) → next ≡ (front ++ text) ++ drop r old
-laid_more front text old now next n r at is end laid =
-    let before : take n now ≡ front = ap (take n) is ∙ take_at front (drop n old) n (sym at) in
-    let behind : drop r now ≡ drop r old =
-    ap (λ (k : ℕ). drop k now) end
-    ∙ (sym (drop-drop (length text) n now)
-    ∙ (ap (λ (xs : List ℕ). drop (length text) xs) (ap (drop n) is ∙ drop_at front (drop n old) n (sym at))
-    ∙ (drop-drop (length text) n old ∙ ap (λ (k : ℕ). drop k old) (sym end)))) in
-    laid
-    ∙ (ap (λ (xs : List ℕ). xs ++ (text ++ drop r now)) before
-    ∙ (ap (λ (xs : List ℕ). front ++ (text ++ xs)) behind ∙ sym (append_assoc front text (drop r old))))
 
 written_next : (ps : List Piece) (i : ℕ) (d : Piece) → i < length ps → written (take (suc i) ps) ≡ written (take i ps) ++ piece_text (get_or ps i d)
 written_next [] i d within = absurd (omega (arith, within))

@@ -1,22 +1,8 @@
 -- Texts that are written one behind the other.
 use Rattle.std.proofs.Common.{◌≡◌, ℕ, ◌+◌, ◌<◌, ◌≤◌, suc, zero, List, [], ◌∷◌, ◌++◌, length, get_or, take, drop, sym, ap, ◌∙◌, arith, append_assoc, length-append, add-one}
 use Rattle.std.specs.Borrow.{Bor}
-use Rattle.std.proofs.lemmas.List.{append-nil, take_at, drop_at, drop-drop, length-drop}
+use Rattle.std.proofs.lemmas.List.{append-nil, length-drop}
 use Rattle.dial_lib.specs.Written.{written}
-
--- a text behind what was written
-pub laid_more : (front text old now next : List ℕ) (n r : ℕ) → n ≡ length front → now ≡ front ++ drop n old → r ≡ n + length text
-    → next ≡ take n now ++ (text ++ drop r now) → next ≡ (front ++ text) ++ drop r old
-laid_more front text old now next n r at is end laid =
-    let before : take n now ≡ front = ap (take n) is ∙ take_at front (drop n old) n (sym at) in
-    let behind : drop r now ≡ drop r old =
-    ap (λ (k : ℕ). drop k now) end
-    ∙ (sym (drop-drop (length text) n now)
-    ∙ (ap (λ (xs : List ℕ). drop (length text) xs) (ap (drop n) is ∙ drop_at front (drop n old) n (sym at))
-    ∙ (drop-drop (length text) n old ∙ ap (λ (k : ℕ). drop k old) (sym end)))) in
-    laid
-    ∙ (ap (λ (xs : List ℕ). xs ++ (text ++ drop r now)) before
-    ∙ (ap (λ (xs : List ℕ). front ++ (text ++ xs)) behind ∙ sym (append_assoc front text (drop r old))))
 
 written_next : (ts : List (Bor (List ℕ))) (i : ℕ) (d : Bor (List ℕ)) → i < length ts → written (take (suc i) ts) ≡ written (take i ts) ++ (get_or ts i d).now
 written_next [] i d within = absurd (omega (arith, within))

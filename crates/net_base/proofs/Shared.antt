@@ -8,8 +8,8 @@ pub use Rattle.net_base.proofs.Cuts.{slice-length, slice-more, slice-rest}
 pub use Rattle.net_base.proofs.Growth.{drop-all}
 -- bytes in hexadecimal: what is read of a word is what it spells, and what is spelled is read
 pub use Rattle.net_base.proofs.HexTexts.{digit-is, hex-back, hex-spelled, hex-without}
--- what a slice holds after a front and a back were copied into it
-pub use Rattle.net_base.proofs.Laid.{laid}
+-- what a slice holds after texts were copied into it, one behind the other
+pub use Rattle.net_base.proofs.Laid.{laid, laid_more}
 -- numbers and addresses as words: what is read of a word is what it spells, and what is spelled is read
 pub use Rattle.net_base.proofs.NumberTexts.{address-back, address-dotted, le-true, lt-is, number-back, number_in-spelled, within-is}
 -- tests, and which numbers of a range pass them

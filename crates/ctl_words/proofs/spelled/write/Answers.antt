@@ -1,6 +1,7 @@
 use Rattle.std.proofs.Common.{◌++◌, take, drop, ap, ◌∙◌, sym}
 use Rattle.ctl_words.specs.Written.{written}
-use Rattle.ctl_words.proofs.Pieces.{end_is, has_room, laid_more, written_more}
+use Rattle.net_base.proofs.Shared.{laid_more}
+use Rattle.ctl_words.proofs.Pieces.{end_is, has_room, written_more}
 use Rattle.ctl_words.proofs.spelled.write.Goals as goal
 
 pub put_piece-at-requires : goal.put_piece-at-requires

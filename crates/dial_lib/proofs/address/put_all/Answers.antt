@@ -1,6 +1,7 @@
 use Rattle.std.proofs.Common.{◌++◌, take, drop, ap, ◌∙◌, sym}
 use Rattle.dial_lib.specs.Written.{written}
-use Rattle.dial_lib.proofs.Pieces.{end_is, has_room, laid_more, written_more}
+use Rattle.net_base.proofs.Shared.{laid_more}
+use Rattle.dial_lib.proofs.Pieces.{end_is, has_room, written_more}
 use Rattle.dial_lib.proofs.address.put_all.Goals as goal
 
 pub put-at-requires : goal.put-at-requires
