@@ -6,6 +6,8 @@ pub mod Flat
 pub mod Among
 pub mod Spots
 pub mod Laid
+pub mod Tests
+pub mod Members
 pub mod Texts
 pub mod Kept
 pub mod Skipped
@@ -13,4 +15,7 @@ pub mod Alike
 pub mod NumberTexts
 pub mod HexTexts
 pub mod Ranges
+pub mod SameNames
+pub mod CallerNames
+pub mod Leasts
 pub mod Shared
