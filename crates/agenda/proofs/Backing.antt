@@ -22,14 +22,8 @@ use Rattle.net_guests.specs.Visits.{HasGuest, Visit}
 use Rattle.whole_script.specs.declared.place.PlaceTask.{PlaceTask}
 use Rattle.whole_script.specs.declared.place.PlaceTask.TheVariants as place
 use Rattle.whole_script.specs.Places as places
-
-pub script_is : (w : World) (c : ℕ) (s : Script) → slice_get w.scripts c ≡ Some s → caller_of w c ≡ IsScript s
-script_is w c s there = ap (λ (o : Option Script). option_map_or (λ (t : Script). IsScript t) o (other_caller w c)) there
-
-in_first : {A : Type 0} (x : A) (xs ys : List A) → In x xs → In x (xs ++ ys)
-in_first x [] ys there = absurd there
-in_first x (z ∷ zs) ys (inl same) = inl same
-in_first x (z ∷ zs) ys (inr there) = inr (in_first x zs ys there)
+use Rattle.net_base.proofs.Members.{in_front}
+use Rattle.net_base.proofs.CallerNames.{script_is}
 
 in_last : {A : Type 0} (x : A) (xs : List A) → In x (xs ++ x ∷ [])
 in_last x [] = inl refl
@@ -156,7 +150,7 @@ module _ {T : Type 0} (asks : T → Names → Option Request) (after : T → Rep
     elsewhere c other b =
         record {
           visit = b.visit;
-          played = in_first b.visit vs (x.0 ∷ []) b.played;
+          played = in_front b.visit vs (x.0 ∷ []) b.played;
           caller = b.caller;
           task = b.task;
           back_is = rest c other ∙ b.back_is;

@@ -1,7 +1,7 @@
 -- Where no caller could record the net is calm, and else it isn't.
 use Rattle.std.proofs.Common.{◌≡◌, ℕ, zero, suc, ◌+◌, ◌-◌, ◌<◌, ◌≤◌, ◌==◌, ◌&&◌, ◌||◌, Bool, true, false, not, List, [], ◌∷◌, length, Option, Some, None, is_some, slice_get, nat_lt, refl, sym, ap, subst, ◌∙◌, arith}
 use Rattle.std.specs.Option.{option_map_or}
-use Rattle.std.proofs.lemmas.Bool.{false≢true, eq-eqb, eqb-true, eqb-false, lt-ltb, ltb-true, ltb-false, le-ltb, ne_eqb}
+use Rattle.std.proofs.lemmas.Bool.{false≢true, eq-eqb, eqb-true, eqb-false, lt-ltb, ltb-true, ltb-false, le-ltb, ne_eqb, or_parts, and_left, and_right}
 use Rattle.std.proofs.lemmas.Option.{none-some, slice_get_past, slice_get_within}
 use Rattle.net_base.specs.declared.actor.ActorName.TheVariants as name
 use Rattle.net_base.specs.declared.event.Event.TheVariants as event
@@ -19,12 +19,9 @@ use Rattle.net_base.specs.Net.{Net}
 use Rattle.net_base.specs.Next.{next_of_by}
 use Rattle.net_base.specs.Tasks.{Tasks}
 use Rattle.calm_laws.specs.Could.{could}
-use Rattle.net_base.proofs.Shared.{all_range, and_left, and_right, fails_range, or_false}
+use Rattle.net_base.proofs.Shared.{all_range, fails_range}
 
 -- Callers.
-
-pub script_is : (w : World) (c : ℕ) (s : Script) → slice_get w.scripts c ≡ Some s → caller_of w c ≡ IsScript s
-script_is w c s is = ap (λ (o : Option Script). option_map_or (λ (t : Script). IsScript t) o (other_caller w c)) is
 
 other_is : (w : World) (c : ℕ) → slice_get w.scripts c ≡ None → caller_of w c ≡ other_caller w c
 other_is w c is = ap (λ (o : Option Script). option_map_or (λ (t : Script). IsScript t) o (other_caller w c)) is
@@ -128,7 +125,7 @@ is_calm ts w net none = rw (nothing, pending, waiting) refl
   where
     nothing : nothing_owed w net ≡ true
     nothing = all_range (λ (c : ℕ). not (owes net c)) (caller_count w) 0
-        (λ c lt. ap not (or_false (owes net c) (can_go_on_by ts w net c) (none c (omega (arith, lt)))).0)
+        (λ c lt. ap not (or_parts (owes net c) (can_go_on_by ts w net c) (none c (omega (arith, lt)))).0)
 
     pending : nothing_pending w net ≡ true
     pending =
@@ -136,11 +133,11 @@ is_calm ts w net none = rw (nothing, pending, waiting) refl
         let near : m < length w.media = omega (arith, lt) in
         let c : ℕ = length w.scripts + m in
         quiet_is w net m near
-        ∙ ap not (sym (courier_goes ts w net m c refl near) ∙ (or_false (owes net c) (can_go_on_by ts w net c) (none c (omega (arith, near)))).1))
+        ∙ ap not (sym (courier_goes ts w net m c refl near) ∙ (or_parts (owes net c) (can_go_on_by ts w net c) (none c (omega (arith, near)))).1))
 
     waiting : scripts_wait_by ts w net ≡ true
     waiting = all_range (λ (c : ℕ). not (can_go_on_by ts w net c)) (length w.scripts) 0
-        (λ c lt. ap not (or_false (owes net c) (can_go_on_by ts w net c) (none c (omega (arith, lt)))).1)
+        (λ c lt. ap not (or_parts (owes net c) (can_go_on_by ts w net c) (none c (omega (arith, lt)))).1)
 
 pub is_busy : (ts : Tasks) (w : World) (net : Net) (c : ℕ) → c < caller_count w → could ts w net c ≡ true → calm_by ts w net ≡ false
 is_busy ts w net c lt is = by_owes (owes net c) refl is

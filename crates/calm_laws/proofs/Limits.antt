@@ -1,6 +1,6 @@
 -- Whether a run is limited, by what is known of each caller and of the clock.
 use Rattle.std.proofs.Common.{◌≡◌, ℕ, ◌<◌, ◌==◌, ◌&&◌, ◌||◌, Bool, true, false, length, refl, sym, ap, subst, ◌∙◌, arith}
-use Rattle.std.proofs.lemmas.Bool.{eqb-true, eqb-false}
+use Rattle.std.proofs.lemmas.Bool.{eqb-true, eqb-false, or_left, or_right}
 use Rattle.net_base.specs.declared.world.World.{World}
 use Rattle.net_base.specs.Callers.{Caller, caller_of, caller_count, clock_number}
 use Rattle.net_base.specs.Calm.{at_limit_by, can_go_on_by, could_record_by, limited_by, most_entries, movable_by, owes}
@@ -8,8 +8,9 @@ use Rattle.net_base.specs.Net.{Net}
 use Rattle.net_base.specs.Next.{by}
 use Rattle.net_base.specs.Tasks.{Tasks}
 use Rattle.calm_laws.specs.Could.{could, is_full}
-use Rattle.calm_laws.proofs.Calming.{Kind, OfScript, OfCourier, OfClock, clock_is, clock_only_owes, courier_is, kind_of, script_is}
-use Rattle.net_base.proofs.Shared.{none_range, or_left, or_right}
+use Rattle.calm_laws.proofs.Calming.{Kind, OfScript, OfCourier, OfClock, clock_is, clock_only_owes, courier_is, kind_of}
+use Rattle.net_base.proofs.Shared.{none_range}
+use Rattle.net_base.proofs.CallerNames.{script_is}
 
 -- a caller that is no clock could record where the definition of limits says so
 could_is : (ts : Tasks) (w : World) (net : Net) (c : ℕ) → (c ≡ clock_number w → ⊥) → Kind w c → could_record_by ts w net (caller_of w c) c ≡ could ts w net c

@@ -11,17 +11,9 @@ use Rattle.net_base.specs.Stamped.{In}
 use Rattle.net_base.specs.Tasks.{Tasks}
 use Rattle.calm_laws.specs.Moments.{IsAwaited, IsDue}
 use Rattle.calm_laws.proofs.Members.{filter_map_in, in_either, in_filter_map, in_left, in_range, in_right, range_in}
+use Rattle.net_base.proofs.Leasts.{within_last, within_each}
 
 -- The least.
-
-within_last : (last : ℕ) (ms : List ℕ) → least last ms ≤ last
-within_last last [] = omega arith
-within_last last (m ∷ ms) = omega (arith, within_last last ms)
-
-within_each : (last : ℕ) (ms : List ℕ) (m : ℕ) → In m ms → least last ms ≤ m
-within_each last [] m there = absurd there
-within_each last (n ∷ ms) m (inl is) = omega (arith, is)
-within_each last (n ∷ ms) m (inr there) = omega (arith, within_each last ms m there)
 
 below_all : (last : ℕ) (ms : List ℕ) (t : ℕ) → t ≤ last → ((m : ℕ) → In m ms → t ≤ m) → t ≤ least last ms
 below_all last [] t le all = le

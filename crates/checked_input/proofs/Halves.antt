@@ -2,6 +2,7 @@
 use Rattle.std.proofs.Common.{◌≡◌, ℕ, ◌+◌, ◌-◌, ◌<◌, ◌≤◌, ◌⊎◌, suc, Bool, true, false, not, cond, List, [], ◌∷◌, ◌++◌, length, take, map, Some, None, refl, sym, ap, subst, ◌∙◌, inl, inr, arith, length-append, append_assoc, append-nil}
 use Rattle.std.proofs.lemmas.Bool.Decides.{nat_tests}
 use Rattle.std.specs.List.{before_first, find, position_or_len}
+use Rattle.std.proofs.lemmas.List.{nil_from_length}
 use Rattle.net_base.specs.NdbText.{is_newline}
 use Rattle.world_text.specs.WorldSpelling.{laid}
 use Rattle.world_text.specs.WorldText.{Cut, cuts_of, with_first}
@@ -124,14 +125,10 @@ passed_more text rest line behind n p is less not_it =
         ∙ (sym (append_assoc (laid p.lines) (line ++ 10 ∷ []) behind)
         ∙ ap (λ (xs : List ℕ). xs ++ behind) (sym (laid_more p.lines line))))))
 
-nothing_left : (rest : List ℕ) → length rest ≡ 0 → rest ≡ []
-nothing_left [] none = refl
-nothing_left (x ∷ rest) none = absurd (omega (arith, none))
-
 -- no line is the one between
 pub passed_all : (text rest : List ℕ) (n : ℕ) → Passed text rest n → length rest ≡ 0 → (parts_of text ≡ None) × (n ≡ length (cuts_of text))
 passed_all text rest n p zero =
-    let none = nothing_left rest zero in (
+    let none = nil_from_length rest zero in (
       ap (parts_at (lines_before text)) (p.marks ∙ ap mark_of none),
       omega (arith, p.all, ap (λ (xs : List ℕ). length (cuts_of xs)) none),
     )

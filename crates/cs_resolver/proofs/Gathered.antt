@@ -8,13 +8,14 @@ use Rattle.std.proofs.lemmas.List.Folds.{list_any-append}
 use Rattle.std.proofs.lemmas.List.Sums.{sum_by_push, sum_by-take-le}
 use Rattle.std.proofs.lemmas.List.Concat.{flat_map-append}
 use Rattle.std.proofs.lemmas.List.{map-append, take_more, take-map}
+use Rattle.std.proofs.lemmas.Bool.{eqb-true}
 use Rattle.net_base.specs.Ndb.{NdbPair}
 use Rattle.net_base.specs.Addresses.{read_address}
 use Rattle.net_base.specs.Cs.{once_each, is_numeric, name_attr, word_addresses}
 use Rattle.net_base.specs.Search.{has_attr}
 use Rattle.ndb_tuple.specs.declared.numbers.Kind.TheVariants.{Address}
 use Rattle.ndb_tuple.specs.Numbers.{numbers_on, numbers_in, numbers_near, numbers_found}
-use Rattle.ndb_tuple.proofs.Shared.{near_on, near_in, equal, itself}
+use Rattle.ndb_tuple.proofs.Shared.{near_on, near_in}
 use Rattle.net_base.specs.declared.ndb.spot.Spot.{Spot}
 use Rattle.net_base.specs.Spots.{same_spot}
 use Rattle.ndb_index.specs.Kept.{spots_with}
@@ -24,6 +25,7 @@ use Rattle.cs_resolver.specs.Gathering.{Gathers, AreAmong, TuplesRead, SpotsRead
 use Rattle.cs_resolver.specs.Probes.{numbers_at, word_found}
 use Rattle.cs_resolver.proofs.AtSpots.{at_spot_is, spots_numbers}
 use Rattle.cs_resolver.proofs.Once.{among, others, among_others, once_push, turned}
+use Rattle.net_base.proofs.Tests.{number_itself}
 
 abbrev pub Db : Type 0
 Db = List (List (List NdbPair))
@@ -68,7 +70,7 @@ onto_known : (keys ns : List ℕ) → ((n : ℕ) → among n ns ≡ true → amo
 unfolding onto
 onto_known keys [] known = refl
 onto_known keys (n ∷ ns) known =
-    ap (λ b. onto (cond b keys (keys ++ n ∷ [])) ns) (known n (ap (λ b. b || among n ns) (itself n)))
+    ap (λ b. onto (cond b keys (keys ++ n ∷ [])) ns) (known n (ap (λ b. b || among n ns) (number_itself n)))
     ∙ onto_known keys ns (λ m e. known m (right (n == m) (among m ns) e))
   where
     right : (a b : Bool) → b ≡ true → (a || b) ≡ true
@@ -115,7 +117,7 @@ pub tuples_more : (db : Db) (tuples after : List ℕ) (at : ℕ) (old new : List
 tuples_more db tuples after at old new put gathers read place e = by (nat_eq at place) refl (sym (put place) ∙ e)
   where
     by : (b : Bool) → nat_eq at place ≡ b → cond b true (list_any (nat_eq place) tuples) ≡ true → AreAmong (numbers_in Address (get_or db place [])) new
-    by true same f = subst (λ (p : ℕ). AreAmong (numbers_in Address (get_or db p [])) new) (equal at place same) (more_among (numbers_in Address (get_or db at [])) old new gathers)
+    by true same f = subst (λ (p : ℕ). AreAmong (numbers_in Address (get_or db p [])) new) (eqb-true at place same) (more_among (numbers_in Address (get_or db at [])) old new gathers)
     by false same f = tuples_stay db tuples (numbers_in Address (get_or db at [])) old new gathers read place f
 
 pub spots_stay : (db : Db) (spots : List Spot) (more old new : List ℕ) → Gathers more old new → SpotsRead db spots old → SpotsRead db spots new

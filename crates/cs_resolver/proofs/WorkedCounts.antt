@@ -4,6 +4,7 @@ use Rattle.std.specs.Prelude.{filter, filter_map, flat_map, codes}
 use Rattle.std.specs.List.{list_any, list_all}
 use Rattle.std.specs.Fmt.{digits}
 use Rattle.std.proofs.lemmas.List.Elements.{filter-append, filter_map-append}
+use Rattle.std.proofs.lemmas.Bool.{and_parts, not-true}
 use Rattle.net_base.specs.Ndb.{NdbPair}
 use Rattle.net_base.specs.declared.address.Proto.TheVariants.{Il, Udp}
 use Rattle.net_base.specs.Search.{tuple_has, tuples_with, values_in}
@@ -19,20 +20,12 @@ Db = List (List (List NdbPair))
 others : List ℕ → Bool
 others name = not (bytes_eq name (codes "anna")) && not (bytes_eq name (codes "helix"))
 
-parts : (a b : Bool) → (a && b) ≡ true → (a ≡ true) × (b ≡ true)
-parts true b e = (refl, e)
-parts false b e = absurd cc
-
-is_false : (a : Bool) → not a ≡ true → a ≡ false
-is_false true e = absurd cc
-is_false false e = refl
-
 -- no system more has a pair that none of them has
 none_with : (attr value : List ℕ) (names : List (List ℕ)) → ((name : List ℕ) → others name ≡ true → tuple_has attr value (system name) ≡ false) → AreOthers names → tuples_with attr value (systems names) ≡ []
 unfolding others
 none_with attr value [] apart all = refl
 none_with attr value (name ∷ names) apart all =
-    let both = parts (not (bytes_eq name (codes "anna")) && not (bytes_eq name (codes "helix"))) (list_all (λ n. not (bytes_eq n (codes "anna")) && not (bytes_eq n (codes "helix"))) names) all in
+    let both = and_parts (not (bytes_eq name (codes "anna")) && not (bytes_eq name (codes "helix"))) (list_all (λ n. not (bytes_eq n (codes "anna")) && not (bytes_eq n (codes "helix"))) names) all in
     ap (λ b. cond b (system name ∷ tuples_with attr value (systems names)) (tuples_with attr value (systems names))) (apart name both.0)
     ∙ none_with attr value names apart both.1
 
@@ -47,11 +40,11 @@ named b e = ap (λ c. ((true && c) || false) || false) e
 
 not_anna : (name : List ℕ) → others name ≡ true → tuple_has (codes "sys") (codes "anna") (system name) ≡ false
 unfolding others
-not_anna name e = named (bytes_eq name (codes "anna")) (is_false (bytes_eq name (codes "anna")) (parts (not (bytes_eq name (codes "anna"))) (not (bytes_eq name (codes "helix"))) e).0)
+not_anna name e = named (bytes_eq name (codes "anna")) (not-true (bytes_eq name (codes "anna")) (and_parts (not (bytes_eq name (codes "anna"))) (not (bytes_eq name (codes "helix"))) e).0)
 
 not_helix : (name : List ℕ) → others name ≡ true → tuple_has (codes "sys") (codes "helix") (system name) ≡ false
 unfolding others
-not_helix name e = named (bytes_eq name (codes "helix")) (is_false (bytes_eq name (codes "helix")) (parts (not (bytes_eq name (codes "anna"))) (not (bytes_eq name (codes "helix"))) e).1)
+not_helix name e = named (bytes_eq name (codes "helix")) (not-true (bytes_eq name (codes "helix")) (and_parts (not (bytes_eq name (codes "anna"))) (not (bytes_eq name (codes "helix"))) e).1)
 
 no_networks : (names : List (List ℕ)) → filter_map network_of (systems names) ≡ []
 no_networks [] = refl

@@ -11,7 +11,7 @@ use Rattle.dial_lib.specs.declared.announce.AnnouncePhase.TheVariants as phase
 use Rattle.dial_lib.specs.Announce as spec
 use Rattle.dial_lib.specs.Announce.{Stands, IsFresh, IsOpen, IsOver, IsWrite, IsClose, IsThrough, writing}
 use Rattle.dial_lib.specs.Moves.{MovesBy, moves_from, by_test, chosen, no_lines}
-use Rattle.dial_lib.specs.Names.{same_bytes, unbind_free}
+use Rattle.dial_lib.specs.Names.{unbind_free}
 use Rattle.dial_lib.specs.Openings.{unopened_no, Gave, Opens, Refuses, gave, path_range}
 use Rattle.dial_lib.specs.Puts.{puts_head, put_other, announces_other}
 use Rattle.net_base.specs.declared.request.Request.{Request}
@@ -19,6 +19,7 @@ use Rattle.net_base.specs.declared.request.Request.TheVariants as request
 use Rattle.script_task.specs.Fitting.{is_opening}
 use Rattle.net_base.specs.Requests.{settled, settles, bound_after}
 use Rattle.script_task.specs.Task.{Heads, AsksSo, MovesSo, follow, fits_play}
+use Rattle.net_base.proofs.Tests.{same_text}
 
 -- Its requests.
 
@@ -30,7 +31,7 @@ fresh_heads h names called address false = (_, refl, refl)
 
 -- the name is bound to the file that was made
 pub found : (called : List ℕ) (base names : Names) (made : Fid) → names ≡ bind called made base → fid_of called names ≡ Some made
-found called base names made is = rw (is, same_bytes called) refl
+found called base names made is = rw (is, same_text called) refl
 
 -- a text goes to a file that a name is bound to
 pub writing_heads : (h : ℕ) (names : Names) (called text : List ℕ) (made : Fid) → fid_of called names ≡ Some made → made.mode ≡ mode.Both
@@ -69,7 +70,7 @@ pub open_settle : (names : Names) (called path : List ℕ) (r : Reply) → is_bo
 open_settle names called path r free = rw (free) refl
 
 pub front_left : (called : List ℕ) (base names : Names) (made : Fid) → is_bound base called ≡ false → names ≡ bind called made base → unbind called names ≡ base
-front_left called base names made free is = rw (is, same_bytes called) (unbind_free called base free)
+front_left called base names made free is = rw (is, same_text called) (unbind_free called base free)
 
 move_write : (h : ℕ) (called address : List ℕ) (base names : Names) (made : Fid) (line : List ℕ) (lines : List (List ℕ)) (r : Reply) → is_bound base called ≡ false → names ≡ bind called made base
     → Stands h called address names (spec.phase_after phase.Write r) (line ∷ lines) (if_accepted r (Ends (bind called made base)) (closes h made (Ends base) (Ends base)))

@@ -1,6 +1,7 @@
 -- A call asks and moves as its play does.
 use Rattle.std.proofs.Common.{◌≡◌, ℕ, ◌<◌, Bool, true, false, List, [], Option, Some, None, if◌then◌else◌, refl, sym, subst, rules}
 use Rattle.std.proofs.lemmas.Option.{none-some}
+use Rattle.std.proofs.lemmas.Bool.{not-true}
 use Rattle.net_base.specs.declared.address.Addr.{Addr}
 use Rattle.net_base.specs.declared.address.Proto.{Proto}
 use Rattle.net_base.specs.declared.names.FileName.{FileName}
@@ -20,7 +21,7 @@ use Rattle.dial_lib.specs.BesideLaws.{opens_head, opens_settle}
 use Rattle.dial_lib.specs.Calls.{Next, Takes, IsFresh, IsData, IsRemote, IsTellRemote, IsCloseRemote, IsLocal, IsTellLocal, IsCloseLocal, IsRead, IsShutRemote, IsShutLocal, IsShutData, IsShutCall, IsThrough, AreFree, begins_at, begins_by, asks_by, if_so, call_fid, data_fid, told_fid, taken_names, open_names, local_play, remote_play, data_play, call_play, opened_play, told_by, told, shuts_call, shuts_data, shuts_told}
 use Rattle.dial_lib.specs.FilePaths.{file_walked}
 use Rattle.dial_lib.specs.Names.{below, slot_of}
-use Rattle.dial_lib.specs.Openings.{flip, unopened_shut}
+use Rattle.dial_lib.specs.Openings.{unopened_shut}
 use Rattle.dial_lib.specs.Slots.{HaveSlots}
 use Rattle.net_base.specs.declared.request.Request.{Request}
 use Rattle.script_task.specs.Fitting.{fits_listen, fits_open, is_opening}
@@ -36,7 +37,7 @@ pub data GaveCall (p : Proto) (o : Option Fid) (r : Reply) : Type 0 where
 gave_call : (p : Proto) (n : ℕ) (r : Reply) → fits_listen r ≡ true → GaveCall p (opened_fid mode.Both (Some (node.File p n file.Listen)) r) r
 gave_call p n (reply.Call k g) fit = CallOpens k g refl (below k fit) refl
 gave_call p n (reply.Opened g) fit = absurd (search (rules, fit))
-gave_call p n r fit = CallRefused refl (flip (is_opening r) fit)
+gave_call p n r fit = CallRefused refl (not-true (is_opening r) fit)
 
 pub data GaveFile (m : Mode) (p : Proto) (n : ℕ) (to : FileName) (o : Option Fid) (r : Reply) : Type 0 where
   FileOpens : (k : ℕ) → o ≡ Some (record { proto = p; slot = n; generation = k; file = to; mode = m }) → is_opening r ≡ true → GaveFile m p n to o r
@@ -45,7 +46,7 @@ pub data GaveFile (m : Mode) (p : Proto) (n : ℕ) (to : FileName) (o : Option F
 gave_file : (m : Mode) (p : Proto) (n : ℕ) (to : FileName) (r : Reply) → fits_open r ≡ true → GaveFile m p n to (opened_fid m (Some (node.File p n to)) r) r
 gave_file m p n to (reply.Opened k) fit = FileOpens k refl refl
 gave_file m p n to (reply.Call k g) fit = absurd (search (rules, fit))
-gave_file m p n to r fit = FileRefused refl (flip (is_opening r) fit)
+gave_file m p n to r fit = FileRefused refl (not-true (is_opening r) fit)
 
 -- A file that tells an address.
 

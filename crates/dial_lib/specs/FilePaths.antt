@@ -9,6 +9,7 @@ use Rattle.net_base.specs.declared.names.FileName.TheVariants as file
 use Rattle.net_base.specs.declared.names.Node.TheVariants as node
 use Rattle.net_base.specs.Paths.{proto_name, file_name, path_of, proto_named, file_named, node_of, walk}
 use Rattle.net_base.proofs.Shared.{decimal_without, cut_at, value_of}
+use Rattle.net_base.proofs.Tests.{same_text}
 
 abbrev parts : List ℕ → List (List ℕ)
 parts path = slice_split (λ b. b == 47) path
@@ -40,11 +41,8 @@ path_back proto.Udp n f low =
     let nested : path_of (node.File proto.Udp n f) ≡ codes "/net/udp/" ++ (decimal n ++ (47 ∷ file_name f)) = simp append_assoc refl in
     subst (λ (path : List ℕ). node_of (parts path) ≡ Some (node.File proto.Udp n f)) (sym nested) (rw (file_parts n f low) (node_back proto.Udp n f low))
 
-same_bytes : (xs : List ℕ) → bytes_eq xs xs ≡ true
-same_bytes xs = search (rules, tests)
-
 in_slots : (n : ℕ) → n < 32 → nat_lt n 32 ≡ true
 in_slots n lt = search (rules, tests, lt)
 
 pub file_walked : (p : Proto) (n : ℕ) (f : FileName) → n < 32 → walk (path_of (node.File p n f)) ≡ Some (node.File p n f)
-file_walked p n f low = rw (path_back p n f low, in_slots n low, same_bytes (path_of (node.File p n f))) refl
+file_walked p n f low = rw (path_back p n f low, in_slots n low, same_text (path_of (node.File p n f))) refl

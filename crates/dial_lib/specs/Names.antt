@@ -2,29 +2,24 @@
 use Rattle.std.proofs.Common.{◌≡◌, ℕ, ◌<◌, ap, Bool, true, false, ◌&&◌, not, List, [], ◌∷◌, length, subst, nat_lt, Some, None, bytes_eq, if◌then◌else◌, refl, sym, rules, tests, arith}
 use Rattle.std.specs.List.{list_all}
 use Rattle.std.proofs.lemmas.Option.{none-some, same_Some}
+use Rattle.std.proofs.lemmas.Bool.{and_parts}
 use Rattle.net_base.specs.Steps.{Bound, Names, Fid, fid_among, fid_of, is_among, is_bound, bind, unbind, without, dotted_name}
 use Rattle.dial_lib.specs.Slots.{HaveSlots, in_slots}
+use Rattle.net_base.proofs.Tests.{and_none}
 
 -- Spellings.
-
-pub same_bytes : (t : List ℕ) → bytes_eq t t ≡ true
-same_bytes t = search (rules, tests)
-
-and_no : (b : Bool) → (b && false) ≡ false
-and_no true = refl
-and_no false = refl
 
 shorter : (xs ys : List ℕ) → length xs < length ys → bytes_eq xs ys ≡ false
 shorter [] [] lt = search (rules, tests)
 shorter [] (y ∷ ys) lt = refl
 shorter (x ∷ xs) [] lt = refl
-shorter (x ∷ xs) (y ∷ ys) lt = rw (shorter xs ys (omega (arith, lt))) (and_no _)
+shorter (x ∷ xs) (y ∷ ys) lt = rw (shorter xs ys (omega (arith, lt))) (and_none _)
 
 longer : (xs ys : List ℕ) → length ys < length xs → bytes_eq xs ys ≡ false
 longer [] [] lt = search (rules, tests)
 longer [] (y ∷ ys) lt = refl
 longer (x ∷ xs) [] lt = refl
-longer (x ∷ xs) (y ∷ ys) lt = rw (longer xs ys (omega (arith, lt))) (and_no _)
+longer (x ∷ xs) (y ∷ ys) lt = rw (longer xs ys (omega (arith, lt))) (and_none _)
 
 -- a name is not its dotted one
 pub apart : (called : List ℕ) → bytes_eq called (dotted_name called) ≡ false
@@ -60,17 +55,13 @@ none_bound called names is = none_among called names.bound is
 
 -- Slots.
 
-both_so : (b c : Bool) → (b && c) ≡ true → (b ≡ true) × (c ≡ true)
-both_so true c is = (refl, is)
-both_so false c is = absurd (search (rules, is))
-
 pub below : (n : ℕ) → nat_lt n 32 ≡ true → n < 32
 below n is = search (rules, tests, is)
 
 slot_among : (called : List ℕ) (bound : List Bound) (f : Fid) → list_all in_slots bound ≡ true → fid_among called bound ≡ Some f → f.slot < 32
 slot_among called [] f slots is = absurd (none-some f is)
 slot_among called (b ∷ bs) f slots is =
-    let both = both_so (nat_lt b.fid.slot 32) (list_all in_slots bs) slots in
+    let both = and_parts (nat_lt b.fid.slot 32) (list_all in_slots bs) slots in
     each (bytes_eq called b.called) both.0 is (slot_among called bs f both.1)
   where
     each : (t : Bool) → nat_lt b.fid.slot 32 ≡ true → (if t then Some b.fid else fid_among called bs) ≡ Some f → (fid_among called bs ≡ Some f → f.slot < 32) → f.slot < 32
@@ -93,7 +84,7 @@ bind_slots called f names low slots = rw (in_range f.slot low) slots
 without_slots : (called : List ℕ) (bound : List Bound) → list_all in_slots bound ≡ true → list_all in_slots (without called bound) ≡ true
 without_slots called [] slots = refl
 without_slots called (b ∷ bs) slots =
-    let both = both_so (nat_lt b.fid.slot 32) (list_all in_slots bs) slots in
+    let both = and_parts (nat_lt b.fid.slot 32) (list_all in_slots bs) slots in
     each (not (bytes_eq called b.called)) both.0 (without_slots called bs both.1)
   where
     each : (t : Bool) → nat_lt b.fid.slot 32 ≡ true → list_all in_slots (without called bs) ≡ true → list_all in_slots (if t then b ∷ without called bs else without called bs) ≡ true

@@ -1,7 +1,7 @@
 -- What an open gives by a reply that it can have.
 use Rattle.std.proofs.Common.{◌≡◌, ℕ, ◌<◌, ◌==◌, Bool, true, false, not, ◌||◌, List, Option, Some, None, if◌then◌else◌, refl, rules, tests}
 use Rattle.std.specs.List.{slice_split}
-use Rattle.std.proofs.lemmas.Bool.{false≢true}
+use Rattle.std.proofs.lemmas.Bool.{false≢true, not-true}
 use Rattle.std.proofs.lemmas.Option.{none-some}
 use Rattle.net_base.specs.declared.names.FileName.{FileName}
 use Rattle.net_base.specs.declared.names.FileName.TheVariants as file
@@ -15,10 +15,6 @@ use Rattle.net_base.specs.Paths.{walk, node_of, checked, may_open, in_range}
 use Rattle.net_base.specs.Steps.{Fid, is_accepted, opened_fid, openable, open_event}
 use Rattle.script_task.specs.Fitting.{fits, fits_write, is_granted, is_opening, is_unopened, fits_reserve, fits_listen, fits_open}
 use Rattle.dial_lib.specs.Names.{below}
-
-pub flip : (b : Bool) → not b ≡ true → b ≡ false
-flip true is = absurd (search (rules, is))
-flip false is = refl
 
 -- a reply to what isn't open, or isn't so, is a refusal, and opens nothing
 pub unopened_no : (r : Reply) → is_unopened r ≡ true → is_accepted r ≡ false
@@ -47,28 +43,28 @@ pub data Gave (m : Mode) (o : Option Fid) (r : Reply) : Type 0 where
 
 gave_clone : (m : Mode) (p : Proto) (r : Reply) → fits_reserve r ≡ true → Gave m (opened_fid m (Some (node.Clone p)) r) r
 gave_clone m p (reply.Slot n g) fit = Opens _ refl refl (below n fit) refl
-gave_clone m p r fit = Refuses refl (flip (is_opening r) fit)
+gave_clone m p r fit = Refuses refl (not-true (is_opening r) fit)
 
 gave_listen : (m : Mode) (p : Proto) (n : ℕ) (r : Reply) → fits_listen r ≡ true → Gave m (opened_fid m (Some (node.File p n file.Listen)) r) r
 gave_listen m p n (reply.Call k g) fit = Opens _ refl refl (below k fit) refl
 gave_listen m p n (reply.Opened g) fit = absurd (search (rules, fit))
-gave_listen m p n r fit = Refuses refl (flip (is_opening r) fit)
+gave_listen m p n r fit = Refuses refl (not-true (is_opening r) fit)
 
 gave_file : (m : Mode) (p : Proto) (n : ℕ) (f : FileName) (r : Reply) → n < 32 → fits_open r ≡ true → Gave m (opened_fid m (Some (node.File p n f)) r) r
 gave_file m p n f (reply.Opened g) lt fit = Opens _ refl refl lt refl
 gave_file m p n f (reply.Call k g) lt fit = absurd (search (rules, fit))
-gave_file m p n f r lt fit = Refuses refl (flip (is_opening r) fit)
+gave_file m p n f r lt fit = Refuses refl (not-true (is_opening r) fit)
 
 -- the node's slot is below 32, if it has one
 abbrev pub Ranged : Option Node → Type 0
 Ranged o = (n : Node) → o ≡ Some n → in_range n ≡ true
 
 pub gave : (path : List ℕ) (m : Mode) (o : Option Node) (r : Reply) → Ranged o → fits (open_event path m o) r ≡ true → Gave m (opened_fid m o r) r
-gave path m None r range fit = Refuses refl (flip (is_opening r) fit)
-gave path m (Some node.Root) r range fit = Refuses refl (flip (is_opening r) fit)
-gave path m (Some node.Cs) r range fit = Refuses refl (flip (is_opening r) fit)
-gave path m (Some (node.Proto p)) r range fit = Refuses refl (flip (is_opening r) fit)
-gave path m (Some (node.Dir p n)) r range fit = Refuses refl (flip (is_opening r) fit)
+gave path m None r range fit = Refuses refl (not-true (is_opening r) fit)
+gave path m (Some node.Root) r range fit = Refuses refl (not-true (is_opening r) fit)
+gave path m (Some node.Cs) r range fit = Refuses refl (not-true (is_opening r) fit)
+gave path m (Some (node.Proto p)) r range fit = Refuses refl (not-true (is_opening r) fit)
+gave path m (Some (node.Dir p n)) r range fit = Refuses refl (not-true (is_opening r) fit)
 gave path m (Some (node.Clone p)) r range fit = gave_clone m p r fit
 gave path m (Some (node.File p n file.Listen)) r range fit = gave_listen m p n r fit
 gave path m (Some (node.File p n file.Ctl)) r range fit = gave_file m p n file.Ctl r (below n (range _ refl)) fit

@@ -2,6 +2,7 @@
 use Rattle.std.proofs.Common.{◌≡◌, ℕ, Bool, true, false, ◌&&◌, ◌==◌, List, ◌∷◌, ◌++◌, codes, Option, Some, None, Result, Ok, Err, if◌then◌else◌, refl, rules}
 use Rattle.std.specs.Prelude.{ok_or}
 use Rattle.std.specs.List.{slice_split}
+use Rattle.std.proofs.lemmas.Bool.{not-true}
 use Rattle.net_base.specs.declared.address.Addr.{Addr}
 use Rattle.net_base.specs.declared.event.Event.TheVariants as event
 use Rattle.net_base.specs.declared.names.Ctl.{Ctl}
@@ -15,7 +16,8 @@ use Rattle.net_base.specs.Steps.{Ask, Fid, Play, Asks, puts, controls, conversat
 use Rattle.script_task.specs.Fitting.{is_granted, fits_grant}
 use Rattle.net_base.specs.Requests.{head}
 use Rattle.script_task.specs.Task.{follow, fits_play}
-use Rattle.dial_lib.specs.Openings.{flip, written_free}
+use Rattle.dial_lib.specs.Openings.{written_free}
+use Rattle.net_base.proofs.Tests.{and_none}
 
 -- The event doesn't depend on what follows it.
 
@@ -57,17 +59,17 @@ put_no h f r refused next is = Goes (granted_no r is) (rw (is) refl)
 put_grant : (h : ℕ) (f : Fid) (r : Reply) (refused next : Play) → fits_grant r ≡ true
     → Put h f r refused next (if_accepted r (Asks (conversation_of h f) (event.Await f.generation) (λ (s : Reply). if_accepted s next refused)) refused)
 put_grant h f (reply.Granted pair start limit) refused next fit = Waits refl refl
-put_grant h f r refused next fit = put_no h f r refused next (flip (is_accepted r) fit)
+put_grant h f r refused next fit = put_no h f r refused next (not-true (is_accepted r) fit)
 
 put_control : (h : ℕ) (f : Fid) (text : List ℕ) (said : Result Ctl ℕ) (r : Reply) (refused next : Play)
     → fits_play (controls h f text said refused next) r ≡ true → Put h f r refused next (follow (controls h f text said refused next) r)
 put_control h f text (Ok (ctl.Connect remote lport)) r refused next fit = put_grant h f r refused next fit
-put_control h f text (Ok (ctl.Announce ip port)) r refused next fit = Goes (flip (is_granted r) fit) refl
-put_control h f text (Ok (ctl.Bind port)) r refused next fit = Goes (flip (is_granted r) fit) refl
-put_control h f text (Ok ctl.Hangup) r refused next fit = Goes (flip (is_granted r) fit) refl
-put_control h f text (Ok (ctl.Ttl n)) r refused next fit = Goes (flip (is_granted r) fit) refl
-put_control h f text (Ok (ctl.Tos n)) r refused next fit = Goes (flip (is_granted r) fit) refl
-put_control h f text (Err fault) r refused next fit = Goes (flip (is_granted r) fit) refl
+put_control h f text (Ok (ctl.Announce ip port)) r refused next fit = Goes (not-true (is_granted r) fit) refl
+put_control h f text (Ok (ctl.Bind port)) r refused next fit = Goes (not-true (is_granted r) fit) refl
+put_control h f text (Ok ctl.Hangup) r refused next fit = Goes (not-true (is_granted r) fit) refl
+put_control h f text (Ok (ctl.Ttl n)) r refused next fit = Goes (not-true (is_granted r) fit) refl
+put_control h f text (Ok (ctl.Tos n)) r refused next fit = Goes (not-true (is_granted r) fit) refl
+put_control h f text (Err fault) r refused next fit = Goes (not-true (is_granted r) fit) refl
 
 pub put : (h : ℕ) (f : Fid) (to : FileName) (text : List ℕ) (r : Reply) (refused next : Play)
     → fits_play (puts h f to text refused next) r ≡ true → Put h f r refused next (follow (puts h f to text refused next) r)
@@ -108,14 +110,9 @@ put_other h f file.Status text r refused next other = other_control h f text (co
 pub hangs : IsOther (control.read (codes "hangup"))
 hangs remote lport is = absurd (search (rules, is))
 
--- a text that begins with another letter than `connect` doesn't connect
-and_no : (b : Bool) → (b && false) ≡ false
-and_no true = refl
-and_no false = refl
-
 no_connect : (rest : List ℕ) (remote : Addr) (lport : Option ℕ) → control.is_spelled (ctl.Connect remote lport) (97 ∷ rest) ≡ false
-no_connect rest remote None = and_no _
-no_connect rest remote (Some port) = and_no _
+no_connect rest remote None = and_none _
+no_connect rest remote (Some port) = and_none _
 
 checked_other : (rest : List ℕ) (o : Option Ctl) → IsOther (ok_or (control.checked (97 ∷ rest) o) control.bad_argument)
 checked_other rest None remote lport is = absurd (search (rules, is))

@@ -9,21 +9,16 @@ use Rattle.net_base.specs.declared.address.Proto.TheVariants as proto
 use Rattle.net_base.specs.declared.noted.Noted.{Noted}
 use Rattle.net_base.specs.Stamped.{In, same_actor, same_proto}
 use Rattle.due_moments.specs.Marks.{Covers, Marks, is_among, is_conversation}
+use Rattle.net_base.proofs.Tests.{number_itself}
+use Rattle.net_base.proofs.SameNames.{same_proto_itself}
 
 in_either : {A : Type 0} (xs ys : List A) (x : A) → In x (xs ++ ys) → In x xs ⊎ In x ys
 in_either [] ys x there = inr there
 in_either (y ∷ xs) ys x (inl is) = inl (inl is)
 in_either (y ∷ xs) ys x (inr there) = elim (in_either xs ys x there) [ inl left ↦ inl (inr left) | inr right ↦ inr right ]
 
-same_number : (n : ℕ) → (n == n) ≡ true
-same_number n = grind (arith, nat_tests)
-
-same_kind : (p : Proto) → same_proto p p ≡ true
-same_kind proto.Il = refl
-same_kind proto.Udp = refl
-
 itself : (a : ActorName) → is_conversation a ≡ true → same_actor a a ≡ true
-itself (name.Conv h p n) is = and_from ((h == h) && same_proto p p) (n == n) (and_from (h == h) (same_proto p p) (same_number h) (same_kind p)) (same_number n)
+itself (name.Conv h p n) is = and_from ((h == h) && same_proto p p) (n == n) (and_from (h == h) (same_proto p p) (number_itself h) (same_proto_itself p)) (number_itself n)
 itself (name.Desk h) is = absurd (true≢false (sym is))
 itself (name.Dir h p) is = absurd (true≢false (sym is))
 itself (name.Medium m) is = absurd (true≢false (sym is))

@@ -1,7 +1,7 @@
 -- The ways that are kept of each host are those of the world.
 use Rattle.std.proofs.Common.{◌≡◌, ℕ, zero, suc, ◌≤◌, false, List, [], ◌∷◌, ◌++◌, length, Option, Some, None, slice_get, inl, inr, refl, sym, ap, subst, ◌∙◌, arith, ◌⊎◌}
 use Rattle.std.specs.Option.{option_map_or, option_and_then}
-use Rattle.std.proofs.lemmas.Option.{none-some, same_Some}
+use Rattle.std.proofs.lemmas.Option.{none-some, same_Some, slice_get_past}
 use Rattle.ip_route.specs.Kept.{AreWaysOf, HostWays, is_own, way_to}
 use Rattle.net_base.specs.declared.world.World.{World}
 use Rattle.net_base.specs.Routes.{way, has_address}
@@ -35,11 +35,6 @@ one_more w ks n y count so_far new h k is =
       | inr last ↦ subst (λ (i : HostWays). AreWaysOf w h i) last.1 (subst (λ (i : ℕ). AreWaysOf w i y) (sym (last.0 ∙ count)) new)
     ]
 
-past_end : {A : Type 0} (xs : List A) (n : ℕ) → length xs ≤ n → slice_get xs n ≡ None
-past_end [] n le = refl
-past_end (x ∷ xs) zero le = absurd (omega (arith, le))
-past_end (x ∷ xs) (suc n) le = past_end xs n (omega (arith, le))
-
 -- both, where the h-th host is kept or there is none
 at_host : (w : World) (ks : List HostWays) (h ip : ℕ) (o : Option HostWays) → slice_get ks h ≡ o → length ks ≡ length w.hosts → AreSoFar w ks
     → (way_at ks h ip ≡ way w h ip) × (has_at ks h ip ≡ has_address w h ip)
@@ -49,7 +44,7 @@ at_host w ks h ip (Some k) is count all = (
   ap (λ (o : Option HostWays). option_map_or (λ (k : HostWays). is_own k ip) o false) is ∙ (all h k is ip).1,
 )
 at_host w ks h ip None is count all =
-    let none : slice_get w.hosts h ≡ None = past_end w.hosts h (beyond ks h is (length w.hosts) count) in
+    let none : slice_get w.hosts h ≡ None = slice_get_past w.hosts h (beyond ks h is (length w.hosts) count) in
     (rw (is, none) refl, rw (is, none) refl)
   where
     beyond : (ks : List HostWays) (h : ℕ) → slice_get ks h ≡ None → (n : ℕ) → length ks ≡ n → n ≤ h

@@ -2,6 +2,7 @@
 use Rattle.std.proofs.Common.{◌≡◌, ℕ, ◌+◌, ◌==◌, Bool, true, false, List, [], ◌∷◌, ◌++◌, length, map, drop, Option, Some, None, if◌then◌else◌, refl, ap, sym, subst, ◌∙◌, arith, length-append}
 use mathlib.Core.List.{IsPrefix}
 use Rattle.std.proofs.lemmas.Bool.{true≢false}
+use Rattle.std.proofs.lemmas.List.{nil_from_length}
 use Rattle.net_base.specs.declared.history.Entry.{Entry}
 use Rattle.net_base.specs.declared.noted.Noted.{Noted}
 use Rattle.net_base.specs.declared.noted.Number.{Number}
@@ -19,12 +20,8 @@ use Rattle.guest_laws.specs.Works.{step_by, noted_after, next_noted, noted_from,
 use Rattle.guest_laws.specs.Own.{IsTurnOf, IsNextOf, IsTimelyIn, OwnFrom, EachOwn, StandsStill, Gains}
 use Rattle.guest_laws.proofs.Nets.{noted_from-append, noted_push}
 
-nil_of : {A : Type 0} (ys : List A) → length ys ≡ 0 → ys ≡ []
-nil_of [] e = refl
-nil_of (y ∷ ys) e = absurd (omega (arith, e))
-
 same_and : {A : Type 0} (xs ys : List A) → xs ++ ys ≡ xs → ys ≡ []
-same_and xs ys e = nil_of ys (omega (arith, sym (ap length e) ∙ length-append xs ys))
+same_and xs ys e = nil_from_length ys (omega (arith, sym (ap length e) ∙ length-append xs ys))
 
 -- after a beginning that has all of a number's entries nothing of the number comes
 none_between : (k : Number) (log rest : List Noted) → at k log ≡ at k (log ++ rest) → at_from k (length log) rest ≡ []

@@ -25,7 +25,7 @@ use Rattle.journal.specs.declared.law.Roster.{Roster}
 use Rattle.journal.specs.declared.tokens.Sight.{Sight}
 use Rattle.journal.specs.Rule.{Held, gain}
 use Rattle.journal.specs.Tokens.{Looked, Met}
-use Rattle.journal.proofs.Shared.{at-snoc, in-gain, in-left, in-right}
+use Rattle.journal.proofs.Shared.{at-snoc, in-gain}
 use Rattle.locked.specs.Acts.{made, state_at, without_copy}
 use Rattle.guest_laws.specs.Named.{Named, named, named_step, opening, answer_in}
 use Rattle.guest_laws.specs.Works.{noted_net, owed_in, entries}
@@ -33,13 +33,12 @@ use Rattle.guest_laws.specs.Own.{AreNext, AreTimely, AreTurns, IsAskedButOfScrip
 use Rattle.guest_laws.specs.Guests.{IsGuest, IsTurn, Records, StaysGuest, HasRecorded}
 use Rattle.guest_laws.proofs.Nets.{past_is}
 use Rattle.guest_laws.proofs.Apart.{LaterStands, stands_still, owed_push, gains}
+use Rattle.net_base.proofs.Tests.{number_itself}
+use Rattle.net_base.proofs.Members.{in_front, in_back}
 
 length_map : (f : Noted → Entry) (xs : List Noted) → length (map f xs) ≡ length xs
 length_map f [] = refl
 length_map f (x ∷ xs) = ap suc (length_map f xs)
-
-pub same_refl : (n : ℕ) → (n == n) ≡ true
-same_refl n = grind (arith, nat_tests)
 
 step_under : (a : ActorName) (t : Option (Step Actor)) (step : Step Named) → option_map (named_step a) t ≡ Some step → (s : Step Actor) × (t ≡ Some s)
     × (step.outcome ≡ s.outcome)
@@ -63,14 +62,14 @@ module _ (still : LaterStands) (w : World) (r : Roster) (c : ℕ) (p p' : Sight)
   pub meets_this : (q : Sight) → Met r p q p' → StaysGuest w r c p ds p'
   meets_this q m =
       let held : In (number.Caller c, g.list) p'.held =
-      subst (λ (hs : List Held). In (number.Caller c, g.list) hs) (sym m.held) (in-left (number.Caller c, g.list) p.held q.held g.held) in
+      subst (λ (hs : List Held). In (number.Caller c, g.list) hs) (sym m.held) (in_front (number.Caller c, g.list) p.held q.held g.held) in
       stays m.this held (m.lists (number.Caller c) g.list held)
 
   -- or the one that was taken in
   pub meets_that : (q : Sight) → Met r q p p' → StaysGuest w r c p ds p'
   meets_that q m =
       let held : In (number.Caller c, g.list) p'.held =
-      subst (λ (hs : List Held). In (number.Caller c, g.list) hs) (sym m.held) (in-right (number.Caller c, g.list) q.held p.held g.held) in
+      subst (λ (hs : List Held). In (number.Caller c, g.list) hs) (sym m.held) (in_back (number.Caller c, g.list) q.held p.held g.held) in
       stays m.that held (m.lists (number.Caller c) g.list held)
 
 -- an entry of its own
@@ -119,7 +118,7 @@ module _ (still : LaterStands)
   list' = g.list ++ (stamp, the) ∷ []
 
   mine : (c == c) ≡ true
-  mine = same_refl c
+  mine = number_itself c
 
   held' : In (number.Caller c, list') p'.held
   held' =

@@ -14,24 +14,13 @@ use Rattle.net_base.specs.Stamped.{at, In}
 use Rattle.journal.specs.declared.law.Roster.{Roster}
 use Rattle.journal.specs.declared.tokens.Sight.{Sight}
 use Rattle.journal.specs.Rule.{Held, gain, same_number}
-use Rattle.journal.proofs.Shared.{at-snoc, in-gain, in-left, in-right, prefix_snoc, prefix_trans}
+use Rattle.journal.proofs.Shared.{at-snoc, in-gain, prefix_snoc, prefix_trans}
 use Rattle.locked.specs.Acts.{made}
 use Rattle.guest_laws.specs.Guests.{IsGuest, Records, StaysGuest, HandsOver}
 use Rattle.guest_laws.proofs.Apart.{LaterStands}
-use Rattle.guest_laws.proofs.Guests.{stays, same_refl}
-
-in_filter : (test : Held → Bool) (h : Held) (hs : List Held) → In h hs → test h ≡ true → In h (filter test hs)
-in_filter test h [] none is = absurd none
-in_filter test h (x ∷ hs) (inl here) is = at_head (test x) (ap test (sym here) ∙ is)
-  where
-    at_head : (b : Bool) → b ≡ true → In h (if b then x ∷ filter test hs else filter test hs)
-    at_head true yes_ = inl here
-    at_head false yes_ = absurd (true≢false (sym yes_))
-in_filter test h (x ∷ hs) (inr there) is = past_head (in_filter test h hs there is) (test x)
-  where
-    past_head : In h (filter test hs) → (b : Bool) → In h (if b then x ∷ filter test hs else filter test hs)
-    past_head rest true = inr rest
-    past_head rest false = rest
+use Rattle.guest_laws.proofs.Guests.{stays}
+use Rattle.net_base.proofs.Tests.{number_itself}
+use Rattle.net_base.proofs.Members.{in_front, in_back, in_filter}
 
 module _ (still : LaterStands) (w : World) (r : Roster) (c : ℕ) (p q p' q' : Sight) (h : HandsOver r c p q p' q') where
   -- the number that goes over
@@ -39,16 +28,16 @@ module _ (still : LaterStands) (w : World) (r : Roster) (c : ℕ) (p q p' q' : S
   goes_over ds g =
       let moved : In (number.Caller c, g.list) h.moved.held =
       subst (λ (hs : List Held). In (number.Caller c, g.list) hs) (sym h.given_held)
-      (in_filter (λ (k : Held). same_number k.0 (number.Caller c)) (number.Caller c, g.list) p.held g.held (same_refl c)) in
+      (in_filter (λ (k : Held). same_number k.0 (number.Caller c)) (number.Caller c, g.list) p.held g.held (number_itself c)) in
       let held : In (number.Caller c, g.list) q'.held =
-      subst (λ (hs : List Held). In (number.Caller c, g.list) hs) (sym h.met.held) (in-right (number.Caller c, g.list) q.held h.moved.held moved) in
+      subst (λ (hs : List Held). In (number.Caller c, g.list) hs) (sym h.met.held) (in_back (number.Caller c, g.list) q.held h.moved.held moved) in
       stays still w r c p q' ds g (subst (λ (l : List Noted). IsPrefix l q'.seen) h.given_seen h.met.that) held (h.met.lists (number.Caller c) g.list held)
 
   -- the numbers that the other pass had
   pub stays_there : (d : ℕ) (ds : List Duty) → IsGuest w r d q ds → StaysGuest w r d q ds q'
   stays_there d ds g =
       let held : In (number.Caller d, g.list) q'.held =
-      subst (λ (hs : List Held). In (number.Caller d, g.list) hs) (sym h.met.held) (in-left (number.Caller d, g.list) q.held h.moved.held g.held) in
+      subst (λ (hs : List Held). In (number.Caller d, g.list) hs) (sym h.met.held) (in_front (number.Caller d, g.list) q.held h.moved.held g.held) in
       stays still w r d q q' ds g h.met.this held (h.met.lists (number.Caller d) g.list held)
 
   -- the numbers that stay

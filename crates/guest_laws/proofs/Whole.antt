@@ -27,8 +27,8 @@ use Rattle.guest_laws.specs.Works.{step_by, noted_after, next_noted, noted_net, 
 use Rattle.guest_laws.specs.Own.{IsAskedButOfScripts, IsTurnOf, IsNextOf, IsTimelyIn, OwnFrom, EachOwn, AreTurns, AreNext, AreTimely, FollowsButScripts, IsLegalButScripts, DoScriptsGoOn}
 use Rattle.guest_laws.proofs.Nets.{noted_push, past_is, moment_is}
 use Rattle.guest_laws.proofs.Apart.{own, by_from}
-use Rattle.guest_laws.proofs.Guests.{same_refl}
 use Rattle.guest_laws.proofs.Moves.{moment_same}
+use Rattle.net_base.proofs.Tests.{number_itself}
 
 -- each entry is so, after those before it
 abbrev Each : (List Entry → Entry → Type 0) → List Entry → Type 0
@@ -152,8 +152,8 @@ module _ (grows : Grows) (w : World) (r : Roster) (known : (a : ActorName) → I
     each_from log past (x ∷ rest) is lawful same each turns ks =
         let net = noted_net w past in
         let fits : Fits r past x = lawful past x rest is in
-        let turn : IsTurnOf w net x = (turns x.entry.caller fits.caller).0 (same_refl x.entry.caller) in
-        let k : K net x = (ks x.entry.caller fits.caller).0 (same_refl x.entry.caller) in
+        let turn : IsTurnOf w net x = (turns x.entry.caller fits.caller).0 (number_itself x.entry.caller) in
+        let k : K net x = (ks x.entry.caller fits.caller).0 (number_itself x.entry.caller) in
         let f : FollowsButScripts w (entries past) (after w (entries past)) x.entry =
         subst (λ (n : Net). FollowsButScripts w (entries past) n x.entry) same (follows_but w r past x fits turn (known x.entry.actor fits.actor) count) in
         let after_it : noted_net w (past ++ x ∷ []) ≡ after w (entries (past ++ x ∷ [])) =

@@ -2,6 +2,7 @@
 use Rattle.std.proofs.Common.{◌≡◌, ℕ, ◌+◌, ◌==◌, Bool, true, false, List, [], ◌∷◌, ◌++◌, length, map, filter, drop, Option, Some, None, is_none, if◌then◌else◌, refl, sym, ap, subst, ◌∙◌, append-nil, length-append, arith}
 use Rattle.std.proofs.lemmas.Bool.{eqb-true}
 use Rattle.std.proofs.lemmas.List.Elements.{filter-append}
+use Rattle.std.proofs.lemmas.List.{nil_from_length}
 use mathlib.Core.List.{IsPrefix}
 use Rattle.net_base.specs.declared.history.Entry.{Entry}
 use Rattle.net_base.specs.declared.noted.Number.TheVariants as number
@@ -19,10 +20,6 @@ use Rattle.history_laws.proofs.Histories.{net_of-append}
 
 no_cons : {A : Type 0} (x : A) (xs : List A) → x ∷ xs ≡ [] → ⊥
 no_cons x xs none = absurd (omega (arith, ap length none))
-
-nil_of : {A : Type 0} (xs : List A) → length xs ≡ 0 → xs ≡ []
-nil_of [] none = refl
-nil_of (x ∷ xs) none = absurd (omega (arith, none))
 
 module _ (w : World) (c : ℕ) where
   -- an entry of another caller
@@ -83,7 +80,7 @@ module _ (w : World) (c : ℕ) where
   pub stands_later : (h later : List Entry) → IsPrefix h later → by later c ≡ by h c → StandsStill w c h later
   stands_later h later front same =
       let both : by h c ++ by front.0 c ≡ by h c = sym (by_append h front.0) ∙ (ap (λ (xs : List Entry). by xs c) front.1 ∙ same) in
-      let none : by front.0 c ≡ [] = nil_of (by front.0 c) (omega (arith, sym (ap length both) ∙ length-append (by h c) (by front.0 c))) in
+      let none : by front.0 c ≡ [] = nil_from_length (by front.0 c) (omega (arith, sym (ap length both) ∙ length-append (by h c) (by front.0 c))) in
       subst (λ (xs : List Entry). StandsStill w c h xs) front.1 (stands_still h front.0 none)
 
 -- the entries of a caller are those that have stamps

@@ -27,23 +27,15 @@ use Rattle.net_base.specs.Routes.{Way, way}
 use Rattle.net_base.specs.Same.{same_addr, same_pair}
 use Rattle.net_base.specs.Stamped.{In}
 use Rattle.history_laws.proofs.Takers.{taker_found}
+use Rattle.net_base.proofs.Tests.{number_itself}
+use Rattle.net_base.proofs.Members.{in_front}
+use Rattle.net_base.proofs.SameNames.{same_pair_itself}
 
 -- Membership.
-
-pub in_more : {A : Type 0} (x : A) (xs ys : List A) → In x xs → In x (xs ++ ys)
-in_more x [] ys there = absurd there
-in_more x (y ∷ xs) ys (inl is) = inl is
-in_more x (y ∷ xs) ys (inr there) = inr (in_more x xs ys there)
 
 pub in_last : {A : Type 0} (x : A) (xs : List A) → In x (xs ++ x ∷ [])
 in_last x [] = inl refl
 in_last x (y ∷ xs) = inr (in_last x xs)
-
-pub same_number : (n : ℕ) → (n == n) ≡ true
-same_number n = search arith
-
-same_pair_itself : (p : Pair) → same_pair p p ≡ true
-same_pair_itself p = rw (same_number p.local.ip) (rw (same_number p.local.port) (rw (same_number p.remote.ip) (rw (same_number p.remote.port) refl)))
 
 unplaced : (p : Pair) (k : ℕ) (q : Pair) (qs : List Pair) → (if same_pair p q then Some k else pair_place p (k + 1) qs) ≡ None → (pair_place p (k + 1) qs ≡ None → ⊥) → ⊥
 unplaced p k q qs is rest = by (same_pair p q) is
@@ -110,7 +102,7 @@ grants_pair_move : (w : World) (h : ℕ) (p : Proto) (n : ℕ) (s : Slot) (pair 
 grants_pair_move w h p n s pair mtu d with (Some k) is = plain d with _ refl refl
 grants_pair_move w h p n s pair mtu d with None is =
     record {
-      grows = λ q there. in_more q d.pairs (pair ∷ []) there;
+      grows = λ q there. in_front q d.pairs (pair ∷ []) there;
       granted = λ other start limit same. subst (λ (q : Pair). IsNew q d (grants_pair None (home_at w h p) n s pair mtu d).state) (pair_given same) (not_placed pair 1 d.pairs is, in_last pair d.pairs);
       born = λ packet m g start limit given same. absurd (true≢false (ap is_grant same));
     }
@@ -169,7 +161,7 @@ refused_moves (body.Il m) packet d with = either d with (is_sync m.kind) _ _ (pl
 bears_moves : (w : World) (h : ℕ) (p : Proto) (packet : Packet) (t : Taker) (d : Dir) → pair_place (pair_of packet) 1 d.pairs ≡ None → Moves d (given.Packet packet) (bears (home_at w h p) (pair_of packet) t d)
 bears_moves w h p packet t d is =
     record {
-      grows = λ q there. in_more q d.pairs (pair_of packet ∷ []) there;
+      grows = λ q there. in_front q d.pairs (pair_of packet ∷ []) there;
       granted = λ other start limit same. absurd (true≢false (ap is_birth same));
       born = λ other m g start limit same_given same.
           subst (λ (q : Packet). IsNew (pair_of q) d (bears (home_at w h p) (pair_of packet) t d).state) (ap packet_in same_given) (not_placed (pair_of packet) 1 d.pairs is, in_last (pair_of packet) d.pairs);

@@ -15,31 +15,9 @@ use Rattle.net_base.specs.Legal.{MayFollow, MayFollowBy, IsLegal, IsLegalBy, IsI
 use Rattle.net_base.specs.Net.{Net, net_after, next_net, net_of, after, opening_net, state, step_of, work_of, works, works_from, stepped_to, play, played}
 use Rattle.net_base.specs.Stamped.{same_proto, same_actor}
 use Rattle.net_base.specs.Tasks.{Tasks}
+use Rattle.net_base.proofs.SameNames.{same_proto_is, same_actor_is}
 
 -- Tests of actors.
-
-pub same_proto_is : (p q : Proto) → same_proto p q ≡ true → p ≡ q
-same_proto_is proto.Il proto.Il is = refl
-same_proto_is proto.Udp proto.Udp is = refl
-same_proto_is _ _ is = absurd (true≢false (sym is))
-
-pub same_actor_is : (a b : ActorName) → same_actor a b ≡ true → a ≡ b
-same_actor_is (actor.Desk h) (actor.Desk h') is = ap (λ (n : ℕ). actor.Desk n) (eqb-true h h' is)
-same_actor_is (actor.Dir h p) (actor.Dir h' p') is =
-    let t = and_parts (h == h') (same_proto p p') is in
-    let one = eqb-true h h' t.0 in
-    let two = same_proto_is p p' t.1 in
-    cc
-same_actor_is (actor.Conv h p n) (actor.Conv h' p' n') is =
-    let t = and_parts ((h == h') && same_proto p p') (n == n') is in
-    let u = and_parts (h == h') (same_proto p p') t.0 in
-    let one = eqb-true h h' u.0 in
-    let two = same_proto_is p p' u.1 in
-    let three = eqb-true n n' t.1 in
-    cc
-same_actor_is (actor.Medium m) (actor.Medium m') is = ap (λ (n : ℕ). actor.Medium n) (eqb-true m m' is)
-same_actor_is actor.Clock actor.Clock is = refl
-same_actor_is _ _ is = absurd (true≢false (sym is))
 
 -- One entry more.
 

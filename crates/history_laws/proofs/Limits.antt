@@ -3,9 +3,9 @@ use Rattle.std.proofs.Common.{◌≡◌, ℕ, zero, suc, ◌<◌, ◌≤◌, ◌
 use Rattle.std.specs.Prelude.{IsSome}
 use Rattle.std.specs.List.{list_any}
 use Rattle.std.specs.Option.{option_map}
-use Rattle.std.proofs.lemmas.Bool.{and_parts, and_from, eqb-true, eq-eqb, false≢true, ltb-true, ne_eqb}
+use Rattle.std.proofs.lemmas.Bool.{and_parts, and_from, eqb-true, eq-eqb, false≢true, ltb-true, ne_eqb, cases_lt}
 use Rattle.std.proofs.lemmas.Bool.Decides.{nat_tests}
-use Rattle.std.proofs.lemmas.Option.{none-some}
+use Rattle.std.proofs.lemmas.Option.{none-some, slice_get_past}
 use Rattle.net_base.specs.declared.history.Entry.{Entry}
 use Rattle.net_base.specs.declared.world.Script.{Script}
 use Rattle.net_base.specs.declared.world.World.{World}
@@ -41,14 +41,9 @@ quiet_after w h legal = by_entries w (λ (k : List Entry). Quiet w (after w k)) 
     push : (k : List Entry) (x : Entry) → IsLegal w k → MayFollow w k x → Quiet w (after w k) → Quiet w (after w (k ++ x ∷ []))
     push k x before may quiet = subst (Quiet w) (sym (after_push w k x)) (quiet_next w (after w k) x (step_of w (after w k) x) may.is_known.1 quiet)
 
-script_below : (ss : List Script) (c : ℕ) → length ss ≤ c → slice_get ss c ≡ None
-script_below [] c far = refl
-script_below (s ∷ ss) zero far = absurd (omega arith)
-script_below (s ∷ ss) (suc c) far = script_below ss c (omega arith)
-
 nobody : (w : World) (c : ℕ) → caller_count w ≤ c → caller_of w c ≡ IsNobody
 nobody w c far =
-    let none = script_below w.scripts c (omega arith) in
+    let none = slice_get_past w.scripts c (omega arith) in
     let not_courier : nat_lt c (clock_number w) ≡ false = grind (arith, nat_tests) in
     let not_clock : (c == clock_number w) ≡ false = ne_eqb c (clock_number w) (λ same. absurd (omega arith)) in
     rw (none, not_courier, not_clock) refl
@@ -64,16 +59,9 @@ nobody_asks w [] (IsScript s) h c x none is asked = false≢true is
 nobody_asks w [] (IsCourier m) h c x none is asked = false≢true is
 nobody_asks w [] IsClock h c x none is asked = false≢true is
 
-below_or_not : (c n : ℕ) → (c < n) ⊎ (n ≤ c)
-below_or_not c n = by (nat_lt c n) refl
-  where
-    by : (b : Bool) → nat_lt c n ≡ b → (c < n) ⊎ (n ≤ c)
-    by true is = inl (ltb-true c n is)
-    by false is = inr (grind (arith, nat_tests))
-
 caller_known : (w : World) (h : List Entry) (x : Entry) → IsLegal w h → Keeps Asked w h (after w h) x → x.caller < caller_count w
 caller_known w h x legal asked =
-    elim (below_or_not x.caller (caller_count w)) [
+    elim (cases_lt x.caller (caller_count w)) [
       | inl below ↦ below
       | inr far ↦ absurd (nobody_asks w ((after w h).owed x.caller) (caller_of w x.caller) h x.caller x (quiet_after w h legal x.caller far) (ap is_nobody (nobody w x.caller far)) asked)
     ]
@@ -102,7 +90,7 @@ pub full_fault : (w : World) (h : List Entry) (stamp : ℕ) → IsFault w h stam
 full_fault w h stamp fault = (
   fault.entry,
   fault.stands,
-  elim (below_or_not (length (by (take stamp h) fault.entry.caller)) most_entries) [
+  elim (cases_lt (length (by (take stamp h) fault.entry.caller)) most_entries) [
     | inl room ↦ absurd (fault.broken room)
     | inr much ↦ omega (arith, much, within w (take stamp h) fault.entry.caller fault.legal)
   ],

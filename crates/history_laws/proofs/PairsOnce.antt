@@ -29,8 +29,11 @@ use Rattle.net_base.specs.Net.{Net, after, next_net, net_of, net_after, step_of,
 use Rattle.net_base.specs.Stamped.{In, same_actor}
 use Rattle.net_base.specs.Tasks.{Tasks}
 use Rattle.net_base.specs.Written.{Given, gives, given_in, given_from}
-use Rattle.history_laws.proofs.DirPairs.{Moves, MovesIf, dir_moves, same_number}
-use Rattle.history_laws.proofs.Histories.{after_push, by_entries, next_same, next_other, same_actor_is}
+use Rattle.history_laws.proofs.DirPairs.{Moves, MovesIf, dir_moves}
+use Rattle.history_laws.proofs.Histories.{after_push, by_entries, next_same, next_other}
+use Rattle.net_base.proofs.Tests.{number_itself}
+use Rattle.net_base.proofs.Members.{in_parts, in_of_get}
+use Rattle.net_base.proofs.SameNames.{same_actor_is, same_itself}
 
 abbrev pub pairs_of : Actor → List Pair
 pairs_of (IsDir d) = d.pairs
@@ -127,11 +130,6 @@ abbrev pub Distinct : List Given → Type 0
 Distinct [] = Unit {0}
 Distinct (f ∷ fs) = ((g : Given) → In g fs → g.to.host ≡ f.to.host → g.to.proto ≡ f.to.proto → g.pair ≡ f.pair → ⊥) × Distinct fs
 
-pub in_parts : {A : Type 0} (x : A) (xs ys : List A) → In x (xs ++ ys) → In x xs ⊎ In x ys
-in_parts x [] ys there = inr there
-in_parts x (y ∷ xs) ys (inl is) = inl (inl is)
-in_parts x (y ∷ xs) ys (inr there) = elim (in_parts x xs ys there) [ inl front ↦ inl (inr front) | inr back ↦ inr back ]
-
 is_last : {A : Type 0} (x y : A) → In x (y ∷ []) → x ≡ y
 is_last x y (inl is) = is
 is_last x y (inr there) = absurd there
@@ -147,11 +145,6 @@ distinct_push (f ∷ fs) g distinct new = (
   ],
   distinct_push fs g distinct.1 (λ k there. new k (inr there)),
 )
-
-pub in_of_get : {A : Type 0} (xs : List A) (k : ℕ) (x : A) → slice_get xs k ≡ Some x → In x xs
-in_of_get [] k x is = absurd (none-some x is)
-in_of_get (y ∷ xs) zero x is = inl (sym (same_Some y x is))
-in_of_get (y ∷ xs) (suc k) x is = inr (in_of_get xs k x is)
 
 apart : (gs : List Given) → Distinct gs → (i j : ℕ) (f g : Given) → i < j → slice_get gs i ≡ Some f → slice_get gs j ≡ Some g → g.to.host ≡ f.to.host → g.to.proto ≡ f.to.proto → g.pair ≡ f.pair → ⊥
 apart [] distinct i j f g lt is_f is_g host proto pair = absurd (none-some f is_f)
@@ -184,15 +177,6 @@ grown w net x s is a q there = by (same_actor x.actor a) refl
     by true same =
         subst (λ (c : Actor). In q (pairs_of c)) (sym (next_same w net x a (Some s) same))
         (pairs_grow w x.actor (net.actors x.actor) net.moment (work_of net x) s q is (subst (λ (n : ActorName). In q (pairs_of (net.actors n))) (sym (same_actor_is x.actor a same)) there))
-
-pub same_itself : (a : ActorName) → same_actor a a ≡ true
-same_itself (name.Desk h) = search arith
-same_itself (name.Dir h proto.Il) = rw (same_number h) refl
-same_itself (name.Dir h proto.Udp) = rw (same_number h) refl
-same_itself (name.Conv h proto.Il n) = rw (same_number h) (rw (same_number n) refl)
-same_itself (name.Conv h proto.Udp n) = rw (same_number h) (rw (same_number n) refl)
-same_itself (name.Medium m) = search arith
-same_itself name.Clock = refl
 
 with_gift : (w : World) (net : Net) (x : Entry) (gs : List Given) (s : Step Actor) (gift : Option Given) → step_of w net x ≡ Some s → x.reply ≡ s.outcome.reply → gives x.actor (work_of net x) x.reply ≡ gift → Kept net gs
     → Kept (net_after w net x (Some s)) (gs ++ option_to_list gift)

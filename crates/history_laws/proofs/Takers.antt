@@ -2,7 +2,7 @@
 use Rattle.std.proofs.Common.{◌≡◌, ℕ, suc, ◌+◌, not, Bool, true, false, cond, List, [], ◌∷◌, Option, Some, None, is_none, length, nat_lt, refl, ap, ◌∙◌, subst, if◌then◌else◌, ◌&&◌, slice_get, arith}
 use Rattle.std.specs.Option.{option_and_then}
 use Rattle.std.proofs.lemmas.Option.{none-some, same_Some}
-use Rattle.std.proofs.lemmas.Bool.{and_parts, false≢true}
+use Rattle.std.proofs.lemmas.Bool.{and_parts, false≢true, not-true}
 use Rattle.net_base.specs.declared.address.Addr.{Addr}
 use Rattle.net_base.specs.declared.address.Pair.{Pair}
 use Rattle.net_base.specs.declared.packet.Packet.{Packet}
@@ -56,10 +56,6 @@ none_is : {A : Type 0} (o : Option A) → is_none o ≡ true → o ≡ None
 none_is None is = refl
 none_is (Some x) is = absurd (false≢true is)
 
-not_is : (b : Bool) → not b ≡ true → b ≡ false
-not_is false is = refl
-not_is true is = absurd (false≢true is)
-
 -- the pair is new, and passes the other tests
 abbrev new_and : Pair → Packet → Slot → Dir → Bool
 new_and pair packet listener d =
@@ -90,7 +86,7 @@ taker_found pair packet d t is = go (first_slot is_free 0 d.slots) (match_of pac
           at_listener = hears.0;
           announces = hears.1;
           unlisted = none_is _ unlisted.0;
-          apart = not_is _ apart.0;
+          apart = not-true _ apart.0;
           bears = (and_parts (may_bear packet.body) _ apart.1).0;
         })
 

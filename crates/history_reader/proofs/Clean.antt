@@ -8,6 +8,7 @@ use Rattle.net_base.specs.Numeral.{numeral}
 use Rattle.net_base.specs.Plain.{IsClean, IsLine}
 use Rattle.net_base.specs.Transcript.{ip_word}
 use Rattle.words.proofs.Shared.{numeral_by_steps}
+use Rattle.net_base.proofs.Tests.{number_itself}
 
 -- no byte of the word is this one
 abbrev pub IsFree : ℕ → List ℕ → Type 0
@@ -108,12 +109,9 @@ pub one_part : (s : ℕ) (word : List ℕ) → IsFree s word → parts_at s word
 one_part s [] free = refl
 one_part s (b ∷ word) free = ap (λ v. cond v ([] ∷ parts_at s word) (onto_first b (parts_at s word))) free.0 ∙ ap (onto_first b) (one_part s word free.1)
 
-self : (s : ℕ) → (s == s) ≡ true
-self s = search arith
-
 -- a word before a separator is the first part
 pub first_part : (s : ℕ) (word rest : List ℕ) → IsFree s word → parts_at s (word ++ s ∷ rest) ≡ word ∷ parts_at s rest
-first_part s [] rest free = ap (λ v. cond v ([] ∷ parts_at s rest) (onto_first s (parts_at s rest))) (self s)
+first_part s [] rest free = ap (λ v. cond v ([] ∷ parts_at s rest) (onto_first s (parts_at s rest))) (number_itself s)
 first_part s (b ∷ word) rest free =
     ap (λ v. cond v ([] ∷ parts_at s (word ++ s ∷ rest)) (onto_first b (parts_at s (word ++ s ∷ rest)))) free.0 ∙ ap (onto_first b) (first_part s word rest free.1)
 

@@ -1,7 +1,7 @@
 -- Lines of entries: a line is good exactly where it is an entry's with its stamp.
 use Rattle.std.proofs.Common.{◌≡◌, ◌≢◌, ℕ, ◌+◌, ◌<◌, ◌^◌, ◌==◌, Bool, true, false, if◌then◌else◌, List, [], ◌∷◌, ◌++◌, ◌⊎◌, inl, inr, refl, sym, ap, subst, ◌∙◌, arith, Option, Some, None, append-nil}
 use Rattle.std.specs.List.{join_with_byte}
-use Rattle.std.proofs.lemmas.Bool.{false≢true, ne_eqb}
+use Rattle.std.proofs.lemmas.Bool.{false≢true, ne_eqb, eqb-true}
 use Rattle.std.proofs.lemmas.List.Splits.{join_with_byte-slice_split}
 use Rattle.std.proofs.lemmas.Option.{none-some}
 use Rattle.net_base.specs.declared.history.Entry.{Entry}
@@ -17,6 +17,7 @@ use Rattle.history_reader.proofs.EntryWords.{FitsEntry, entry_bare, entry_good, 
 use Rattle.history_reader.proofs.Exact.{AreBare, IsBare}
 use Rattle.history_reader.proofs.FieldWords.{number_exact, bare_numeral}
 use Rattle.history_reader.proofs.Values.{numeral_is, numeral_spelled, same_numeral, value}
+use Rattle.net_base.proofs.Tests.{number_itself}
 
 -- a line without its newline
 abbrev pub body_of : ℕ → Entry → List ℕ
@@ -53,21 +54,15 @@ body_words stamp x good = words_back (numeral stamp) (entry_words x) (bare_numer
 
 -- Stamps.
 
-same_is : (m n : ℕ) → (m == n) ≡ true → m ≡ n
-same_is m n e = grind (arith, e)
-
-self : (n : ℕ) → (n == n) ≡ true
-self n = search arith
-
 stamp_sound : (stamp : ℕ) (word : List ℕ) → is_stamp stamp word ≡ true → word ≡ numeral stamp
 stamp_sound stamp word e = by (number_in 0 18446744073709551615 word) refl e
   where
     by : (o : Option ℕ) → number_in 0 18446744073709551615 word ≡ o → is_same stamp o ≡ true → word ≡ numeral stamp
     by None q f = absurd (false≢true f)
-    by (Some n) q f = ((number_exact 18446744073709551615 (omega arith)).sound word n q).0 ∙ ap (λ k. numeral k) (same_is n stamp f)
+    by (Some n) q f = ((number_exact 18446744073709551615 (omega arith)).sound word n q).0 ∙ ap (λ k. numeral k) (eqb-true n stamp f)
 
 stamp_told : (stamp : ℕ) → stamp < 2 ^ 64 → is_stamp stamp (numeral stamp) ≡ true
-stamp_told stamp lt = ap (is_same stamp) ((number_exact 18446744073709551615 (omega arith)).told stamp (omega (arith, lt))) ∙ self stamp
+stamp_told stamp lt = ap (is_same stamp) ((number_exact 18446744073709551615 (omega arith)).told stamp (omega (arith, lt))) ∙ number_itself stamp
 
 stamp_other : (stamp other : ℕ) → other ≢ stamp → is_stamp stamp (numeral other) ≡ false
 stamp_other stamp other apart = by (number_in 0 18446744073709551615 (numeral other)) refl

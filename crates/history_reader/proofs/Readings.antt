@@ -1,7 +1,7 @@
 -- What is read of a text is what it spells, and its first bad line is the one that is told.
 use Rattle.std.proofs.Common.{◌≡◌, ◌≢◌, ℕ, zero, suc, ◌+◌, ◌<◌, ◌≤◌, ◌^◌, ◌==◌, Bool, true, false, if◌then◌else◌, List, [], ◌∷◌, ◌++◌, ◌⊎◌, inl, inr, length, refl, sym, ap, subst, ◌∙◌, arith, Option, Some, None, append_assoc, append-nil, length-append, codes}
 use Rattle.std.specs.List.{concat, join_with_byte}
-use Rattle.std.proofs.lemmas.Bool.{false≢true}
+use Rattle.std.proofs.lemmas.Bool.{false≢true, eqb-true}
 use Rattle.std.proofs.lemmas.List.Splits.{join_with_byte-slice_split}
 use Rattle.std.proofs.lemmas.Option.{none-some, same_Some}
 use Rattle.net_base.specs.declared.history.Entry.{Entry}
@@ -31,9 +31,6 @@ lines_at text = parts_at 10 text
 abbrev Cut : List ℕ → Type 0
 Cut text = (IsFree 10 text) ⊎ ((line : List ℕ) × (rest : List ℕ) × IsFree 10 line × (text ≡ line ++ 10 ∷ rest))
 
-same_byte : (b s : ℕ) → (b == s) ≡ true → b ≡ s
-same_byte b s e = grind (arith, e)
-
 cut_more : (b : ℕ) (text : List ℕ) → (b == 10) ≡ false → Cut text → Cut (b ∷ text)
 cut_more b text e (inl free) = inl (e, free)
 cut_more b text e (inr cut) = inr (b ∷ cut.0, cut.1, (e, cut.2), ap (λ ws. b ∷ ws) cut.3)
@@ -43,7 +40,7 @@ cut [] = inl tt
 cut (b ∷ text) = by (b == 10) refl (cut text)
   where
     by : (v : Bool) → (b == 10) ≡ v → Cut text → Cut (b ∷ text)
-    by true e later = inr ([], text, tt, ap (λ c. c ∷ text) (same_byte b 10 e))
+    by true e later = inr ([], text, tt, ap (λ c. c ∷ text) (eqb-true b 10 e))
     by false e later = cut_more b text e later
 
 abbrev head_of : Parts → List ℕ

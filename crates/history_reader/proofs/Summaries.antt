@@ -20,6 +20,7 @@ use Rattle.history_reader.proofs.Exact.{AreBare, IsBare}
 use Rattle.history_reader.proofs.FieldWords.{bare, bare_numeral, no_word}
 use Rattle.history_reader.proofs.Lines.{joined_spaced, spaced_free, bare_free, words_back}
 use Rattle.history_reader.proofs.Values.{numeral_is, numeral_spelled, value}
+use Rattle.net_base.proofs.Tests.{same_text}
 
 -- a test passes exactly the lines of this form
 pub record FormExact (test : List ℕ → Bool) (IsLine : List ℕ → Type 0) : Type 0 where
@@ -114,12 +115,9 @@ both_sound word words e =
     let a = number_sound first.0 second.0 first.2 in
     (a.0, b.0, word_sound word words first.0 first.1 ∙ ap (λ (ws : Words). word ∷ ws) (a.1 ∙ ap (λ (ws : Words). numeral a.0 ∷ ws) b.1))
 
-same_word : (word : List ℕ) → bytes_eq word word ≡ true
-same_word word = (bytes_eq-Decides word word).1 refl
-
 both_told : (word : List ℕ) (a b : ℕ) → both_passed word (word ∷ numeral a ∷ numeral b ∷ []) ≡ Some []
 both_told word a b =
-    ap (λ v. option_and_then behind_number (option_and_then behind_number (if v then Some (numeral a ∷ numeral b ∷ []) else None))) (same_word word)
+    ap (λ v. option_and_then behind_number (option_and_then behind_number (if v then Some (numeral a ∷ numeral b ∷ []) else None))) (same_text word)
     ∙ ap (λ (o : Option Words). option_and_then behind_number o) (number_told a (numeral b ∷ [])) ∙ number_told b []
 
 pub both_exact : (word : List ℕ) → IsBare word → FormExact (is_both word) (IsBothLine word)

@@ -5,7 +5,7 @@ use Rattle.std.specs.Char.{is_ascii_digit}
 use Rattle.std.specs.Int.{IsInRange}
 use Rattle.std.specs.Int.Digits.{digits_of}
 use Rattle.std.specs.List.{list_all}
-use Rattle.std.proofs.lemmas.Bool.{and_parts, false≢true, ne_eqb}
+use Rattle.std.proofs.lemmas.Bool.{and_parts, false≢true, ne_eqb, not-true}
 use Rattle.std.proofs.lemmas.Bool.Decides.{nat_tests}
 use Rattle.std.proofs.lemmas.Int.Digits.{digits_of_step}
 use Rattle.std.proofs.lemmas.List.{map_push}
@@ -166,12 +166,8 @@ word_spelled (b ∷ c ∷ word) some plain all =
     ∙ spelled_on (b - 48) (c ∷ word) more both.1
     ∙ ap (λ k. numeral (value k (c ∷ word))) (omega arith)
 
-of_not : (v : Bool) → not v ≡ true → v ≡ false
-of_not true e = sym e
-of_not false e = refl
-
 pub numeral_spelled : (word : List ℕ) → is_numeral word ≡ true → word ≡ numeral (value 0 word)
 numeral_spelled word e =
     let front = and_parts (nat_lt 0 (length word) && not (is_padded word)) (list_all is_ascii_digit word) e in
     let both = and_parts (nat_lt 0 (length word)) (not (is_padded word)) front.0 in
-    word_spelled word both.0 (of_not (is_padded word) both.1) front.1
+    word_spelled word both.0 (not-true (is_padded word) both.1) front.1

@@ -3,6 +3,7 @@ use Rattle.std.proofs.Common.{◌≡◌, ℕ, zero, suc, List, [], ◌∷◌, �
 use Rattle.std.specs.Option.{option_map_or}
 use Rattle.std.proofs.lemmas.Bool.{lt-ltb, le-ltb}
 use Rattle.std.proofs.lemmas.Bool.Decides.{nat_tests}
+use Rattle.std.proofs.lemmas.Option.{slice_get_past}
 use Rattle.net_base.specs.declared.world.Script.{Script}
 use Rattle.net_base.specs.declared.world.World.{World}
 use Rattle.net_base.specs.Callers.{IsScript, IsCourier, IsClock, IsNobody, caller_of, clock_number, other_caller}
@@ -28,14 +29,6 @@ is_nobody w c place is past behind =
     let here : (c == clock_number w) ≡ false = grind (arith, nat_tests) in
     rw (before, here) refl
 
-pub is_script : (w : World) (c : ℕ) (s : Script) → slice_get w.scripts c ≡ Some s → caller_of w c ≡ IsScript s
-is_script w c s at = ap (λ (o : Option Script). option_map_or (λ (t : Script). IsScript t) o (other_caller w c)) at
-
-no_place : {A : Type 0} (xs : List A) (c : ℕ) → length xs ≤ c → slice_get xs c ≡ None
-no_place [] c past = refl
-no_place (x ∷ xs) zero past = absurd (omega (arith, past))
-no_place (x ∷ xs) (suc c) past = no_place xs c (omega (arith, past))
-
 pub is_no_script : (w : World) (c : ℕ) → length w.scripts ≤ c → caller_of w c ≡ other_caller w c
 is_no_script w c past =
-    ap (λ (o : Option Script). option_map_or (λ (t : Script). IsScript t) o (other_caller w c)) (no_place w.scripts c past)
+    ap (λ (o : Option Script). option_map_or (λ (t : Script). IsScript t) o (other_caller w c)) (slice_get_past w.scripts c past)

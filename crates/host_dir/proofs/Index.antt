@@ -16,29 +16,14 @@ use Rattle.host_dir.specs.declared.slots.Ends.{Ends}
 use Rattle.host_dir.specs.Found.{found_at, slot_at}
 use Rattle.host_dir.specs.Tables.{IsIndexed, Tables, pair_of, pairs_of}
 use Rattle.host_dir.proofs.Firsts.{none_found, only_found}
+use Rattle.net_base.proofs.SameNames.{same_addr_is, same_addr_itself, same_pair_is, same_pair_itself}
 
 -- Pairs that are the same.
-
-addr_is : (a b : Addr) → same_addr a b ≡ true → a ≡ b
-addr_is a b is =
-    let t = and_parts (a.ip == b.ip) (a.port == b.port) is in
-    ap (λ (n : ℕ). record a { ip = n }) (eqb-true a.ip b.ip t.0) ∙ ap (λ (n : ℕ). record b { port = n }) (eqb-true a.port b.port t.1)
-
-pub pair_is : (p q : Pair) → same_pair p q ≡ true → p ≡ q
-pair_is p q is =
-    let t = and_parts (same_addr p.local q.local) (same_addr p.remote q.remote) is in
-    ap (λ (a : Addr). record p { local = a }) (addr_is p.local q.local t.0) ∙ ap (λ (a : Addr). record q { remote = a }) (addr_is p.remote q.remote t.1)
-
-addr_itself : (a : Addr) → same_addr a a ≡ true
-addr_itself a = and_from (a.ip == a.ip) (a.port == a.port) (eq-eqb a.ip a.ip refl) (eq-eqb a.port a.port refl)
-
-pub pair_itself : (p : Pair) → same_pair p p ≡ true
-pair_itself p = and_from (same_addr p.local p.local) (same_addr p.remote p.remote) (addr_itself p.local) (addr_itself p.remote)
 
 -- a live slot with the pair has it
 has_pair : (p : Pair) (o : Option Pair) → option_map_or (same_pair p) o false ≡ true → o ≡ Some p
 has_pair p None is = absurd (true≢false (sym is))
-has_pair p (Some q) is = ap (λ (x : Pair). Some x) (sym (pair_is p q is))
+has_pair p (Some q) is = ap (λ (x : Pair). Some x) (sym (same_pair_is p q is))
 
 live_has : (p : Pair) (s : Slot) → is_live_with p s ≡ true → s.pair ≡ Some p
 live_has p s is = has_pair p s.pair (and_parts (not (is_free s)) _ is).1
@@ -138,7 +123,7 @@ later p x n (g ∷ gs) k is = by (same_pair p (pair_of g.0)) is (later p x n gs 
 
 last : (x : Ends) (n : ℕ) (given : List (Ends × ℕ)) (k : ℕ) → pair_place (pair_of x) k (pairs_of given) ≡ None
     → lookup (λ (e : Ends). same_pair (pair_of x) (pair_of e)) (given ++ (x, n) ∷ []) ≡ Some n
-last x n [] k none = rw (pair_itself (pair_of x)) refl
+last x n [] k none = rw (same_pair_itself (pair_of x)) refl
 last x n (g ∷ gs) k none = by (same_pair (pair_of x) (pair_of g.0)) none (last x n gs (k + 1))
   where
     by : (b : Bool) → cond b (Some k) (pair_place (pair_of x) (k + 1) (pairs_of gs)) ≡ None

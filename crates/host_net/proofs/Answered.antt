@@ -23,10 +23,10 @@ use Rattle.net_base.specs.Versions.{Tuples}
 use Rattle.net_base.specs.Steps.{Names}
 use Rattle.net_base.specs.Summary.{answered_by, answered_steps}
 use Rattle.guest_laws.specs.Works.{entries}
-use Rattle.net_guests.proofs.Shared.{apart_test, in_back, in_front, last_or}
+use Rattle.net_guests.proofs.Shared.{apart_test, last_or}
 use Rattle.host_net.proofs.Histories.{lists_are}
 use Rattle.host_net.proofs.Joining.{get_index}
-use Rattle.host_net.proofs.Seating.{get_seats, in_parts, seats_long}
+use Rattle.host_net.proofs.Seating.{get_seats, seats_long}
 use Rattle.host_net.proofs.Standings.{no_script, seats_in}
 use Rattle.host_net.proofs.Taking.{not_itself, visit_in, with_front}
 use Rattle.host_net.specs.Answering.{AreAfter, CannotTell, CannotTellOf, CanTell, IsAnswered, IsAnsweredOf}
@@ -34,6 +34,7 @@ use Rattle.host_net.specs.Groups.{Follows, Grouped, IsDealt, NotIn, Seats, all_c
 use Rattle.host_net.specs.Groups.{members, seat_of, seats, visits, with_last}
 use Rattle.host_net.specs.Playing.{IsCounted, Playing, replies_of}
 use Rattle.net_guests.specs.Visits.{Visit}
+use Rattle.net_base.proofs.Members.{in_front, in_back, in_parts, there_at, drop_one, next_one, past_all}
 
 -- One player.
 
@@ -112,28 +113,6 @@ answered_in w vs h v n s are there is script =
 
 -- Rows of scripts.
 
-drop_one : {A : Type 0} (xs : List A) (n : ℕ) (s : A) → slice_get xs n ≡ Some s → drop n xs ≡ s ∷ drop (suc n) xs
-drop_one [] n s is = absurd (none-some s is)
-drop_one (x ∷ xs) zero s is = ap (λ y. y ∷ xs) (same_Some x s is)
-drop_one (x ∷ xs) (suc n) s is = drop_one xs n s is
-
-next_one : {A : Type 0} (xs : List A) (n : ℕ) (s : A) → slice_get xs n ≡ Some s → drop n xs ≡ s ∷ drop (n + 1) xs
-next_one xs n s is = let e : suc n ≡ n + 1 = omega arith in subst (λ (k : ℕ). drop n xs ≡ s ∷ drop k xs) e (drop_one xs n s is)
-
-past_all : {A : Type 0} (xs : List A) (n : ℕ) → length xs ≤ n → drop n xs ≡ []
-past_all [] zero le = refl
-past_all [] (suc n) le = refl
-past_all (x ∷ xs) zero le = absurd (omega (arith, le))
-past_all (x ∷ xs) (suc n) le = past_all xs n (omega (arith, le))
-
-script_at : (xs : List Script) (n : ℕ) → n < length xs → (s : Script) × (slice_get xs n ≡ Some s)
-script_at [] n lt = absurd (omega (arith, lt))
-script_at (x ∷ xs) zero lt = (x, refl)
-script_at (x ∷ xs) (suc n) lt = script_at xs n (omega (arith, lt))
-
-pub script_is : (w : World) (n : ℕ) → n < length w.scripts → (s : Script) × (caller_of w n ≡ IsScript s)
-script_is w n lt = let s = script_at w.scripts n lt in (s.0, ap (λ (o : Option Script). option_map_or (λ (z : Script). IsScript z) o (other_caller w n)) s.1)
-
 -- the answered steps of the scripts from the n-th on
 abbrev pub answered_from : World → List Entry → ℕ → ℕ
 answered_from w h n = sum_by (answered_by w h) (enumerate_from n (drop n w.scripts))
@@ -151,7 +130,7 @@ AnswersTo w vs n a = (h : List Entry) → AreAfter w vs h → a + answered_from 
 pub answers_next : {T : Type 0} (w : World) (ps : List (Playing T)) (n a x : ℕ) → n < length w.scripts → IsAnsweredOf w n ps x
     → AnswersTo w (visits ps) n a → AnswersTo w (visits ps) (n + 1) (a + x)
 answers_next w ps n a x lt is all = λ h are.
-    let s = script_at w.scripts n lt in
+    let s = there_at w.scripts n lt in
     let script : caller_of w n ≡ IsScript s.0 =
     ap (λ (o : Option Script). option_map_or (λ (z : Script). IsScript z) o (other_caller w n)) s.1 in
     let one : x ≡ answered_by w h (n, s.0) =

@@ -25,6 +25,7 @@ use Rattle.locked.specs.Acts.{left_by, state, state_at}
 use Rattle.script_task.specs.Fitting.{fits}
 use Rattle.guest_laws.specs.Named.{Named, answer_in, named, named_step, opening}
 use Rattle.guest_laws.specs.Works.{entries, noted_net}
+use Rattle.net_base.proofs.Tests.{number_itself}
 
 -- The own entries.
 
@@ -79,13 +80,10 @@ at_from-push k n (y ∷ ys) x is = by_first (matches k y) (at_from-push k (n + 1
     by_first true rec = (rec.0, ap (λ (l : List (ℕ × Noted)). (n, y) ∷ l) rec.1)
     by_first false rec = rec
 
-same_number : (c : ℕ) → (c == c) ≡ true
-same_number c = grind (arith, nat_tests)
-
 -- an entry of the caller more
 pub own_push : (c : ℕ) (log : List Noted) (x : Noted) → x.entry.caller ≡ c
     → (m : ℕ) × (at (number.Caller c) (log ++ x ∷ []) ≡ at (number.Caller c) log ++ (m, x) ∷ [])
-own_push c log x is = at_from-push (number.Caller c) 0 log x (ap (λ (d : ℕ). d == c) is ∙ same_number c)
+own_push c log x is = at_from-push (number.Caller c) 0 log x (ap (λ (d : ℕ). d == c) is ∙ number_itself c)
 
 replies_push : (xs : List (ℕ × Noted)) (x : ℕ × Noted) → replies_of (xs ++ x ∷ []) ≡ replies_of xs ++ replies_of (x ∷ [])
 replies_push [] x = refl

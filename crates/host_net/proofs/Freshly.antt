@@ -2,7 +2,7 @@
 use Rattle.std.proofs.Common.{◌≡◌, ℕ, zero, suc, ◌+◌, ◌<◌, ◌-◌, ◌==◌, nat_lt, inl, inr, Bool, true, false, not, List, [], ◌∷◌, ◌++◌, length}
 use Rattle.std.proofs.Common.{filter, Option, Some, None, if◌then◌else◌, refl, ap, sym, subst, ◌∙◌, arith}
 use Rattle.std.specs.Option.{option_map_or}
-use Rattle.std.proofs.lemmas.Bool.{true≢false}
+use Rattle.std.proofs.lemmas.Bool.{true≢false, eqb-true}
 use Rattle.std.proofs.lemmas.Bool.Decides.{nat_tests}
 use Rattle.net_base.specs.declared.noted.Number.TheVariants as number
 use Rattle.net_base.specs.declared.world.Script.{Script}
@@ -14,37 +14,20 @@ use Rattle.net_base.specs.Versions.{Tuples, are_timed}
 use Rattle.net_base.specs.World.{IsWorld}
 use Rattle.journal.specs.Rule.{Held, caller_numbers, same_number}
 use Rattle.net_guests.specs.Visits.{AreFresh, IsFresh, Visit}
-
-in_filter : (test : Held → Bool) (h : Held) (hs : List Held) → In h hs → test h ≡ true → In h (filter test hs)
-in_filter test h [] none is = absurd none
-in_filter test h (x ∷ hs) (inl here) is = at_head (test x) (ap test (sym here) ∙ is)
-  where
-    at_head : (b : Bool) → b ≡ true → In h (if b then x ∷ filter test hs else filter test hs)
-    at_head true yes_ = inl here
-    at_head false yes_ = absurd (true≢false (sym yes_))
-in_filter test h (x ∷ hs) (inr there) is = past_head (in_filter test h hs there is) (test x)
-  where
-    past_head : In h (filter test hs) → (b : Bool) → In h (if b then x ∷ filter test hs else filter test hs)
-    past_head rest true = inr rest
-    past_head rest false = rest
-
-same_refl : (n : ℕ) → (n == n) ≡ true
-same_refl n = grind (arith, nat_tests)
+use Rattle.net_base.proofs.Tests.{number_itself}
+use Rattle.net_base.proofs.Members.{in_filter}
 
 apart : (c d : ℕ) → c < d → not (d == c) ≡ true
 apart c d lt = grind (arith, nat_tests)
 
 -- the number that is handed over
 pub given_own : (c : ℕ) (hs : List Held) → In (number.Caller c, []) hs → In (number.Caller c, []) (filter (λ (h : Held). same_number h.0 (number.Caller c)) hs)
-given_own c hs there = in_filter (λ (h : Held). same_number h.0 (number.Caller c)) (number.Caller c, []) hs there (same_refl c)
+given_own c hs there = in_filter (λ (h : Held). same_number h.0 (number.Caller c)) (number.Caller c, []) hs there (number_itself c)
 
 -- the later numbers stay
 pub kept_later : (c d : ℕ) (hs : List Held) → c < d → In (number.Caller d, []) hs
     → In (number.Caller d, []) (filter (λ (h : Held). not (same_number h.0 (number.Caller c))) hs)
 kept_later c d hs lt there = in_filter (λ (h : Held). not (same_number h.0 (number.Caller c))) (number.Caller d, []) hs there (apart c d lt)
-
-same_is : (d n : ℕ) → (d == n) ≡ true → d ≡ n
-same_is d n e = grind (arith, nat_tests)
 
 less : (d n : ℕ) → d < suc n → (d == n) ≡ false → d < n
 less d n lt e = grind (arith, nat_tests)
@@ -56,7 +39,7 @@ all_numbers (suc n) d lt = by_place (λ below. all_numbers n d below) (d == n) r
   where
     by_place : (d < n → In (number.Caller d, []) (caller_numbers n)) → (b : Bool) → (d == n) ≡ b
         → In (number.Caller d, []) ((number.Caller n, []) ∷ caller_numbers n)
-    by_place rec true is = inl (ap (λ (k : ℕ). (number.Caller k, [])) (same_is d n is))
+    by_place rec true is = inl (ap (λ (k : ℕ). (number.Caller k, [])) (eqb-true d n is))
     by_place rec false is = inr (rec (less d n lt is))
 
 -- one guest more

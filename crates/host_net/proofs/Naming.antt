@@ -2,21 +2,13 @@
 use Rattle.std.proofs.Common.{◌≡◌, ℕ, ◌-◌, ◌<◌, ◌≤◌, ◌==◌, nat_lt, Bool, true, false, List, [], ◌∷◌, length, Option, Some, None}
 use Rattle.std.proofs.Common.{slice_get, if◌then◌else◌, refl, ap, sym, ◌∙◌, zero, suc, arith}
 use Rattle.std.specs.Option.{option_map_or}
-use Rattle.std.proofs.lemmas.Bool.{true≢false}
+use Rattle.std.proofs.lemmas.Bool.{true≢false, eqb-true, eq-eqb, lt-ltb}
 use Rattle.std.proofs.lemmas.Bool.Decides.{nat_tests}
+use Rattle.std.proofs.lemmas.Option.{slice_get_past}
 use Rattle.net_base.specs.declared.world.Script.{Script}
 use Rattle.net_base.specs.declared.world.World.{World}
 use Rattle.net_base.specs.Callers.{Caller, IsClock, IsCourier, IsNobody, IsScript, caller_count, caller_of, clock_number, first_courier, other_caller}
-
-there : (ss : List Script) (c : ℕ) → c < length ss → (s : Script) × (slice_get ss c ≡ Some s)
-there [] c lt = absurd (omega (arith, lt))
-there (s ∷ ss) zero lt = (s, refl)
-there (s ∷ ss) (suc c) lt = there ss c (omega (arith, lt))
-
-beyond : (ss : List Script) (c : ℕ) → length ss ≤ c → slice_get ss c ≡ None
-beyond [] c le = refl
-beyond (s ∷ ss) zero le = absurd (omega (arith, le))
-beyond (s ∷ ss) (suc c) le = beyond ss c (omega (arith, le))
+use Rattle.net_base.proofs.Members.{there_at}
 
 by_script : (w : World) (c : ℕ) (o : Option Script) → slice_get w.scripts c ≡ o
     → caller_of w c ≡ option_map_or (λ (s : Script). IsScript s) o (other_caller w c)
@@ -28,29 +20,17 @@ by_number w c a b lt is =
     ap (λ (x : Bool). if x then IsCourier (c - first_courier w) else (if c == clock_number w then IsClock else IsNobody)) lt
     ∙ ap (λ (x : Bool). if a then IsCourier (c - first_courier w) else (if x then IsClock else IsNobody)) is
 
-below : (m n : ℕ) → m < n → nat_lt m n ≡ true
-below m n lt = grind (arith, nat_tests)
-
 not_below : (m n : ℕ) → m ≡ n → nat_lt m n ≡ false
 not_below m n is = grind (arith, nat_tests)
 
-equals : (m n : ℕ) → m ≡ n → (m == n) ≡ true
-equals m n is = grind (arith, nat_tests)
-
-is_equal : (m n : ℕ) → (m == n) ≡ true → m ≡ n
-is_equal m n is = grind (arith, nat_tests)
-
-pub script_of : (w : World) (c : ℕ) → c < length w.scripts → (s : Script) × (caller_of w c ≡ IsScript s)
-script_of w c lt = let found = there w.scripts c lt in (found.0, by_script w c (Some found.0) found.1)
-
 pub courier_of : (w : World) (c : ℕ) → length w.scripts ≤ c → c - length w.scripts < length w.media → caller_of w c ≡ IsCourier (c - length w.scripts)
 courier_of w c le lt =
-    by_script w c None (beyond w.scripts c le) ∙ by_number w c true (c == clock_number w) (below c (clock_number w) (omega (arith, le, lt))) refl
+    by_script w c None (slice_get_past w.scripts c le) ∙ by_number w c true (c == clock_number w) (lt-ltb c (clock_number w) (omega (arith, le, lt))) refl
 
 pub clock_of : (w : World) (c : ℕ) → length w.scripts ≤ c → length w.media ≤ c - length w.scripts → c < caller_count w → caller_of w c ≡ IsClock
 clock_of w c le ge lt =
     let is : c ≡ clock_number w = omega (arith, le, ge, lt) in
-    by_script w c None (beyond w.scripts c le) ∙ by_number w c false true (not_below c (clock_number w) is) (equals c (clock_number w) is)
+    by_script w c None (slice_get_past w.scripts c le) ∙ by_number w c false true (not_below c (clock_number w) is) (eq-eqb c (clock_number w) is)
 
 abbrev is_clock : Caller → Bool
 is_clock IsClock = true
@@ -61,7 +41,7 @@ clock_number_by : (w : World) (c : ℕ) (o : Option Script) (a b : Bool) → (c 
     → c ≡ clock_number w
 clock_number_by w c (Some s) a b is clock = absurd (true≢false (sym clock))
 clock_number_by w c None true b is clock = absurd (true≢false (sym clock))
-clock_number_by w c None false true is clock = is_equal c (clock_number w) is
+clock_number_by w c None false true is clock = eqb-true c (clock_number w) is
 clock_number_by w c None false false is clock = absurd (true≢false (sym clock))
 
 clock_number_is : (w : World) (c : ℕ) → caller_of w c ≡ IsClock → c ≡ clock_number w

@@ -40,7 +40,7 @@ use Rattle.host_net.specs.Playing.{GoesOn, HasRole, IsPlayed, IsPlayer, Playing}
 use Rattle.net_guests.specs.Visits.{HasGuest, IsWith, Visit}
 use Rattle.net_locks.specs.Turns.{Stays, bare, own}
 use Rattle.locked.specs.Acts.{made, without_copy}
-use Rattle.net_guests.proofs.Shared.{same_number_is}
+use Rattle.net_base.proofs.Tests.{number_itself}
 
 -- A player stays one where its caller recorded nothing.
 
@@ -126,7 +126,7 @@ pushed : (c stamp : ℕ) (log : List Noted) (x : Noted) → x.entry.caller ≡ c
     → at (number.Caller c) (log ++ x ∷ []) ≡ at (number.Caller c) log ++ (stamp, x) ∷ []
 pushed c stamp log x is long =
     let last : 0 + length log ≡ stamp = omega (arith, long) in
-    push_from c 0 log x (ap (λ (d : ℕ). d == c) is ∙ same_number_is c)
+    push_from c 0 log x (ap (λ (d : ℕ). d == c) is ∙ number_itself c)
     ∙ ap (λ (k : ℕ). at (number.Caller c) log ++ (k, x) ∷ []) last
 
 -- a move owes its ticks alone

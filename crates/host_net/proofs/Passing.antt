@@ -14,9 +14,7 @@ use Rattle.host_net.specs.declared.player.Role.{Role}
 use Rattle.host_net.specs.Advancing.{Advances, AreBack, AreLent, other_players}
 use Rattle.host_net.specs.Groups.{Apart, Grouped, NotIn, callers_of, visits}
 use Rattle.host_net.specs.Playing.{Playing}
-
-pub test_turned : (a b : ℕ) → (a == b) ≡ false → (b == a) ≡ false
-test_turned a b other = grind (arith, nat_tests, other)
+use Rattle.net_base.proofs.Tests.{apart_turned}
 
 abbrev pub player : {T : Type 0} → Visit → Role → T → Bool → Bool → Playing T
 player v who task lost counts = record { visit = v; role = who; task = task; lost = lost; counts = counts }
@@ -74,7 +72,7 @@ module _ {T : Type 0} (ts : Tasks) (w : World) (r : Roster) (who : Role) (task :
 
       -- the first player's caller is with the clock's guest still, which is another
       pub still_with : IsWith w r me had.sight
-      still_with = stay_here me (test_turned clock.caller me.caller apart_here.0.0, apart_here.1.0) lent_one
+      still_with = stay_here me (apart_turned clock.caller me.caller apart_here.0.0, apart_here.1.0) lent_one
 
       pub other : (had.caller == me.caller) ≡ false
       other = subst (λ (c : ℕ). (c == me.caller) ≡ false) (sym had_caller) apart_here.0.0

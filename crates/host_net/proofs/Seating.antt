@@ -20,26 +20,10 @@ use Rattle.host_net.specs.Groups.{all_seats, caller, callers_in, callers_of, joi
 use Rattle.host_net.specs.Groups.{with_last}
 use Rattle.host_net.specs.Playing.{ArePlayed, HasRole, IsPlayed, IsWaiting, Playing}
 use Rattle.net_guests.specs.Visits.{HasGuest, Visit}
+use Rattle.net_base.proofs.Tests.{apart_turned}
+use Rattle.net_base.proofs.Members.{in_front, in_back, in_parts, in_of_get}
 
 -- Members of lists.
-
-pub in_parts : {A : Type 0} (x : A) (xs ys : List A) → In x (xs ++ ys) → In x xs ⊎ In x ys
-in_parts x [] ys there = inr there
-in_parts x (z ∷ xs) ys (inl here) = inl (inl here)
-in_parts x (z ∷ xs) ys (inr there) = more (in_parts x xs ys there)
-  where
-    more : In x xs ⊎ In x ys → In x (z ∷ xs) ⊎ In x ys
-    more (inl one) = inl (inr one)
-    more (inr other) = inr other
-
-in_first : {A : Type 0} (x : A) (xs ys : List A) → In x xs → In x (xs ++ ys)
-in_first x [] ys none = absurd none
-in_first x (z ∷ xs) ys (inl here) = inl here
-in_first x (z ∷ xs) ys (inr there) = inr (in_first x xs ys there)
-
-in_second : {A : Type 0} (x : A) (xs ys : List A) → In x ys → In x (xs ++ ys)
-in_second x [] ys there = there
-in_second x (z ∷ xs) ys there = inr (in_second x xs ys there)
 
 map_append : {A B : Type 0} (f : A → B) (xs ys : List A) → map f (xs ++ ys) ≡ map f xs ++ map f ys
 map_append f [] ys = refl
@@ -68,9 +52,6 @@ inserts_back c zs old new is =
 other_number : (n d : ℕ) → d < n → (n == d) ≡ false
 other_number n d lt = grind (arith, nat_tests)
 
-turned : (n d : ℕ) → (n == d) ≡ false → (d == n) ≡ false
-turned n d e = grind (arith, nat_tests)
-
 not_below : (n : ℕ) (cs : List ℕ) → ((c : ℕ) → In c cs → c < n) → NotIn n cs
 not_below n [] known = tt
 not_below n (d ∷ ds) known = (other_number n d (known d (inl refl)), not_below n ds (λ c there. known c (inr there)))
@@ -81,7 +62,7 @@ not_in_more d n (x ∷ xs) ys other not_in = (not_in.0, not_in_more d n xs ys ot
 
 apart_more : (n : ℕ) (xs ys : List ℕ) → Apart (xs ++ ys) → NotIn n (xs ++ ys) → Apart (xs ++ n ∷ ys)
 apart_more n [] ys apart not_in = (not_in, apart)
-apart_more n (x ∷ xs) ys apart not_in = (not_in_more x n xs ys (turned n x not_in.0) apart.0, apart_more n xs ys apart.1 not_in.1)
+apart_more n (x ∷ xs) ys apart not_in = (not_in_more x n xs ys (apart_turned n x not_in.0) apart.0, apart_more n xs ys apart.1 not_in.1)
 
 by_less : (n c : ℕ) → c < n + 1 → (c < n) ⊎ (c ≡ n)
 by_less n c lt = by_test (nat_lt c n) refl
@@ -102,17 +83,17 @@ up_to_more n old new are is =
     })
   where
     widen : (c : ℕ) → In c is.before ⊎ In c is.behind → In c (is.before ++ n ∷ is.behind)
-    widen c (inl first) = in_first c is.before (n ∷ is.behind) first
-    widen c (inr second) = in_second c is.before (n ∷ is.behind) (inr second)
+    widen c (inl first) = in_front c is.before (n ∷ is.behind) first
+    widen c (inr second) = in_back c is.before (n ∷ is.behind) (inr second)
 
     has : (c : ℕ) → (c < n) ⊎ (c ≡ n) → ((d : ℕ) → d < n → In d (is.before ++ is.behind)) → In c (is.before ++ n ∷ is.behind)
     has c (inl lt) all = widen c (in_parts c is.before is.behind (all c lt))
-    has c (inr same) all = in_second c is.before (n ∷ is.behind) (inl same)
+    has c (inr same) all = in_back c is.before (n ∷ is.behind) (inl same)
 
     below : (c : ℕ) → In c is.before ⊎ In c (n ∷ is.behind) → ((d : ℕ) → In d (is.before ++ is.behind) → d < n) → c < n + 1
-    below c (inl first) known = omega (arith, known c (in_first c is.before is.behind first))
+    below c (inl first) known = omega (arith, known c (in_front c is.before is.behind first))
     below c (inr (inl same)) known = omega (arith, same)
-    below c (inr (inr second)) known = omega (arith, known c (in_second c is.before is.behind second))
+    below c (inr (inr second)) known = omega (arith, known c (in_back c is.before is.behind second))
 
 -- A player joins a group.
 
@@ -213,11 +194,6 @@ module _ {T : Type 0} where
   get_seats (x ∷ gs) zero g is = ap (λ (y : Grouped T). Some (seats y)) (same_Some x g is)
   get_seats (x ∷ gs) (suc j) g is = get_seats gs j g is
 
-get_in : {A : Type 0} (xs : List A) (j : ℕ) (x : A) → slice_get xs j ≡ Some x → In x xs
-get_in [] j x is = absurd (none-some x is)
-get_in (y ∷ xs) zero x is = inl (sym (same_Some y x is))
-get_in (y ∷ xs) (suc j) x is = inr (get_in xs j x is)
-
 in_get : {A : Type 0} (xs : List A) (x : A) → In x xs → (j : ℕ) × (slice_get xs j ≡ Some x)
 in_get [] x none = absurd none
 in_get (y ∷ xs) x (inl here) = (0, ap Some (sym here))
@@ -230,14 +206,14 @@ inserted c d old new is there = which (in_parts d is.before (c ∷ is.behind) (s
     back found = inl (subst (λ (l : List ℕ). In d l) (sym is.old_is) found)
 
     which : In d is.before ⊎ In d (c ∷ is.behind) → In d old ⊎ (d ≡ c)
-    which (inl first) = back (in_first d is.before is.behind first)
+    which (inl first) = back (in_front d is.before is.behind first)
     which (inr (inl same)) = inr same
-    which (inr (inr second)) = back (in_second d is.before is.behind second)
+    which (inr (inr second)) = back (in_back d is.before is.behind second)
 
 in_all : (ss : List Seats) (s : Seats) (c : ℕ) → In s ss → In c (callers_in s) → In c (all_callers ss)
 in_all [] s c none there = absurd none
-in_all (x ∷ ss) s c (inl here) there = in_first c (callers_in x) (all_callers ss) (subst (λ (y : Seats). In c (callers_in y)) here there)
-in_all (x ∷ ss) s c (inr behind) there = in_second c (callers_in x) (all_callers ss) (in_all ss s c behind there)
+in_all (x ∷ ss) s c (inl here) there = in_front c (callers_in x) (all_callers ss) (subst (λ (y : Seats). In c (callers_in y)) here there)
+in_all (x ∷ ss) s c (inr behind) there = in_back c (callers_in x) (all_callers ss) (in_all ss s c behind there)
 
 module _ {T : Type 0} (w : World) (n : ℕ) (gs : List (Grouped T)) (dealt : IsDealt w n (all_seats gs)) (p : Playing T) (next : caller p ≡ n)
     (has : HasRole w (caller p) p.role) (place : ℕ) where
@@ -261,7 +237,7 @@ module _ {T : Type 0} (w : World) (n : ℕ) (gs : List (Grouped T)) (dealt : IsD
 
           among : In (caller q) (callers_in (seats g))
           among = subst (λ (o : Option (Playing T)). In (caller q) (with_last (callers_of g.players) (option_map caller o))) (sym is)
-              (in_second (caller q) (callers_of g.players) (caller q ∷ []) (inl refl))
+              (in_back (caller q) (callers_of g.players) (caller q ∷ []) (inl refl))
 
           below : caller q < n
           below = dealt.callers.known (caller q) (in_all (all_seats gs) (seats g) (caller q) there among)
@@ -270,13 +246,13 @@ module _ {T : Type 0} (w : World) (n : ℕ) (gs : List (Grouped T)) (dealt : IsD
   seats_many = seats_long gs
 
   pub alone_at : ((a b : ℕ) → caller_of w a ≡ IsClock → caller_of w b ≡ IsClock → a ≡ b) → IsAlone place gs p
-  alone_at one g is = alone_from one g (get_in (all_seats gs) place (seats g) (get_seats gs place g is))
+  alone_at one g is = alone_from one g (in_of_get (all_seats gs) place (seats g) (get_seats gs place g is))
 
   seated_at : (k j : ℕ) (s : Seats) → (slice_get (all_seats gs) j ≡ Some s) ⊎ Joined k gs p j s → IsSeated w s
-  seated_at k j s (inl old) = dealt.seated s (get_in (all_seats gs) j s old)
+  seated_at k j s (inl old) = dealt.seated s (in_of_get (all_seats gs) j s old)
   seated_at k j s (inr new) =
       subst (λ (x : Seats). IsSeated w x) (sym new.is)
-      (group_seated w p.role new.group p has (dealt.seated (seats new.group) (get_in (all_seats gs) j (seats new.group) (get_seats gs j new.group new.there))))
+      (group_seated w p.role new.group p has (dealt.seated (seats new.group) (in_of_get (all_seats gs) j (seats new.group) (get_seats gs j new.group new.there))))
 
   placed_at : (deal : List ℕ) → Follows deal (all_seats gs) → place ≡ seat_of deal n (length gs) → IsAlone place gs p → (j : ℕ) (s : Seats) (c : ℕ)
       → (slice_get (all_seats gs) j ≡ Some s) ⊎ Joined place gs p j s → In c (callers_in s) → seat_of deal c (length (all_seats gs)) ≡ j
@@ -353,11 +329,11 @@ no_others w s is =
   where
     others_in : (o : Option ℕ) (c : ℕ) → In c s.others → In c (with_last s.others o)
     others_in None c there = there
-    others_in (Some k) c there = in_first c s.others (k ∷ []) there
+    others_in (Some k) c there = in_front c s.others (k ∷ []) there
 
     no_clock : (o : Option ℕ) → with_last s.others o ≡ [] → IfSome o (λ (c : ℕ). caller_of w c ≡ IsClock)
     no_clock None none = tt
-    no_clock (Some k) none = absurd (subst (λ (l : List ℕ). In k l) none (in_second k s.others (k ∷ []) (inl refl)))
+    no_clock (Some k) none = absurd (subst (λ (l : List ℕ). In k l) none (in_back k s.others (k ∷ []) (inl refl)))
 
 pub none_dealt : {T : Type 0} (w : World) (gs : List (Grouped T)) → 0 < length gs → AreEmpty gs → IsDealt w 0 (all_seats gs)
 none_dealt w gs some are =
@@ -369,7 +345,7 @@ none_dealt w gs some are =
     }
 
 pub none_follow : {T : Type 0} (deal : List ℕ) (gs : List (Grouped T)) → AreEmpty gs → Follows deal (all_seats gs)
-none_follow deal gs are k s c is there = absurd (subst (λ (l : List ℕ). In c l) (are s (get_in (all_seats gs) k s is)) there)
+none_follow deal gs are k s c is there = absurd (subst (λ (l : List ℕ). In c l) (are s (in_of_get (all_seats gs) k s is)) there)
 
 -- What is set at a place.
 
@@ -424,10 +400,6 @@ some_short {T = T} h after first others (inr there) = or_true h.memory (list_any
     or_true false b is = is
 
 -- Waiting.
-
-not_either : (a b : Bool) → (a || b) ≡ false → (a ≡ false) × (b ≡ false)
-not_either true b is = absurd (true≢false is)
-not_either false b is = (refl, is)
 
 module _ {T : Type 0} (ts : Tasks) (w : World) where
   pub waiting_parts : (xs ys : List (Playing T)) → AreWaiting ts w xs → AreWaiting ts w ys → AreWaiting ts w (xs ++ ys)

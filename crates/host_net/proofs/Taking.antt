@@ -8,7 +8,7 @@ use Rattle.std.proofs.lemmas.Option.{none-some, same_Some}
 use Rattle.net_base.specs.declared.world.World.{World}
 use Rattle.net_base.specs.Stamped.{In}
 use Rattle.net_base.specs.Tasks.{Tasks}
-use Rattle.net_guests.proofs.Shared.{in_back, in_front, none_more, same_number_is, last_or}
+use Rattle.net_guests.proofs.Shared.{none_more, last_or}
 use Rattle.net_locks.specs.declared.clock.Advance.{Advance}
 use Rattle.net_locks.specs.declared.clock.Advance.TheVariants as advance
 use Rattle.host_net.specs.Advancing.{AreBack, AreKept, ClockStays, EachIsKept, GroupsAreBack, GroupsAreKept, IsBack, IsClockKept}
@@ -17,6 +17,8 @@ use Rattle.host_net.specs.Groups.{Apart, Grouped, NotIn, all_callers, all_member
 use Rattle.host_net.specs.Playing.{Playing}
 use Rattle.net_locks.specs.Turns.{Stays}
 use Rattle.net_guests.specs.Visits.{Visit}
+use Rattle.net_base.proofs.Tests.{number_itself}
+use Rattle.net_base.proofs.Members.{in_front, in_back}
 
 -- Numbers.
 
@@ -34,7 +36,7 @@ not_there c d (x ∷ xs) none (inl is) = ap (λ (n : ℕ). c == n) is ∙ none.0
 not_there c d (x ∷ xs) none (inr there) = not_there c d xs none.1 there
 
 pub not_itself : (c : ℕ) (xs : List ℕ) → NotIn c xs → In c xs → ⊥
-not_itself c xs none there = true≢false (sym (same_number_is c) ∙ not_there c c xs none there)
+not_itself c xs none there = true≢false (sym (number_itself c) ∙ not_there c c xs none there)
 
 pub all_not : (c : ℕ) (xs : List ℕ) → ((d : ℕ) → In d xs → (c == d) ≡ false) → NotIn c xs
 all_not c [] each = tt

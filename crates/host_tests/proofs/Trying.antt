@@ -9,13 +9,13 @@ use Rattle.net_base.specs.declared.world.World.{World}
 use Rattle.net_base.specs.Actors.{Actor, actor_step, has_actor, opening_actor}
 use Rattle.net_base.specs.Net.{Play, actors_after, play, played, stepped_to}
 use Rattle.net_base.specs.Stamped.{same_actor}
-use Rattle.history_laws.proofs.Shared.{same_actor_is}
 use Rattle.net_base.specs.World.{IsDatabase, IsWorld}
 use Rattle.net_actors.specs.Numbers.{is_among}
 use Rattle.net_actors.specs.Small.{IsSmall}
 use Rattle.net_actors.specs.Together.{AreActors, CanStep, Numbered, Steps}
 use Rattle.host_tests.specs.Tried.{AreLedTo, IsLedTo, tried_world}
 use Rattle.net_actors.proofs.Shared.{few_works, among_is}
+use Rattle.net_base.proofs.SameNames.{same_actor_is}
 
 pub none_led : (w : World) (v : Numbered) → AreActors w v (opening_actor w.timers) → AreLedTo w v 0
 none_led w v are = record { states = opening_actor w.timers; are = are; led = λ a. record { works = []; led = refl; few = omega arith } }

@@ -13,18 +13,19 @@ use Rattle.journal.specs.declared.tokens.Sight.{Sight}
 use Rattle.journal.specs.declared.tokens.Volume.{Volume}
 use Rattle.journal.specs.Tokens.{Agrees, OnlyCallers, sight, stamped, volume, first, HoldsAll, Recorded, LookedWith, Met}
 use Rattle.journal.proofs.Bounds.{whole_seen, lawful-before}
-use Rattle.journal.proofs.Names.{same_actor_refl}
-use Rattle.journal.proofs.Lists.{at-length, in-left, in-right, in-gained}
+use Rattle.journal.proofs.Lists.{at-length, in-gained}
 use Rattle.journal.proofs.Steps.{gained, in_has_caller, in-filter, filter_has_caller}
+use Rattle.net_base.proofs.Members.{in_front, in_back}
+use Rattle.net_base.proofs.SameNames.{same_itself}
 
 -- the number of an actor is told from those of callers
 pub kept_is : (hs : List Held) (a : ActorName) (l : List (ℕ × Noted)) → OnlyCallers hs → filter (λ (h : Held). not (same_number h.0 (number.Actor a))) (hs ++ (number.Actor a, l) ∷ []) ≡ hs
-kept_is [] a l o = rw (same_actor_refl a) refl
+kept_is [] a l o = rw (same_itself a) refl
 kept_is ((number.Caller c, es) ∷ hs) a l o = let r = kept_is hs a l (λ k fs i. o k fs (inr i)) in ap (λ (t : List Held). (number.Caller c, es) ∷ t) r
 kept_is ((number.Actor b, es) ∷ hs) a l o = absurd (o (number.Actor b) es (inl refl))
 
 pub given_is : (hs : List Held) (a : ActorName) (l : List (ℕ × Noted)) → OnlyCallers hs → filter (λ (h : Held). same_number h.0 (number.Actor a)) (hs ++ (number.Actor a, l) ∷ []) ≡ (number.Actor a, l) ∷ []
-given_is [] a l o = rw (same_actor_refl a) refl
+given_is [] a l o = rw (same_itself a) refl
 given_is ((number.Caller c, es) ∷ hs) a l o = given_is hs a l (λ k fs i. o k fs (inr i))
 given_is ((number.Actor b, es) ∷ hs) a l o = absurd (o (number.Actor b) es (inl refl))
 
@@ -74,8 +75,8 @@ met r v u w n a b d p q e f =
       this = d.olds v.seen (inl refl);
       that = d.olds u.seen (inr (inl refl));
       lists = d.lists;
-      moment_is = λ h. ap (latest 0) (d.clocks v.clock (has_caller-left v.held u.held h) (in-left v.clock (clock_of v) (clock_of u) (clock_among v h)) ∙ sym (a.clock_is h));
-      moment_that = λ h. ap (latest 0) (d.clocks u.clock (has_caller-right v.held u.held h) (in-right u.clock (clock_of v) (clock_of u) (clock_among u h)) ∙ sym (b.clock_is h));
+      moment_is = λ h. ap (latest 0) (d.clocks v.clock (has_caller-left v.held u.held h) (in_front v.clock (clock_of v) (clock_of u) (clock_among v h)) ∙ sym (a.clock_is h));
+      moment_that = λ h. ap (latest 0) (d.clocks u.clock (has_caller-right v.held u.held h) (in_back u.clock (clock_of v) (clock_of u) (clock_among u h)) ∙ sym (b.clock_is h));
       lawful = d.lawful;
     } in
     subst (λ (z : Sight). Met r p z (sight w)) f (subst (λ (z : Sight). Met r z (sight u) (sight w)) e whole)
@@ -94,7 +95,7 @@ volume_is a i n views v k list e h =
 
 module _ (v u : View) (a : ActorName) (list : List (ℕ × Noted)) (agrees : Agrees v) (callers : OnlyCallers v.held) (held : u.held ≡ (number.Actor a, list) ∷ []) where
   pub book_in : In (number.Actor a, list) (both v u).held
-  book_in = in-right (number.Actor a, list) v.held u.held (subst (λ (hs : List Held). In (number.Actor a, list) hs) (sym held) (inl refl))
+  book_in = in_back (number.Actor a, list) v.held u.held (subst (λ (hs : List Held). In (number.Actor a, list) hs) (sym held) (inl refl))
 
   pub may_add : (r : Roster) (x : Noted) (es : List (ℕ × Noted)) → In (number.Caller x.entry.caller, es) v.held → length es < 131072 → x.entry.actor ≡ a → x.entry.moment ≡ moment v.seen
       → x.entry.event ≡ x.work.event → Timely r v.held x → MayAdd r (both v u) x
@@ -103,18 +104,18 @@ module _ (v u : View) (a : ActorName) (list : List (ℕ × Noted)) (agrees : Agr
       record {
         of_caller = es;
         of_actor = list;
-        caller = in-left (number.Caller x.entry.caller, es) v.held u.held i;
+        caller = in_front (number.Caller x.entry.caller, es) v.held u.held i;
         actor = subst (λ (b : ActorName). In (number.Actor b, list) (both v u).held) (sym is) book_in;
         moment_is = rw h (now ∙ ap (latest 0) (agrees.clock_is h));
         room = room;
         event_is = event;
-        timely = ⊎_elim (λ m. inl m) (λ all. inr (λ c lt. let t = all c lt in (t.0, in-left (number.Caller c, t.0) v.held u.held t.1))) timely;
+        timely = ⊎_elim (λ m. inl m) (λ all. inr (λ c lt. let t = all c lt in (t.0, in_front (number.Caller c, t.0) v.held u.held t.1))) timely;
       }
 
   module _ (r : Roster) (x : Noted) (n : ℕ) (w : View) (d : Adds r x (both v u) n w) (es : List (ℕ × Noted)) (caller : In (number.Caller x.entry.caller, es) v.held) (is : x.entry.actor ≡ a) where
     all_held : w.held ≡ map (gain n x) v.held ++ (number.Actor a, list ++ (n, x) ∷ []) ∷ []
     all_held =
-        let own : matches (number.Actor a) x ≡ true = ap (λ (b : ActorName). same_actor b a) is ∙ same_actor_refl a in
+        let own : matches (number.Actor a) x ≡ true = ap (λ (b : ActorName). same_actor b a) is ∙ same_itself a in
         let g : gain n x (number.Actor a, list) ≡ (number.Actor a, list ++ (n, x) ∷ []) = λ i. (number.Actor a, if own i then list ++ (n, x) ∷ [] else list) in
         d.held ∙ ap (λ (hs : List Held). map (gain n x) (v.held ++ hs)) held ∙ map-snoc (gain n x) v.held (number.Actor a, list) ∙ ap (λ (h : Held). map (gain n x) v.held ++ h ∷ []) g
 
@@ -137,13 +138,13 @@ module _ (v u : View) (a : ActorName) (list : List (ℕ × Noted)) (agrees : Agr
     pass_agrees = record {
       lists = λ k fs i.
           let t = in-gained n x v.held k fs (subst (λ (hs : List Held). In (k, fs) hs) kept_held i) in
-          after k t.0 (d.lists k t.0 (in-left (k, t.0) v.held u.held t.1)) ∙ sym t.2;
+          after k t.0 (d.lists k t.0 (in_front (k, t.0) v.held u.held t.1)) ∙ sym t.2;
       clock_is = λ h. after clock v.clock clock_then ∙ sym (d.clock_is ∙ rw has refl);
     }
 
     pub book_agrees : at (number.Actor a) w.seen ≡ list ++ (n, x) ∷ []
     book_agrees =
-        let own : matches (number.Actor a) x ≡ true = ap (λ (b : ActorName). same_actor b a) is ∙ same_actor_refl a in
+        let own : matches (number.Actor a) x ≡ true = ap (λ (b : ActorName). same_actor b a) is ∙ same_itself a in
         after (number.Actor a) list (d.lists (number.Actor a) list book_in) ∙ rw own refl
 
     pub book_short : length (list ++ (n, x) ∷ []) ≤ 4849664
@@ -162,11 +163,11 @@ module _ (v u : View) (a : ActorName) (list : List (ℕ × Noted)) (agrees : Agr
           pass_before = d.olds v.seen (inl refl);
           book_before = d.olds u.seen (inr (inl refl));
           held = kept_held;
-          lists = λ k es i. d.lists k es (in-left (k, es) v.held u.held i);
+          lists = λ k es i. d.lists k es (in_front (k, es) v.held u.held i);
           actor_list = d.lists (number.Actor a) list book_in;
           moment_is = ap (latest 0) (clock_then ∙ sym (agrees.clock_is has));
           moment_kept = λ other. ap (latest 0) (after clock v.clock clock_then ∙ ap (λ (b : Bool). if b then v.clock ++ (n, x) ∷ [] else v.clock) other ∙ sym (agrees.clock_is has));
-          whole = all_seen r v d.past agrees (lawful-before r d.past (x ∷ []) (subst (Lawful r) d.seen d.lawful)) (d.olds v.seen (inl refl)) (λ k es i. d.lists k es (in-left (k, es) v.held u.held i));
+          whole = all_seen r v d.past agrees (lawful-before r d.past (x ∷ []) (subst (Lawful r) d.seen d.lawful)) (d.olds v.seen (inl refl)) (λ k es i. d.lists k es (in_front (k, es) v.held u.held i));
           lawful = d.lawful;
           book_list = refl;
           book_actor = (refl, refl);
@@ -187,7 +188,7 @@ module _ (v u : View) (a : ActorName) (list : List (ℕ × Noted)) (agrees : Agr
     look_given = ap (filter (λ (h : Held). same_number h.0 (number.Actor a))) look_held ∙ given_is v.held a list callers
 
     pub look_lists : (k : Number) (es : List (ℕ × Noted)) → In (k, es) v.held → at k w.seen ≡ es
-    look_lists k es i = d.lists k es (subst (λ (hs : List Held). In (k, es) hs) (sym d.held) (in-left (k, es) v.held u.held i))
+    look_lists k es i = d.lists k es (subst (λ (hs : List Held). In (k, es) hs) (sym d.held) (in_front (k, es) v.held u.held i))
 
     pub look_actor : at (number.Actor a) w.seen ≡ list
     look_actor = d.lists (number.Actor a) list (subst (λ (hs : List Held). In (number.Actor a, list) hs) (sym d.held) book_in)

@@ -10,8 +10,9 @@ use Rattle.net_base.specs.declared.noted.Number.TheVariants as number
 use Rattle.net_base.specs.Stamped.{In}
 use Rattle.journal.specs.Rule.{Held, gain, same_number}
 use Rattle.journal.specs.Tokens.{Counted}
-use Rattle.journal.proofs.Lists.{in-append, in-left, in-right, in-gained, in-gain}
+use Rattle.journal.proofs.Lists.{in-gained, in-gain}
 use Rattle.journal.proofs.Steps.{in-filter, not_both}
+use Rattle.net_base.proofs.Members.{in_front, in_back, in_parts}
 
 -- what stands in the lists before stands in them, gained, after
 pub counts_gain : (counts : List ℕ) (hs : List Held) (n : ℕ) (x : Noted) (cs : List (ℕ × Noted)) → Counted counts hs → In (number.Caller x.entry.caller, cs) hs → length cs < 131072
@@ -108,25 +109,25 @@ counts_met as' bs cs hs ks all long each agree a b = record {
       (λ t. let o = a.each c es t in let m = each c o.0 in let o1 = o.1 in ⊎_elim
       (λ z. (o.0, m ∙ omega arith, o.2))
       (λ z. let q = b.each c z.0 z.1 in let q1 = q.1 in
-      let same = sym (agree (number.Caller c) es i) ∙ agree (number.Caller c) z.0 (in-right (number.Caller c, z.0) hs ks z.1) in
+      let same = sym (agree (number.Caller c) es i) ∙ agree (number.Caller c) z.0 (in_back (number.Caller c, z.0) hs ks z.1) in
       let lens : length es ≡ length z.0 = ap length same in
       (o.0, m ∙ omega arith, o.2))
       (b.none c))
       (λ t. let o = b.each c es t in let m = each c o.0 in let o1 = o.1 in ⊎_elim
       (λ z. (o.0, m ∙ omega arith, o.2))
       (λ z. let q = a.each c z.0 z.1 in let q1 = q.1 in
-      let same = sym (agree (number.Caller c) es i) ∙ agree (number.Caller c) z.0 (in-left (number.Caller c, z.0) hs ks z.1) in
+      let same = sym (agree (number.Caller c) es i) ∙ agree (number.Caller c) z.0 (in_front (number.Caller c, z.0) hs ks z.1) in
       let lens : length es ≡ length z.0 = ap length same in
       (o.0, m ∙ omega arith, o.2))
       (a.none c))
-      (in-append (number.Caller c, es) hs ks i);
+      (in_parts (number.Caller c, es) hs ks i);
   none = λ c. dite (dec_lt c 37)
       (λ lt. let m = each c lt in ⊎_elim
       (λ z. ⊎_elim
       (λ y. inl (m ∙ omega arith))
-      (λ y. inr (y.0, in-right (number.Caller c, y.0) hs ks y.1))
+      (λ y. inr (y.0, in_back (number.Caller c, y.0) hs ks y.1))
       (b.none c))
-      (λ z. inr (z.0, in-left (number.Caller c, z.0) hs ks z.1))
+      (λ z. inr (z.0, in_front (number.Caller c, z.0) hs ks z.1))
       (a.none c))
       (λ ge. inl (get_or_past cs c 0 (omega arith)));
 }

@@ -16,8 +16,8 @@ use Rattle.journal.specs.declared.law.View.{View}
 use Rattle.journal.specs.declared.tokens.Volume.{Volume}
 use Rattle.journal.specs.Rule.{Held, IsSeat, IsCaller, caller_numbers, actor_numbers, same_number, without, only}
 use Rattle.journal.specs.Tokens.{IsPass, Distinct, IsBlank, AreBlank, Dealt}
-use Rattle.journal.proofs.Names.{same_actor_is, same_actor_refl}
 use Rattle.journal.proofs.After.{zeros_at}
+use Rattle.net_base.proofs.SameNames.{same_actor_is, same_itself}
 
 abbrev keep : ActorName → Held → Bool
 keep a h = not (same_number h.0 (number.Actor a))
@@ -98,14 +98,14 @@ module _ (callers : ℕ) (actors : List ActorName) (i : ℕ) (v : View) (books :
 
   pub dealt_given : (only (number.Actor a) v).held ≡ (number.Actor a, []) ∷ []
   dealt_given =
-      let own = same_actor_refl a in
+      let own = same_itself a in
       ap (filter (give a)) held_is ∙ given_callers a callers ((number.Actor a, []) ∷ actor_numbers (drop (suc i) actors))
       ∙ (ap (λ (b : Bool). if b then (number.Actor a, []) ∷ filter (give a) (actor_numbers (drop (suc i) actors)) else filter (give a) (actor_numbers (drop (suc i) actors))) own
       ∙ ap (λ (t : List Held). (number.Actor a, []) ∷ t) (given_actors a (drop (suc i) actors) apart))
 
   dealt_kept : (without (number.Actor a) v).held ≡ caller_numbers callers ++ actor_numbers (drop (suc i) actors)
   dealt_kept =
-      let own = same_actor_refl a in
+      let own = same_itself a in
       ap (filter (keep a)) held_is ∙ kept_callers a callers ((number.Actor a, []) ∷ actor_numbers (drop (suc i) actors))
       ∙ ap (λ (t : List Held). caller_numbers callers ++ t)
       (ap (λ (b : Bool). if not b then (number.Actor a, []) ∷ filter (keep a) (actor_numbers (drop (suc i) actors)) else filter (keep a) (actor_numbers (drop (suc i) actors))) own ∙ kept_actors a (drop (suc i) actors) apart)

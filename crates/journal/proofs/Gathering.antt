@@ -21,8 +21,9 @@ use Rattle.journal.specs.Tokens.{stamped, sight, Agrees, HoldsAll}
 use Rattle.std.proofs.lemmas.List.{length-map}
 use Rattle.journal.proofs.After.{all_seen}
 use Rattle.journal.specs.Closing.{plain, Taken, Gathered, IsWhole, IsCover, IsLeft, AreOf, AreAllOf, AreAt}
-use Rattle.journal.proofs.Lists.{prefix_self, prefix_trans, in-append, in-left, in-right}
-use Rattle.journal.proofs.Names.{same_actor_refl}
+use Rattle.journal.proofs.Lists.{prefix_self, prefix_trans}
+use Rattle.net_base.proofs.Members.{in_front, in_back, in_parts}
+use Rattle.net_base.proofs.SameNames.{same_itself}
 
 in-map : (l : List (ℕ × Noted)) (y : ℕ × Noted) → In y l → In (stamped y) (map stamped l)
 in-map [] y i = absurd i
@@ -45,12 +46,12 @@ gathered_more v w w' done b es g t = record {
       (λ e. subst (λ (z : Volume). In (number.Actor z.actor, z.list) w'.held) (sym e) t.taken)
       (λ j. t.kept (number.Actor c.actor) c.list (g.taken c j)) i;
   all = λ c y i j. ⊎_elim
-      (λ e. in-right (stamped y) es (map stamped b.list) (in-map b.list y (subst (λ (z : Volume). In y z.list) e j)))
-      (λ k. in-left (stamped y) es (map stamped b.list) (g.all c y k j)) i;
+      (λ e. in_back (stamped y) es (map stamped b.list) (in-map b.list y (subst (λ (z : Volume). In y z.list) e j)))
+      (λ k. in_front (stamped y) es (map stamped b.list) (g.all c y k j)) i;
   sound = λ e i. ⊎_elim
       (λ j. let q = g.sound e j in (q.0, inr q.1, q.2, q.3, q.4))
       (λ j. let q = of-map b.list e j in (b, inl refl, q.0, q.1, q.2))
-      (in-append e es (map stamped b.list) i);
+      (in_parts e es (map stamped b.list) i);
 }
 
 at_get : (k : Number) (m : ℕ) (log : List Noted) (y : ℕ × Noted) → In y (at_from k m log) → (i : ℕ) × (y.0 ≡ m + i) × (get_elem? log i ≡ some y.1)
@@ -110,7 +111,7 @@ covers r log v0 v books es g lists lawful actors = record {
       let s = get_split log n z.0 z.1 in
       let known = (lawful s.0 z.0 s.1 s.2).actor in
       let b = of-actors books z.0.entry.actor (subst (λ (l : List ActorName). In z.0.entry.actor l) (sym actors) known) in
-      let test : matches (number.Actor b.0.actor) z.0 ≡ true = ap (λ (a : ActorName). same_actor a b.0.actor) b.2 ∙ same_actor_refl b.0.actor in
+      let test : matches (number.Actor b.0.actor) z.0 ≡ true = ap (λ (a : ActorName). same_actor a b.0.actor) b.2 ∙ same_itself b.0.actor in
       let here = subst (λ (m : ℕ). In (m, z.0) (at (number.Actor b.0.actor) log)) (omega arith) (at_has (number.Actor b.0.actor) 0 log n z.0 z.1 test) in
       let mine : In (n, z.0) b.0.list = subst (λ (l : List (ℕ × Noted)). In (n, z.0) l) (sym (lists (number.Actor b.0.actor) b.0.list (g.taken b.0 b.1))) here in
       let whole = g.all b.0 (n, z.0) b.1 mine in
@@ -139,15 +140,15 @@ left_last e (k ∷ ls) l i = inr (left_last e ls l i)
 
 pub of_more : (es fs : List Stamped) (ls : List (List Stamped)) → AreAllOf es ls → AreAllOf (es ++ fs) (ls ++ fs ∷ [])
 of_more es fs ls are = record {
-  only = λ e i. ⊎_elim (λ j. in-left e es fs (are.only e j)) (λ j. in-right e es fs j) (left_append e ls fs i);
-  all = λ e i. ⊎_elim (λ j. left_of e ls fs (are.all e j)) (λ j. left_last e ls fs j) (in-append e es fs i);
+  only = λ e i. ⊎_elim (λ j. in_front e es fs (are.only e j)) (λ j. in_back e es fs j) (left_append e ls fs i);
+  all = λ e i. ⊎_elim (λ j. left_of e ls fs (are.all e j)) (λ j. left_last e ls fs j) (in_parts e es fs i);
 }
 
 module _ {A : Type 0} (f : A → List Stamped) where
   -- a list of which the first entries are gone
   pub kept_left : (hs : List A) (k : ℕ) (d a : A) (xs : List Stamped) → f (slice_index_or hs k d) ≡ xs ++ f a → k < length hs → (e : Stamped) → IsLeft e (map f (set hs k a)) → IsLeft e (map f hs)
   kept_left [] k d a xs is lt e i = absurd (omega arith)
-  kept_left (h ∷ hs) zero d a xs is lt e (inl i) = inl (subst (λ (l : List Stamped). In e l) (sym is) (in-right e xs (f a) i))
+  kept_left (h ∷ hs) zero d a xs is lt e (inl i) = inl (subst (λ (l : List Stamped). In e l) (sym is) (in_back e xs (f a) i))
   kept_left (h ∷ hs) zero d a xs is lt e (inr i) = inr i
   kept_left (h ∷ hs) (suc k) d a xs is lt e (inl i) = inl i
   kept_left (h ∷ hs) (suc k) d a xs is lt e (inr i) = inr (kept_left hs k d a xs is (omega arith) e i)

@@ -86,20 +86,6 @@ last_split (a ∷ log) (z ∷ p) q x y e =
     let heads : a ≡ z = cc e in
     ⊎_elim (λ t. inl ((λ i. heads i ∷ t.0 i), t.1)) (λ t. inr (t.0, λ i. heads i ∷ t.1 i)) (last_split log p q x y tails)
 
-pub in-append : {A : Type 0} (x : A) (xs ys : List A) → In x (xs ++ ys) → In x xs ⊎ In x ys
-in-append x [] ys i = inr i
-in-append x (z ∷ xs) ys (inl e) = inl (inl e)
-in-append x (z ∷ xs) ys (inr i) = ⊎_elim (λ t. inl (inr t)) (λ t. inr t) (in-append x xs ys i)
-
-pub in-left : {A : Type 0} (x : A) (xs ys : List A) → In x xs → In x (xs ++ ys)
-in-left x [] ys i = absurd i
-in-left x (z ∷ xs) ys (inl e) = inl e
-in-left x (z ∷ xs) ys (inr i) = inr (in-left x xs ys i)
-
-pub in-right : {A : Type 0} (x : A) (xs ys : List A) → In x ys → In x (xs ++ ys)
-in-right x [] ys i = i
-in-right x (z ∷ xs) ys i = inr (in-right x xs ys i)
-
 pub in-gain : (n : ℕ) (x : Noted) (hs : List Held) (k : Number) (es : List (ℕ × Noted)) → In (k, es) hs → In (gain n x (k, es)) (map (gain n x) hs)
 in-gain n x [] k es i = absurd i
 in-gain n x (h ∷ hs) k es (inl e) = inl (ap (gain n x) e)

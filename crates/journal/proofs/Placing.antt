@@ -3,6 +3,7 @@ use Rattle.std.proofs.Common.{◌≡◌, ℕ, zero, suc, ◌+◌, ◌<◌, ◌�
 use Rattle.std.specs.Prelude.{slice_index_or}
 use Rattle.std.proofs.lemmas.List.{take_all}
 use Rattle.std.proofs.lemmas.Option.{none-some, same_Some}
+use Rattle.std.proofs.lemmas.Bool.{cases_eq}
 use mathlib.Core.Option.{some, some-injective}
 use lib.ListN.{get_elem?}
 use Rattle.net_base.specs.declared.history.Entry.{Entry}
@@ -105,12 +106,6 @@ in_take (y ∷ es) zero x e is (inr i) = absurd i
 in_take (y ∷ es) (suc j) x e is (inl same) = inl (inl same)
 in_take (y ∷ es) (suc j) x e is (inr i) = ⊎_elim (λ k. inl (inr k)) (λ same. inr same) (in_take es j x e is i)
 
-same_or_not : (m n : ℕ) → (m ≡ n) ⊎ (m ≡ n → ⊥)
-same_or_not zero zero = inl refl
-same_or_not zero (suc n) = inr (λ is. absurd (omega (arith, is)))
-same_or_not (suc m) zero = inr (λ is. absurd (omega (arith, is)))
-same_or_not (suc m) (suc n) = ⊎_elim (λ is. inl (ap suc is)) (λ not. inr (λ is. not (omega (arith, is)))) (same_or_not m n)
-
 -- the entries of the lists, and the first j of a list behind them, are placed
 abbrev pub PlacedSo : List (List Stamped) → List Stamped → ℕ → List Place → Type 0
 PlacedSo ls es j ps = (e : Stamped) → IsLeft e ls ⊎ In e (take j es) → e.stamp < length ps
@@ -153,7 +148,7 @@ module _ (ls : List (List Stamped)) (es : List Stamped) (j : ℕ) (ps ps' : List
       record { place = t.place; noted = there_is; is = t.is }
 
   placed_one : PlacedSo ls es (suc j) ps'
-  placed_one e which lt = ⊎_elim (λ same. of_this e same lt) (λ other. of_others e other which lt) (same_or_not e.stamp x.stamp)
+  placed_one e which lt = ⊎_elim (λ same. of_this e same lt) (λ other. of_others e other which lt) (cases_eq e.stamp x.stamp)
 
   pub placed_next : PlacedSo ls es (j + 1) ps'
   placed_next = let e : suc j ≡ j + 1 = omega arith in subst (λ (n : ℕ). PlacedSo ls es n ps') e placed_one

@@ -1,8 +1,7 @@
 -- What other crates cite of these proofs.
 
 -- beginnings of one list, the lists of a number, and entries at the end
-pub use Rattle.journal.proofs.Lists.{at-append, at-snoc, in-gain, in-left, in-right, prefix_snoc, prefix_trans}
+pub use Rattle.journal.proofs.Lists.{at-append, at-snoc, in-gain, prefix_snoc, prefix_trans}
 -- the test of two actors' names decides whether they are equal
-pub use Rattle.journal.proofs.Names.{same_actor_is}
 -- each kind of step keeps the rule
 pub use Rattle.journal.proofs.Steps.{in_has_caller}

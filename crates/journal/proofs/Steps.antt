@@ -16,10 +16,11 @@ use Rattle.net_base.specs.Stamped.{same_actor, matches, at, clock, latest, In}
 use Rattle.journal.specs.declared.law.Roster.{Roster}
 use Rattle.journal.specs.declared.law.View.{View}
 use Rattle.journal.specs.Rule.{Held, Fits, Lawful, IsAll, Known, has_caller, is_caller, Knows, Apart, Has, Kept, newcomer, caller_numbers, actor_numbers, same_number, without, only, longer, clock_of, both, spent, Looks, gain, Adds, MayAdd, words_of}
-use Rattle.journal.proofs.Lists.{prefix_self, prefix_trans, prefix_shorter, prefix_snoc, at-snoc, between, last_split, in-append, in-left, in-right, in-gained, in-gain, snoc_get, longer_is, longer_left, longer_right}
+use Rattle.journal.proofs.Lists.{prefix_self, prefix_trans, prefix_shorter, prefix_snoc, at-snoc, between, last_split, in-gained, in-gain, snoc_get, longer_is, longer_left, longer_right}
 use Rattle.journal.proofs.Seats.{someone_here, someone_set, someone_split, someone_join}
 use Rattle.journal.proofs.Bounds.{lawful-short}
-use Rattle.journal.proofs.Names.{same_actor_is}
+use Rattle.net_base.proofs.Members.{in_front, in_back, in_parts}
+use Rattle.net_base.proofs.SameNames.{same_actor_is}
 
 -- the views after a step of the seat id
 views_set : (r : Roster) (log : List Noted) (views : List View) (id : ℕ) (w : View) → Knows r log w
@@ -340,7 +341,7 @@ both_known r log v w a b = record {
   lists = λ k es i. ⊎_elim
       (λ t. let x = a.lists k es t in (x.0, all_left log v.seen w.seen k es a.seen b.seen x.1))
       (λ t. let x = b.lists k es t in (x.0, all_right log v.seen w.seen k es a.seen b.seen x.1))
-      (in-append (k, es) v.held w.held i);
+      (in_parts (k, es) v.held w.held i);
   clock_is = λ h. ⊎_elim
       (λ t. rw t (all_left log v.seen w.seen clock v.clock a.seen b.seen (a.clock_is t)))
       (λ t. rw t.0 (all_right log v.seen w.seen clock w.clock a.seen b.seen (b.clock_is t.1)))
@@ -348,7 +349,7 @@ both_known r log v w a b = record {
   clocks = λ es h i. ⊎_elim
       (λ t. let q = clock_in v es t in subst (λ (l : List (ℕ × Noted)). IsAll log (longer v.seen w.seen) clock l) (sym q.1) (all_left log v.seen w.seen clock v.clock a.seen b.seen (a.clock_is q.0)))
       (λ t. let q = clock_in w es t in subst (λ (l : List (ℕ × Noted)). IsAll log (longer v.seen w.seen) clock l) (sym q.1) (all_right log v.seen w.seen clock w.clock a.seen b.seen (b.clock_is q.0)))
-      (in-append es (clock_of v) (clock_of w) i);
+      (in_parts es (clock_of v) (clock_of w) i);
 }
   where
     olds_of : (old : List Noted) → In old (v.seen ∷ w.seen ∷ []) → IsPrefix old log
@@ -372,7 +373,7 @@ joins r id v other w s kept here apart_from there =
     λ j u k es fs ni no e iu ib. ⊎_elim
     (λ t. ni (kept.apart j id u v k es fs e here iu t))
     (λ t. no (kept.apart j other u w k es fs e there' iu t))
-    (in-append (k, fs) v.held w.held ib) in
+    (in_parts (k, fs) v.held w.held ib) in
     record {
       log = log;
       few = kept.few;
@@ -381,7 +382,7 @@ joins r id v other w s kept here apart_from there =
       front = someone_join (λ z. z.seen ≡ log) s.views id other v w b here there' apart_from
           (λ e. longer_left log v.seen w.seen e (kept.views other w there').seen) (λ e. longer_right log v.seen w.seen e (kept.views id v here).seen) kept.front;
       all = λ k known. someone_join (Has k) s.views id other v w b here there' apart_from
-          (λ t. (t.0, in-left (k, t.0) v.held w.held t.1)) (λ t. (t.0, in-right (k, t.0) v.held w.held t.1)) (kept.all k known);
+          (λ t. (t.0, in_front (k, t.0) v.held w.held t.1)) (λ t. (t.0, in_back (k, t.0) v.held w.held t.1)) (kept.all k known);
       apart = λ i j x y k es fs ex ey ix iy.
           ⊎_elim
           (λ t. absurd (subst (λ (z : View). In (k, es) z.held) (sym t.1) ix))
@@ -450,14 +451,14 @@ opens r few = record {
       lists = λ k es i. ⊎_elim
           (λ t. let x = callers_known r r.callers (omega arith) k es t in (x.0, (x.1, sym x.1)))
           (λ t. let x = actors_known r r.actors r.actors (λ a j. j) refl k es t in (x.0, (x.1, sym x.1)))
-          (in-append (k, es) (caller_numbers r.callers) (actor_numbers r.actors) i);
+          (in_parts (k, es) (caller_numbers r.callers) (actor_numbers r.actors) i);
       clock_is = λ h. (refl, refl);
       clocks = λ es h i. absurd i;
     }
 
     has_all : (k : Number) → Known r k → Has k (newcomer r)
-    has_all (number.Caller c) lt = ([], in-left (number.Caller c, []) (caller_numbers r.callers) (actor_numbers r.actors) (in-callers r.callers c lt))
-    has_all (number.Actor a) i = ([], in-right (number.Actor a, []) (caller_numbers r.callers) (actor_numbers r.actors) (in-actors r.actors a i))
+    has_all (number.Caller c) lt = ([], in_front (number.Caller c, []) (caller_numbers r.callers) (actor_numbers r.actors) (in-callers r.callers c lt))
+    has_all (number.Actor a) i = ([], in_back (number.Actor a, []) (caller_numbers r.callers) (actor_numbers r.actors) (in-actors r.actors a i))
 
     only_one : (j : ℕ) (u : View) → get_elem? (newcomer r ∷ []) j ≡ some u → Knows r [] u
     only_one zero u e = subst (Knows r []) (some-injective (newcomer r) u e) first

@@ -3,7 +3,7 @@ use Rattle.std.proofs.Common.{◌≡◌, ℕ, zero, suc, ◌+◌, ◌-◌, ◌%�
 use Rattle.std.specs.Prelude.{unwrap_or}
 use Rattle.std.specs.List.{AllByRecursion, list_all, list_any}
 use Rattle.std.specs.List.Sorted.{IsNonDecreasingBy}
-use Rattle.std.proofs.lemmas.Bool.{true≢false}
+use Rattle.std.proofs.lemmas.Bool.{true≢false, and_parts, not-true, leb-true}
 use Rattle.std.proofs.lemmas.Bool.Decides.{nat_tests}
 use Rattle.std.proofs.lemmas.List.Folds.{list_any_at}
 use Rattle.std.proofs.lemmas.List.Sorted.{Contains-permutation, IsPermutation-sym, list_any-IsPermutation}
@@ -17,17 +17,6 @@ use Rattle.net_base.specs.Draws.{drawn_word, generator}
 use Rattle.net_base.specs.Medium.{fate_by_rates, fate_in}
 use Rattle.net_base.specs.World.{all_apart, is_medium, is_name, is_range, is_within, overlap}
 use Rattle.medium.specs.OnFates.{AreInOrder, FindsAlike, HasMtu, HasRates, IsAhead, begins_past, fate_line, names}
-
-both_true : (a b : Bool) → (a && b) ≡ true → (a ≡ true) × (b ≡ true)
-both_true true b e = (refl, e)
-both_true false b e = absurd (true≢false (sym e))
-
-not_false : (a : Bool) → not a ≡ true → a ≡ false
-not_false false e = refl
-not_false true e = absurd (true≢false (sym e))
-
-at_most : (m n : ℕ) → nat_le m n ≡ true → m ≤ n
-at_most m n e = grind (arith, nat_tests)
 
 -- Finding in a list and in its permutations.
 
@@ -76,11 +65,11 @@ apart_one m [] apart x y cx cy px py = absurd (omega (arith, cx.1))
 apart_one m (f ∷ fs) apart x y cx cy px py = by_place (apart_one m fs parts.1 x y) cx.0 cy.0 (cx.1, cx.2) (cy.1, cy.2)
   where
     parts : (not (list_any (overlap f) fs) ≡ true) × (all_apart overlap fs ≡ true)
-    parts = both_true (not (list_any (overlap f) fs)) (all_apart overlap fs) apart
+    parts = and_parts (not (list_any (overlap f) fs)) (all_apart overlap fs) apart
 
     alone : (z : FateRange) (j : ℕ) → j < length fs → get_or fs j z ≡ z → names m f ≡ true → names m z ≡ true → ⊥
     alone z j lt is pf pz =
-        true≢false (sym (list_any_at (overlap f) fs j z lt (ap (λ (g : FateRange). overlap f g) is ∙ both_name m f z pf pz)) ∙ not_false (list_any (overlap f) fs) parts.0)
+        true≢false (sym (list_any_at (overlap f) fs j z lt (ap (λ (g : FateRange). overlap f g) is ∙ both_name m f z pf pz)) ∙ not-true (list_any (overlap f) fs) parts.0)
 
     by_place : (Contains fs x → Contains fs y → names m x ≡ true → names m y ≡ true → x ≡ y) → (i j : ℕ) → (i < length (f ∷ fs)) × (get_or (f ∷ fs) i x ≡ x) → (j < length (f ∷ fs)) × (get_or (f ∷ fs) j y ≡ y) → x ≡ y
     by_place rest zero zero a b = sym a.1 ∙ b.1
@@ -173,15 +162,15 @@ pub record OfWorld (spec : MediumSpec) : Type 0 where
 
 pub of_world : (spec : MediumSpec) → is_medium spec.number spec ≡ true → OfWorld spec
 of_world spec is =
-    let named = both_true (spec.number == spec.number) _ is in
-    let long = both_true (is_name spec.name) _ named.1 in
-    let rated = both_true (is_within 576 16384 spec.mtu) _ long.1 in
-    let ranged = both_true (nat_le (spec.loss + spec.twice + spec.later) 1000) _ rated.1 in
-    let within = both_true (nat_le 576 spec.mtu) (nat_le spec.mtu 16384) rated.0 in
+    let named = and_parts (spec.number == spec.number) _ is in
+    let long = and_parts (is_name spec.name) _ named.1 in
+    let rated = and_parts (is_within 576 16384 spec.mtu) _ long.1 in
+    let ranged = and_parts (nat_le (spec.loss + spec.twice + spec.later) 1000) _ rated.1 in
+    let within = and_parts (nat_le 576 spec.mtu) (nat_le spec.mtu 16384) rated.0 in
     record {
-      mtu = (at_most 576 spec.mtu within.0, at_most spec.mtu 16384 within.1);
-      rates = at_most (spec.loss + spec.twice + spec.later) 1000 ranged.0;
-      apart = (both_true (list_all is_range spec.fates) (all_apart overlap spec.fates) ranged.1).1;
+      mtu = (leb-true 576 spec.mtu within.0, leb-true spec.mtu 16384 within.1);
+      rates = leb-true (spec.loss + spec.twice + spec.later) 1000 ranged.0;
+      apart = (and_parts (list_all is_range spec.fates) (all_apart overlap spec.fates) ranged.1).1;
     }
 
 pub sorted_alike : (spec : MediumSpec) (lines : List FateRange) → is_medium spec.number spec ≡ true → IsPermutation spec.fates lines → (m : ℕ) → find (names m) lines ≡ find (names m) spec.fates

@@ -7,6 +7,7 @@ use Rattle.std.proofs.lemmas.Bool.Decides.{nat_tests}
 use Rattle.std.proofs.lemmas.List.Elements.{filter_map-append}
 use Rattle.std.proofs.lemmas.List.Concat.{flat_map-append}
 use Rattle.std.proofs.lemmas.List.{map-append, take_more}
+use Rattle.std.proofs.lemmas.Bool.{eqb-true}
 use Rattle.net_base.specs.Ndb.{NdbPair}
 use Rattle.net_base.specs.Addresses.{read_address}
 use Rattle.net_base.specs.Search.{line_has, tuple_has, tuples_with, values_in}
@@ -15,7 +16,7 @@ use Rattle.ndb_tuple.specs.declared.numbers.Kind.TheVariants.{Address}
 use Rattle.ndb_tuple.specs.Numbers.{numbers_in}
 use Rattle.ndb_tuple.specs.Places.{places_of, places_with}
 use Rattle.ndb_tuple.specs.Closest.{first_filled}
-use Rattle.ndb_tuple.proofs.Shared.{Joins, first_here, first_past, one_filled, none_filled, near_is, equal}
+use Rattle.ndb_tuple.proofs.Shared.{Joins, first_here, first_past, one_filled, none_filled, near_is}
 use Rattle.net_base.specs.declared.ndb.spot.Spot.{Spot}
 use Rattle.net_base.specs.Spots.{spot_at}
 use Rattle.ndb_index.specs.Kept.{spot_in, spots_from, spots_with}
@@ -226,7 +227,7 @@ one_of bits a (suc k) within = at (bits == 32 - a) refl (one_of bits (a + 1) k (
     after (suc k) short same = none_after bits (a + 1) (suc k) (omega (arith, short)) (omega (arith, short, same))
 
     at : (b : Bool) → (bits == 32 - a) ≡ b → ones (λ o. bits == 32 - o) (range_with_len (a + 1) k) ≤ 1 → cond b (1 + ones (λ o. bits == 32 - o) (range_with_len (a + 1) k)) (ones (λ o. bits == 32 - o) (range_with_len (a + 1) k)) ≤ 1
-    at true e rest = omega (arith, after k within (equal bits (32 - a) e))
+    at true e rest = omega (arith, after k within (eqb-true bits (32 - a) e))
     at false e rest = rest
 
 -- no network is counted twice

@@ -13,6 +13,7 @@ use Rattle.net_base.specs.Store.{all_pairs}
 use Rattle.net_base.specs.declared.ndb.spot.Spot.{Spot}
 use Rattle.net_base.proofs.Shared.{lines-length}
 use Rattle.ndb_index.specs.Kept.{spot_in, spots_from, spots_with, ends_at, with_spot, noted, lines_noted}
+use Rattle.net_base.proofs.Tests.{number_itself}
 
 abbrev pub Placed : Type 0
 Placed = List (NdbPair × Spot)
@@ -32,15 +33,12 @@ last_is : (spots : List Spot) (spot : Spot) → slice_get (spots ++ spot ∷ [])
 last_is [] spot = refl
 last_is (s ∷ spots) spot = last_is spots spot
 
-one : (n : ℕ) → (n == n) ≡ true
-one n = grind (arith, nat_tests)
-
 ends_push : (place : ℕ) (spots : List Spot) (spot : Spot) → spot.place ≡ place → ends_at place (spots ++ spot ∷ []) ≡ true
 ends_push place spots spot here =
     let last : length (spots ++ spot ∷ []) - 1 ≡ length spots = omega (arith, length-append spots (spot ∷ [])) in
     ap (λ i. option_map_or (λ s. s.place == place) (slice_get (spots ++ spot ∷ []) i) false) last
     ∙ ap (λ o. option_map_or (λ s. s.place == place) o false) (last_is spots spot)
-    ∙ ap (λ n. n == place) here ∙ one place
+    ∙ ap (λ n. n == place) here ∙ number_itself place
 
 -- after one spot of a tuple the spots end there
 ends_with : (place : ℕ) (spot : Spot) (spots : List Spot) → spot.place ≡ place → ends_at place (with_spot spot spots) ≡ true

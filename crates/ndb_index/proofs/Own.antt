@@ -9,13 +9,15 @@ use Rattle.std.specs.BTreeSet.{insert_key}
 use Rattle.std.proofs.lemmas.Bool.Decides.{nat_tests}
 use Rattle.std.proofs.lemmas.List.Folds.{list_any-append}
 use Rattle.std.proofs.lemmas.List.{take_more}
+use Rattle.std.proofs.lemmas.Bool.{eqb-true}
 use Rattle.net_base.specs.Ndb.{NdbPair}
 use Rattle.net_base.specs.Networks.{Network, network_of, contains_address}
 use Rattle.ndb_tuple.specs.declared.prefixes.Prefix.{Prefix}
 use Rattle.ndb_tuple.specs.Prefixes.{first_bits, is_prefix}
 use Rattle.ndb_tuple.specs.Places.{places_of}
-use Rattle.ndb_tuple.proofs.Shared.{same_any, equal, itself, turned}
+use Rattle.ndb_tuple.proofs.Shared.{same_any, turned}
 use Rattle.ndb_index.specs.Nets.{prefix, has_prefix, has_length, places_kept, place_noted, HasPlaces, is_among, is_own, own_places}
+use Rattle.net_base.proofs.Tests.{number_itself, or_none}
 
 abbrev pub Db : Type 0
 Db = List (List (List NdbPair))
@@ -55,10 +57,6 @@ or_turned true false = refl
 or_turned false true = refl
 or_turned false false = refl
 
-or_nothing : (a : Bool) → (a || false) ≡ a
-or_nothing true = refl
-or_nothing false = refl
-
 pub cond_or : (a b : Bool) → cond a true b ≡ (a || b)
 cond_or true b = refl
 cond_or false b = refl
@@ -69,7 +67,7 @@ any_more test xs i x now after within here so_far put =
     ∙ ap (λ b. test x || b) so_far
     ∙ or_turned (test x) (list_any test (take i xs))
     ∙ ap (λ y. list_any test (take i xs) || test y) here
-    ∙ sym (ap (list_any test) (take_more xs i x within) ∙ list_any-append test (take i xs) (get_or xs i x ∷ []) ∙ ap (λ b. list_any test (take i xs) || b) (or_nothing (test (get_or xs i x))))
+    ∙ sym (ap (list_any test) (take_more xs i x within) ∙ list_any-append test (take i xs) (get_or xs i x ∷ []) ∙ ap (λ b. list_any test (take i xs) || b) (or_none (test (get_or xs i x))))
 
 -- Places in order.
 
@@ -128,7 +126,7 @@ same_head : (x y : ℕ) (xs ys : List ℕ) → Above x xs → Above y ys → is_
 same_head x y xs ys above_x above_y at_x at_y = by (nat_lt x y) refl (nat_lt y x) refl
   where
     own : (n : ℕ) (ns : List ℕ) → is_among n (n ∷ ns) ≡ true
-    own n ns = ap (λ b. b || is_among n ns) (itself n)
+    own n ns = ap (λ b. b || is_among n ns) (number_itself n)
 
     other : (n m : ℕ) (ms : List ℕ) → Above m ms → n < m → is_among n (m ∷ ms) ≡ false
     other n m ms above less =
@@ -143,8 +141,8 @@ same_head x y xs ys above_x above_y at_x at_y = by (nat_lt x y) refl (nat_lt y x
 same_lists : (xs ys : List ℕ) → Ascends xs → Ascends ys → ((q : ℕ) → is_among q xs ≡ is_among q ys) → xs ≡ ys
 unfolding Ascends
 same_lists [] [] up_x up_y same = refl
-same_lists [] (y ∷ ys) up_x up_y same = let clash : false ≡ true = same y ∙ ap (λ b. b || is_among y ys) (itself y) in absurd (cc)
-same_lists (x ∷ xs) [] up_x up_y same = let clash : true ≡ false = sym (ap (λ b. b || is_among x xs) (itself x)) ∙ same x in absurd (cc)
+same_lists [] (y ∷ ys) up_x up_y same = let clash : false ≡ true = same y ∙ ap (λ b. b || is_among y ys) (number_itself y) in absurd (cc)
+same_lists (x ∷ xs) [] up_x up_y same = let clash : true ≡ false = sym (ap (λ b. b || is_among x xs) (number_itself x)) ∙ same x in absurd (cc)
 same_lists (x ∷ xs) (y ∷ ys) up_x up_y same =
     ap (λ n. n ∷ xs) head ∙ ap (λ ns. y ∷ ns) (same_lists xs ys up_x.1 up_y.1 (λ q. tail q (nat_eq q x) refl))
   where
@@ -153,14 +151,14 @@ same_lists (x ∷ xs) (y ∷ ys) up_x up_y same =
 
     tail : (q : ℕ) (b : Bool) → nat_eq q x ≡ b → is_among q xs ≡ is_among q ys
     tail q true e =
-        let here : q ≡ x = equal q x e in
+        let here : q ≡ x = eqb-true q x e in
         apart q x xs up_x.0 (omega (arith, here)) ∙ sym (apart q y ys up_y.0 (omega (arith, here, head)))
     tail q false e =
         sym (ap (λ b. b || is_among q xs) e) ∙ same q ∙ ap (λ b. b || is_among q ys) (ap (nat_eq q) (sym head) ∙ e)
 
 -- one more key in an ordered list
 pub among_inserted : (q : ℕ) (keys : List ℕ) (key : ℕ) → is_among q (insert_key nat_cmp keys key) ≡ (is_among q keys || nat_eq q key)
-among_inserted q [] key = or_nothing (nat_eq q key)
+among_inserted q [] key = or_none (nat_eq q key)
 among_inserted q (x ∷ keys) key = at (nat_lt key x) refl (key == x) refl (among_inserted q keys key)
   where
     swapped : (a b c : Bool) → (a || (b || c)) ≡ ((b || c) || a)
@@ -172,11 +170,11 @@ among_inserted q (x ∷ keys) key = at (nat_lt key x) refl (key == x) refl (amon
 
     twice : (a b : Bool) → (a || b) ≡ ((a || b) || a)
     twice true b = refl
-    twice false b = sym (or_nothing b)
+    twice false b = sym (or_none b)
 
     at : (b : Bool) → nat_lt key x ≡ b → (c : Bool) → (key == x) ≡ c → is_among q (insert_key nat_cmp keys key) ≡ (is_among q keys || nat_eq q key) → is_among q (match_ordering (cond b Less (cond c Equal Greater)) (key ∷ x ∷ keys) (x ∷ keys) (x ∷ insert_key nat_cmp keys key)) ≡ (is_among q (x ∷ keys) || nat_eq q key)
     at true e c f rest = swapped (nat_eq q key) (nat_eq q x) (is_among q keys)
-    at false e true f rest = twice (nat_eq q x) (is_among q keys) ∙ ap (λ n. (nat_eq q x || is_among q keys) || nat_eq q n) (sym (equal key x f))
+    at false e true f rest = twice (nat_eq q x) (is_among q keys) ∙ ap (λ n. (nat_eq q x || is_among q keys) || nat_eq q n) (sym (eqb-true key x f))
     at false e false f rest = ap (λ b. nat_eq q x || b) rest ∙ last (nat_eq q x) (is_among q keys) (nat_eq q key)
 
 -- Which places are among those of the tuples that pass.
@@ -242,7 +240,7 @@ own_is bits ips firsts kept tuple = at (network_of tuple)
   where
     of_length : (network : Network) (b : Bool) → (network.bits == bits) ≡ b → list_any (λ first. b && (first_bits network.bits network.ip == first)) firsts ≡ (b && list_any (contains_address network) ips)
     of_length network true e =
-        let same : network.bits ≡ bits = equal network.bits bits e in
+        let same : network.bits ≡ bits = eqb-true network.bits bits e in
         ap (λ n. list_any (λ first. first_bits n network.ip == first) firsts) same
         ∙ kept (first_bits bits network.ip)
         ∙ same_any (λ ip. first_bits bits ip == first_bits bits network.ip) (contains_address network) ips

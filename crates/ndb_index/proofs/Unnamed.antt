@@ -4,12 +4,13 @@ use Rattle.std.specs.Prelude.{codes, filter_map, flat_map, option_map}
 use Rattle.std.specs.Option.{option_map_or}
 use Rattle.std.specs.List.{list_any}
 use Rattle.std.proofs.lemmas.List.Folds.{list_any-append}
+use Rattle.std.proofs.lemmas.Bool.{or_parts}
 use Rattle.net_base.specs.Ndb.{NdbPair}
 use Rattle.net_base.specs.Addresses.{read_address}
 use Rattle.net_base.specs.Search.{has_attr, values_in}
 use Rattle.net_base.specs.Networks.{Network, network_of, tuple_names, first_of, bits_of}
 use Rattle.net_base.specs.Store.{all_pairs}
-use Rattle.net_base.proofs.Shared.{either, neither}
+use Rattle.net_base.proofs.Shared.{neither}
 use Rattle.ndb_tuple.specs.declared.prefixes.Prefix.{Prefix}
 use Rattle.ndb_tuple.specs.Prefixes.{is_prefix}
 use Rattle.ndb_tuple.specs.Places.{places_of}
@@ -23,7 +24,7 @@ lines_unnamed : (tuple : List (List NdbPair)) → IsUnnamed (flat_map (λ line. 
 unfolding IsUnnamed
 lines_unnamed [] none = refl
 lines_unnamed (line ∷ tuple) none =
-    let parts = either (list_any (has_attr (codes "ipnet")) line) (list_any (has_attr (codes "ipnet")) (flat_map (λ (l : List NdbPair). l) tuple))
+    let parts = or_parts (list_any (has_attr (codes "ipnet")) line) (list_any (has_attr (codes "ipnet")) (flat_map (λ (l : List NdbPair). l) tuple))
     (sym (list_any-append (has_attr (codes "ipnet")) line (flat_map (λ (l : List NdbPair). l) tuple)) ∙ none) in
     neither (list_any (has_attr (codes "ipnet")) line) (tuple_names (codes "ipnet") tuple) parts.0 (lines_unnamed tuple parts.1)
 
@@ -38,7 +39,7 @@ tuples_unnamed : (tuple : List (List NdbPair)) (db : Db) → IsUnnamed (all_pair
 unfolding IsUnnamed
 tuples_unnamed tuple db none =
     let own : List NdbPair = flat_map (λ (line : List NdbPair). line) tuple in
-    let parts = either (list_any (has_attr (codes "ipnet")) own) (list_any (has_attr (codes "ipnet")) (all_pairs db))
+    let parts = or_parts (list_any (has_attr (codes "ipnet")) own) (list_any (has_attr (codes "ipnet")) (all_pairs db))
     (sym (list_any-append (has_attr (codes "ipnet")) own (all_pairs db)) ∙ none) in
     (no_network tuple parts.0, parts.1)
 

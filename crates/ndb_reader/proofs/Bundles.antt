@@ -6,6 +6,7 @@ use Rattle.std.proofs.Math.Seq.{take-append_seam}
 use Rattle.std.proofs.Math.ListN.{take-append-drop}
 use Rattle.std.proofs.lemmas.List.{take_all}
 use Rattle.std.proofs.lemmas.Slice.Eq.{bytes_eq-Decides}
+use Rattle.std.proofs.lemmas.Bool.{and_parts, not-true}
 use Rattle.net_base.specs.Ndb.{NdbPair}
 use Rattle.net_base.specs.NdbText.{is_white, is_zero, is_empty, pairs_of, starts, goes_on, going_on, tuples_of, lines_of, begins_with}
 use Rattle.net_base.specs.NdbBundle.{File, local_name, local_file, named_files, file_of, file_name, is_file_line, has_tuple, cause, causes_of, least, told, first_bad, bad_line, database}
@@ -43,28 +44,20 @@ no-zero has line e =
 
 -- The line that begins a file.
 
-both : (a b : Bool) → (a && b) ≡ true → (a ≡ true) × (b ≡ true)
-both true b e = (refl, e)
-both false b e = absurd cc
-
-not-true : (b : Bool) → not b ≡ true → b ≡ false
-not-true true e = absurd cc
-not-true false e = refl
-
 filled : (bytes : List ℕ) → is_empty bytes ≡ false → 0 < length bytes
 filled [] e = absurd cc
 filled (b ∷ bytes) e = omega arith
 
 file-spelled : (line : List ℕ) → is_file_line line ≡ true → line ≡ codes "%file " ++ file_name line
 file-spelled line file =
-    let front = (both (begins_with (codes "%file ") line) _ file).0 in
+    let front = (and_parts (begins_with (codes "%file ") line) _ file).0 in
     let same : codes "%file " ≡ take 6 line = grind (arith, bytes_eq-Decides (codes "%file ") (take 6 line), front) in
     sym (take-append-drop 6 line) ∙ ap (λ f. f ++ drop 6 line) (sym same)
 
 file-named : (has : Bool) (line : List ℕ) → is_file_line line ≡ true → causes_of has line ≡ [] → IsFileName (file_name line)
 file-named has line file good =
-    let rest = (both (begins_with (codes "%file ") line) _ file).1 in
-    let parts = both (not (is_empty (file_name line))) (not (list_any is_white (file_name line))) rest in
+    let rest = (and_parts (begins_with (codes "%file ") line) _ file).1 in
+    let parts = and_parts (not (is_empty (file_name line))) (not (list_any is_white (file_name line))) rest in
     record {
       some = filled (file_name line) (not-true _ parts.0);
       white = not-true _ parts.1;

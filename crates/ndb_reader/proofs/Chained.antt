@@ -14,7 +14,8 @@ use Rattle.ndb_chains.specs.Chains.{first_in, width_of, AreChains}
 use Rattle.ndb_chains.proofs.Shared.{in_bucket, Met, met, none-met}
 use Rattle.ndb_reader.specs.Filed.{tuples_of}
 use Rattle.ndb_reader.specs.Names.{names_seen, bucket_in, AreByName}
-use Rattle.ndb_reader.proofs.Once.{is_one, turned, itself}
+use Rattle.ndb_reader.proofs.Once.{turned}
+use Rattle.net_base.proofs.Tests.{same_text, equal_texts}
 
 abbrev pub Tuples : Type 0
 Tuples = List (List (List NdbPair))
@@ -49,13 +50,13 @@ bucket-same (x ∷ names) f n among = by (bytes_eq f x) refl (bytes_eq n x) refl
   where
     by : (bf : Bool) → bytes_eq f x ≡ bf → (bn : Bool) → bytes_eq n x ≡ bn → (bn || list_any (bytes_eq n) names) ≡ true → (list_any (bytes_eq n) names ≡ true → (bucket_in names f == bucket_in names n) ≡ bytes_eq f n)
         → (cond (not bf) (1 + bucket_in names f) 0 == cond (not bn) (1 + bucket_in names n) 0) ≡ bytes_eq f n
-    by true ef true en here later = sym (ap (bytes_eq f) (is_one n x en) ∙ ef)
+    by true ef true en here later = sym (ap (bytes_eq f) (equal_texts n x en) ∙ ef)
     by true ef false en here later =
         let zero-not : (0 == 1 + bucket_in names n) ≡ false = grind (arith, nat_tests) in
-        zero-not ∙ sym (ap (λ (g : List ℕ). bytes_eq g n) (is_one f x ef) ∙ turned x n ∙ en)
+        zero-not ∙ sym (ap (λ (g : List ℕ). bytes_eq g n) (equal_texts f x ef) ∙ turned x n ∙ en)
     by false ef true en here later =
         let not-zero : (1 + bucket_in names f == 0) ≡ false = grind (arith, nat_tests) in
-        not-zero ∙ sym (ap (bytes_eq f) (is_one n x en) ∙ ef)
+        not-zero ∙ sym (ap (bytes_eq f) (equal_texts n x en) ∙ ef)
     by false ef false en here later = next-same (bucket_in names f) (bucket_in names n) ∙ later here
 
 filter-alike : (p q : File → Bool) → ((f : File) → p f ≡ q f) → (files : List File) → filter p files ≡ filter q files
@@ -195,7 +196,7 @@ chaining-all names files count back chains c counted all =
 module _ {Z : Type 0} where
   pub among-at : (keys : List (Vec ℕ Z)) (i : ℕ) (key : Vec ℕ Z) → i < length keys → key ≡ get_or keys i key → list_any (bytes_eq (vec_items key)) (names_seen keys) ≡ true
   among-at [] i key h is = absurd (omega (arith, h))
-  among-at (k ∷ keys) zero key h is = ap (λ (b : Bool). b || list_any (bytes_eq (vec_items key)) (names_seen keys)) (ap (λ (o : Vec ℕ Z). bytes_eq (vec_items key) (vec_items o)) (sym is) ∙ itself (vec_items key))
+  among-at (k ∷ keys) zero key h is = ap (λ (b : Bool). b || list_any (bytes_eq (vec_items key)) (names_seen keys)) (ap (λ (o : Vec ℕ Z). bytes_eq (vec_items key) (vec_items o)) (sym is) ∙ same_text (vec_items key))
   among-at (k ∷ keys) (suc i) key h is = by (bytes_eq (vec_items key) (vec_items k)) (among-at keys i key (omega (arith, h)) is)
     where
       by : (b : Bool) → list_any (bytes_eq (vec_items key)) (names_seen keys) ≡ true → (b || list_any (bytes_eq (vec_items key)) (names_seen keys)) ≡ true

@@ -2,7 +2,7 @@
 use Rattle.std.proofs.Common.{◌≡◌, ℕ, ◌+◌, ◌≤◌, ◌<◌, Bool, true, false, cond, ◌||◌, bytes_eq, List, [], ◌∷◌, ◌++◌, map, drop, get_or, length, Vec, vec_items, refl, sym, ap, ◌∙◌, arith}
 use Rattle.std.specs.Prelude.{codes, filter}
 use Rattle.std.specs.List.{list_any}
-use Rattle.std.proofs.lemmas.List.{map-append, at_drop_more, drop_all}
+use Rattle.std.proofs.lemmas.List.{map-append, at_drop_more, drop_all, nil_from_length}
 use Rattle.net_base.specs.Ndb.{NdbPair}
 use Rattle.net_base.specs.Search.{has_attr, values_on, values_in}
 use Rattle.net_base.specs.NdbBundle.{each_once}
@@ -12,13 +12,9 @@ use Rattle.ndb_reader.proofs.Once.{turned, once_all, names_append}
 abbrev pub Names : Type 0
 Names = List (List ℕ)
 
-nothing_left : {X : Type 0} (l : List X) → length l ≡ 0 → l ≡ []
-nothing_left [] h = refl
-nothing_left (x ∷ xs) h = absurd (omega arith)
-
 module _ {Z : Type 0} where
   pub no_names : (keys : List (Vec ℕ Z)) → length keys ≡ 0 → names_seen keys ≡ []
-  no_names keys none = ap (λ (ks : List (Vec ℕ Z)). names_seen ks) (nothing_left keys none)
+  no_names keys none = ap (λ (ks : List (Vec ℕ Z)). names_seen ks) (nil_from_length keys none)
 
   abbrev pub same : Vec ℕ Z → Vec ℕ Z → Bool
   same x y = bytes_eq (vec_items x) (vec_items y)

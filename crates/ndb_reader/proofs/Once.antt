@@ -7,6 +7,7 @@ use Rattle.std.proofs.lemmas.Slice.Eq.{bytes_eq-Decides}
 use Rattle.net_base.specs.NdbBundle.{each_once}
 use Rattle.ndb_text.proofs.Shared.{false_true}
 use Rattle.ndb_reader.specs.Names.{with_name, with_names}
+use Rattle.net_base.proofs.Tests.{equal_texts}
 
 -- the names that are not this one
 others : List ℕ → List (List ℕ) → List (List ℕ)
@@ -15,12 +16,6 @@ others n ns = filter (λ m. not (bytes_eq m n)) ns
 -- the name is one of these
 among : List ℕ → List (List ℕ) → Bool
 among n ns = list_any (λ m. bytes_eq m n) ns
-
-pub is_one : (a b : List ℕ) → bytes_eq a b ≡ true → a ≡ b
-is_one a b e = grind (arith, bytes_eq-Decides a b, e)
-
-pub itself : (a : List ℕ) → bytes_eq a a ≡ true
-itself a = grind (arith, bytes_eq-Decides a a)
 
 pub turned : (x n : List ℕ) → bytes_eq x n ≡ bytes_eq n x
 turned x n = grind (arith, bytes_eq-Decides x n, bytes_eq-Decides n x)
@@ -32,7 +27,7 @@ among_others x n [] apart = refl
 among_others x n (m ∷ ns) apart = at (bytes_eq m x) refl (bytes_eq m n) refl (among_others x n ns apart)
   where
     clash : bytes_eq m x ≡ true → bytes_eq m n ≡ true → ⊥
-    clash g h = false_true (sym apart ∙ (ap (λ k. bytes_eq k x) (sym (is_one m n h)) ∙ g))
+    clash g h = false_true (sym apart ∙ (ap (λ k. bytes_eq k x) (sym (equal_texts m n h)) ∙ g))
 
     at : (same : Bool) → bytes_eq m x ≡ same → (here : Bool) → bytes_eq m n ≡ here → among n (others x ns) ≡ among n ns → list_any (λ k. bytes_eq k n) (cond (not same) (m ∷ others x ns) (others x ns)) ≡ (here || among n ns)
     at true e true h rest = absurd (clash e h)

@@ -13,6 +13,7 @@ use Rattle.ndb_reader.specs.declared.words.Words.{Words}
 use Rattle.ndb_reader.specs.Told.{IsRead, AreWords}
 use Rattle.net_base.specs.NdbBundle.{is_nameless}
 use Rattle.net_base.specs.Store.{Grown, with_pair, with_pairs}
+use Rattle.net_base.proofs.Tests.{or_none, or_true}
 
 -- the words behind so many bytes are those of what is left then
 behind-dropped : (n : ℕ) (line : List ℕ) → words_behind n line ≡ words_behind 0 (drop n line)
@@ -50,10 +51,6 @@ or-nothing : (a b : Bool) → a ≡ false → b ≡ (a || b)
 or-nothing true b e = absurd cc
 or-nothing false b e = refl
 
-or-none : (a : Bool) → (a || false) ≡ a
-or-none true = refl
-or-none false = refl
-
 or-three : (a b c : Bool) → (a || (b || c)) ≡ ((a || b) || c)
 or-three true b c = refl
 or-three false b c = refl
@@ -88,10 +85,10 @@ no-more g = ap (λ (ps : List NdbPair). record { tuples = g.tuples; lines = g.li
 pub parsed-end : (old now : Grown) (line : List ℕ) (kept : Words) (rest : List ℕ) → Parsed old now line kept rest → words_behind 0 rest ≡ [] → AreWords kept (words_behind 0 line) × (now ≡ with_pairs (map pair_of (words_behind 0 line)) old)
 parsed-end old now line kept rest p none = (
   record {
-    some = sym (p.some ∙ ap (λ (ws : List Word). kept.some || not (is_empty ws)) none ∙ or-none kept.some);
-    nameless = sym (p.nameless ∙ ap (λ (ws : List Word). kept.nameless || list_any is_nameless ws) none ∙ or-none kept.nameless);
-    unclosed = sym (p.unclosed ∙ ap (λ (ws : List Word). kept.unclosed || list_any (λ (word : Word). word.unclosed) ws) none ∙ or-none kept.unclosed);
-    followed = sym (p.followed ∙ ap (λ (ws : List Word). kept.followed || list_any (λ (word : Word). word.followed) ws) none ∙ or-none kept.followed);
+    some = sym (p.some ∙ ap (λ (ws : List Word). kept.some || not (is_empty ws)) none ∙ or_none kept.some);
+    nameless = sym (p.nameless ∙ ap (λ (ws : List Word). kept.nameless || list_any is_nameless ws) none ∙ or_none kept.nameless);
+    unclosed = sym (p.unclosed ∙ ap (λ (ws : List Word). kept.unclosed || list_any (λ (word : Word). word.unclosed) ws) none ∙ or_none kept.unclosed);
+    followed = sym (p.followed ∙ ap (λ (ws : List Word). kept.followed || list_any (λ (word : Word). word.followed) ws) none ∙ or_none kept.followed);
   },
   sym (p.pairs ∙ ap (λ (ws : List Word). with_pairs (map pair_of ws) now) none ∙ no-more now),
 )
@@ -106,10 +103,6 @@ left-hash (b ∷ bytes) some hash =
     let is : is_hash b ≡ true = grind (arith, nat_tests) in
     let black : is_white b ≡ false = ap is_white hash in
     words-hash b bytes black is
-
-or-true : (a : Bool) → (a || true) ≡ true
-or-true true = refl
-or-true false = refl
 
 -- a pair and more behind it
 with-more : (g : Grown) (pair : NdbPair) (pairs : List NdbPair) → with_pairs (pair ∷ pairs) g ≡ with_pairs pairs (with_pair pair g)
@@ -137,7 +130,7 @@ parsed-word old now then line kept after (b ∷ bytes) read p some hash white is
       pairs = p.pairs ∙ ap (λ (ws : List Word). with_pairs (map pair_of ws) now) next
           ∙ with-more now (pair_of word) (map pair_of behind)
           ∙ ap (λ (g : Grown). with_pairs (map pair_of behind) g) (sym (pairs ∙ ap (λ (q : NdbPair). with_pair q now) pair));
-      some = p.some ∙ ap (λ (ws : List Word). kept.some || not (is_empty ws)) next ∙ or-true kept.some
+      some = p.some ∙ ap (λ (ws : List Word). kept.some || not (is_empty ws)) next ∙ or_true kept.some
           ∙ ap (λ (c : Bool). c || not (is_empty behind)) (sym any);
       nameless = p.nameless ∙ ap (λ (ws : List Word). kept.nameless || list_any is_nameless ws) next
           ∙ or-three kept.nameless (is_empty word.attr) _

@@ -3,6 +3,7 @@ use Rattle.std.proofs.Common.{◌≡◌, ℕ, zero, suc, ◌+◌, ◌-◌, ◌<�
 use Rattle.std.specs.List.{list_any, before_first, after_first, position_or_len}
 use Rattle.std.proofs.lemmas.List.{take-append-drop}
 use Rattle.std.proofs.lemmas.Bool.Decides.{nat_tests}
+use Rattle.std.proofs.lemmas.Bool.{not-false}
 use Rattle.net_base.specs.Ndb.{NdbPair}
 use Rattle.net_base.specs.NdbText.{is_white, is_hash, is_equals, is_quote, begins, is_empty, Word, plain_word, quoted_word, word_of, words_behind, pair_of}
 use Rattle.net_base.specs.NdbBundle.{is_nameless}
@@ -116,10 +117,6 @@ plain-is_word bytes false e v a = record {
   ends = stops-behind is_white bytes;
 }
 
-not_false : (b : Bool) → not b ≡ false → b ≡ true
-not_false true h = refl
-not_false false h = cc
-
 -- what stands behind the opening quote of the first word
 abbrev behind_quote : List ℕ → List ℕ
 behind_quote bytes = drop (length (before_first is_equals (before_first is_white bytes)) + 2) bytes
@@ -177,7 +174,7 @@ front-closed_if bytes attr behind true e is a unclosed followed =
     let value : List ℕ = before_first is_quote behind in
     let rest : List ℕ = after_first is_quote behind in
     let split : behind ≡ value ++ 34 ∷ rest = around is_quote 34 quote_is behind e in
-    let tail : before_first is_white rest ≡ [] = empty_is (before_first is_white rest) (not_false (is_empty (before_first is_white rest)) followed) in
+    let tail : before_first is_white rest ≡ [] = empty_is (before_first is_white rest) (not-false (is_empty (before_first is_white rest)) followed) in
     record {
       spelling = attr ++ (61 ∷ 34 ∷ (value ++ 34 ∷ []));
       rest = rest;

@@ -5,23 +5,21 @@ use Rattle.std.proofs.lemmas.Bool.Decides.{nat_tests}
 use Rattle.std.proofs.Common.{arith}
 use Rattle.std.specs.List.{list_any}
 use Rattle.std.proofs.lemmas.List.Folds.{list_any-append}
+use Rattle.std.proofs.lemmas.Bool.{or_left, or_right}
 use Rattle.net_base.specs.Ndb.{NdbPair}
 use Rattle.net_base.specs.NdbText.{is_white, is_percent, begins, begins_with, is_empty, lines_of, Word, words_behind, words_of, pair_of, pairs_of, starts, goes_on, going_on, tuples_of}
 use Rattle.net_base.specs.NdbBundle.{is_file_line, is_nameless, has_tuple, cause, causes_of, least, told, first_bad, bad_line}
 use Rattle.ndb_text.specs.NdbSpelling.{ReadsWords, ReadsLine, ReadsTuples, ReadsFile}
 use Rattle.ndb_text.proofs.NdbPlain.{or_false, or_false_first, or_false_rest}
 use Rattle.ndb_text.proofs.NdbLists.{after_last-none, some_none}
-use Rattle.ndb_text.proofs.NdbSound.{Faultless, or_true, sound, line_reads}
+use Rattle.ndb_text.proofs.NdbSound.{Faultless, sound, line_reads}
 use Rattle.ndb_text.proofs.NdbComplete.{complete, cons_none, false_true}
+use Rattle.net_base.proofs.Tests.{and_none}
 
 -- Lines.
 
 no-causes : (a b c d e f : Bool) → a ≡ false → b ≡ false → c ≡ false → d ≡ false → e ≡ false → f ≡ false → cause 1 a ++ (cause 2 b ++ (cause 3 c ++ (cause 4 d ++ (cause 5 e ++ cause 6 f)))) ≡ []
 no-causes a b c d e f ea eb ec ed ee ef = rw (ea, eb, ec, ed, ee, ef) refl
-
-pub and_false : (a : Bool) → (a && false) ≡ false
-and_false true = refl
-and_false false = refl
 
 -- the tests of a line's words, where it doesn't begin with `%`
 words_test : (p : Word → Bool) (line : List ℕ) → begins is_percent line ≡ false → list_any p (words_of line) ≡ list_any p (words_behind 0 line)
@@ -238,15 +236,11 @@ good_line before line lines pairs alone r rest =
     ap (λ (cs : List ℕ). told (length before + 1) (least cs) (first_bad causes_of (before ++ line ∷ []) lines)) (line_has_no_cause (has_tuple before) line pairs alone r) ∙ rest
 
 and_not_true : (a b : Bool) → b ≡ true → (a && not b) ≡ false
-and_not_true a true e = and_false a
+and_not_true a true e = and_none a
 and_not_true a false e = absurd (false_true e)
 
 some-last : (p : List ℕ → Bool) (before : List (List ℕ)) (line : List ℕ) → (list_any p before || (p line || false)) ≡ true → list_any p (before ++ line ∷ []) ≡ true
 some-last p before line e = list_any-append p before (line ∷ []) ∙ e
-
-or_left : (a b : Bool) → a ≡ true → (a || b) ≡ true
-or_left true b e = refl
-or_left false b e = absurd (false_true e)
 
 has_some : (before : List (List ℕ)) → list_any is_file_line before ≡ false → list_any starts before ≡ true → has_tuple before ≡ true
 has_some before files some = ap (list_any starts) (after_last-none is_file_line before files) ∙ some
@@ -276,7 +270,7 @@ good_file before (line ∷ lines) more tuples files begun (inr (inr (pair, pairs
     let s : starts line ≡ true = starts-at line false false empty white in
     good_line before line lines (pair ∷ pairs) (ap (λ (b : Bool). b && not (has_tuple before)) g) r
     (good_file (before ++ line ∷ []) lines left behind (none-last is_file_line before line files (begins_no_file line (pair ∷ pairs) r))
-    (inl (some-last starts before line (or_true (list_any starts before) _ (or_left (starts line) false s)))) rest)
+    (inl (some-last starts before line (or_right (list_any starts before) _ (or_left (starts line) false s)))) rest)
 
 -- a text that is spelled by tuples has no bad line and reads as them
 pub spelled_is_read : (text : List ℕ) (tuples : List (List (List NdbPair))) → ReadsFile (lines_of text) tuples → (bad_line text ≡ None) × (tuples_of (lines_of text) ≡ tuples)

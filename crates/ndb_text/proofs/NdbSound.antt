@@ -3,6 +3,7 @@ use Rattle.std.proofs.Common.{◌≡◌, ℕ, suc, ◌+◌, ◌-◌, ◌⊎◌, 
 use Rattle.std.specs.List.{list_any, before_first, after_first, position_or_len}
 use Rattle.std.proofs.lemmas.List.Folds.{list_any-append}
 use Rattle.std.proofs.lemmas.Bool.Decides.{nat_tests}
+use Rattle.std.proofs.lemmas.Bool.{or_right}
 use Rattle.net_base.specs.Ndb.{NdbPair}
 use Rattle.net_base.specs.NdbText.{is_white, is_hash, is_equals, is_quote, begins, is_empty, Word, plain_word, quoted_word, word_of, words_behind, pair_of, pairs_of}
 use Rattle.net_base.specs.NdbBundle.{is_nameless}
@@ -11,10 +12,6 @@ use Rattle.ndb_text.proofs.NdbLists.{before_first-none}
 use Rattle.ndb_text.specs.NdbSpelling.{None_of, IsAttr, Way, alone, plain, quoted, spelled, Suits, EndsWord, IsWord, IsWhite, IsComment, ReadsWords, ReadsLine}
 
 -- Parts of bytes.
-
-pub or_true : (a b : Bool) → b ≡ true → (a || b) ≡ true
-or_true true b e = refl
-or_true false b e = e
 
 -- bytes that end or go on with one that passes
 abbrev pub Stops : (ℕ → Bool) → List ℕ → Type 0
@@ -50,7 +47,7 @@ after-none p (b ∷ front) none =
 
 pub any-behind : (p : ℕ → Bool) (front : List ℕ) (b : ℕ) (rest : List ℕ) → p b ≡ true → list_any p (front ++ b ∷ rest) ≡ true
 any-behind p [] b rest e = rw e refl
-any-behind p (a ∷ front) b rest e = or_true (p a) _ (any-behind p front b rest e)
+any-behind p (a ∷ front) b rest e = or_right (p a) _ (any-behind p front b rest e)
 
 pub drop-two : (front : List ℕ) (a b : ℕ) (rest : List ℕ) → drop (length front + 2) (front ++ a ∷ b ∷ rest) ≡ rest
 drop-two [] a b rest = refl

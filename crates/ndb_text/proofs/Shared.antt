@@ -3,10 +3,10 @@
 -- what a line without faults reads as is what it is spelled as
 pub use Rattle.ndb_text.proofs.NdbComplete.{cons_none, false_true}
 -- what the lines of a file are spelled as is what they read as
-pub use Rattle.ndb_text.proofs.NdbFiles.{EachSpelled, and_false, file_is_spelled, file_reads_once, goes_on-at, line_has_no_cause, line_is_spelled, some_once, spelled_is_read, starts-at, tuples_read, tuples_spelled}
+pub use Rattle.ndb_text.proofs.NdbFiles.{EachSpelled, file_is_spelled, file_reads_once, goes_on-at, line_has_no_cause, line_is_spelled, some_once, spelled_is_read, starts-at, tuples_read, tuples_spelled}
 -- lists of which no element passes a test
 pub use Rattle.ndb_text.proofs.NdbLists.{before_first-none, some_none}
 -- a line without a quote has the words that white space parts
 pub use Rattle.ndb_text.proofs.NdbPlain.{before_first-cons, none-drop, one_add, or_false, or_false_first, or_false_rest, words-hash, words-white, words-word, words_of-plain}
 -- what a line is spelled as is what it reads as
-pub use Rattle.ndb_text.proofs.NdbSound.{line_reads, line_reads_once, or_true}
+pub use Rattle.ndb_text.proofs.NdbSound.{line_reads, line_reads_once}

@@ -4,40 +4,21 @@ use Rattle.std.specs.List.{list_any}
 use Rattle.std.proofs.lemmas.List.Folds.{list_any-append, Any-from_list_any, list_any_at}
 use Rattle.std.proofs.lemmas.List.{map-append, take_more}
 use Rattle.std.proofs.lemmas.Bool.Decides.{nat_tests}
+use Rattle.std.proofs.lemmas.Bool.{and_parts, and_from, or_right, eqb-true}
 use Rattle.net_base.specs.Networks.{Network, contains_address, is_on}
 use Rattle.ndb_tuple.specs.declared.network.Network.{Network as Kept}
 use Rattle.ndb_tuple.specs.declared.prefixes.Prefix.{Prefix}
 use Rattle.ndb_tuple.specs.Prefixes.{network_seen, first_bits, prefix_of, same_prefix, is_prefix, is_on_prefix, covers, HasLengths}
+use Rattle.net_base.proofs.Tests.{number_itself, or_none}
 
 pub same_truth : (a b : Bool) → (a ≡ true → b ≡ true) → (b ≡ true → a ≡ true) → a ≡ b
 same_truth true b f g = sym (f refl)
 same_truth false true f g = g refl
 same_truth false false f g = refl
 
-pub both : (a b : Bool) → (a && b) ≡ true → (a ≡ true) × (b ≡ true)
-both true b e = (refl, e)
-both false b e = absurd cc
-
-pub joined : (a b : Bool) → a ≡ true → b ≡ true → (a && b) ≡ true
-joined a b e f = ap (λ c. c && b) e ∙ f
-
-pub equal : (a b : ℕ) → (a == b) ≡ true → a ≡ b
-equal a b e = grind (arith, nat_tests)
-
-pub itself : (a : ℕ) → (a == a) ≡ true
-itself a = grind (arith, nat_tests)
-
 pub same_any : {X : Type 0} (p q : X → Bool) (xs : List X) → ((x : X) → p x ≡ q x) → list_any p xs ≡ list_any q xs
 same_any p q [] agree = refl
 same_any p q (x ∷ xs) agree = ap (λ b. b || list_any p xs) (agree x) ∙ ap (λ b. q x || b) (same_any p q xs agree)
-
-or_nothing : (a : Bool) → (a || false) ≡ a
-or_nothing true = refl
-or_nothing false = refl
-
-or_right : (a b : Bool) → b ≡ true → (a || b) ≡ true
-or_right true b e = refl
-or_right false b e = e
 
 -- some element passes a test where some element passes a narrower one
 pub any_wider : {X : Type 0} (p q : X → Bool) (xs : List X) → ((x : X) → q x ≡ true → p x ≡ true) → list_any q xs ≡ true → list_any p xs ≡ true
@@ -65,11 +46,11 @@ any_inserted {X} eq p keys x same = at (list_any (eq x) keys) refl
     known true h e =
         let some : list_any p keys ≡ true = any_wider p (eq x) keys (λ y k. ap p (sym (same y k)) ∙ h) e in
         some ∙ sym (or_right (list_any p keys) true refl)
-    known false h e = sym (or_nothing (list_any p keys))
+    known false h e = sym (or_none (list_any p keys))
 
     at : (b : Bool) → list_any (eq x) keys ≡ b → list_any p (cond b keys (keys ++ x ∷ [])) ≡ (list_any p keys || p x)
     at true e = known (p x) refl e
-    at false e = list_any-append p keys (x ∷ []) ∙ ap (λ b. list_any p keys || b) (or_nothing (p x))
+    at false e = list_any-append p keys (x ∷ []) ∙ ap (λ b. list_any p keys || b) (or_none (p x))
 
 -- equal prefixes are the same
 pub one_prefix : (a b : Prefix) → same_prefix a b ≡ true → a ≡ b
@@ -82,9 +63,9 @@ covers_is lengths prefixes by_length ip = same_truth _ _ found kept
   where
     narrow : (bits : ℕ) (prefix : Prefix) → is_prefix bits ip prefix ≡ true → is_on_prefix ip prefix ≡ true
     narrow bits prefix e =
-        let parts = both (bits == prefix.bits) (first_bits bits ip == prefix.first) e in
-        let same : bits ≡ prefix.bits = equal bits prefix.bits parts.0 in
-        joined _ _ (itself prefix.bits) (ap (λ n. first_bits n ip == prefix.first) (sym same) ∙ parts.1)
+        let parts = and_parts (bits == prefix.bits) (first_bits bits ip == prefix.first) e in
+        let same : bits ≡ prefix.bits = eqb-true bits prefix.bits parts.0 in
+        and_from _ _ (number_itself prefix.bits) (ap (λ n. first_bits n ip == prefix.first) (sym same) ∙ parts.1)
 
     found : list_any (λ bits. list_any (is_prefix bits ip) prefixes) lengths ≡ true → list_any (is_on_prefix ip) prefixes ≡ true
     found = any_gives (λ bits. list_any (is_prefix bits ip) prefixes) (list_any (is_on_prefix ip) prefixes) lengths
@@ -95,9 +76,9 @@ covers_is lengths prefixes by_length ip = same_truth _ _ found kept
         let on = Any-from_list_any (is_on_prefix ip) prefixes e in
         let bits = on.1.bits in
         let has : list_any (nat_eq bits) lengths ≡ true =
-        by_length bits (list_any_at (λ prefix. prefix.bits == bits) prefixes on.0 on.1 on.2 (ap (λ (prefix : Prefix). prefix.bits == bits) on.3 ∙ itself bits)) in
+        by_length bits (list_any_at (λ prefix. prefix.bits == bits) prefixes on.0 on.1 on.2 (ap (λ (prefix : Prefix). prefix.bits == bits) on.3 ∙ number_itself bits)) in
         any_wider (λ n. list_any (is_prefix n ip) prefixes) (nat_eq bits) lengths
-        (λ n k. ap (λ m. list_any (is_prefix m ip) prefixes) (sym (equal bits n k))
+        (λ n k. ap (λ m. list_any (is_prefix m ip) prefixes) (sym (eqb-true bits n k))
         ∙ list_any_at (is_prefix bits ip) prefixes on.0 on.1 on.2 (ap (is_prefix bits ip) on.3 ∙ on.4)) has
 
 -- the lengths with one more, for the same prefixes and for one more
@@ -115,7 +96,7 @@ prefixes_more lengths after prefixes keys prefix has more put bits e =
   where
     at : (b : Bool) → (list_any (λ p. p.bits == bits) prefixes || b) ≡ true → cond b true (list_any (nat_eq bits) lengths) ≡ true
     at true f = refl
-    at false f = has bits (sym (or_nothing (list_any (λ p. p.bits == bits) prefixes)) ∙ f)
+    at false f = has bits (sym (or_none (list_any (λ p. p.bits == bits) prefixes)) ∙ f)
 
 -- one more prefix for an address
 pub covers_more : (prefixes keys : List Prefix) (prefix : Prefix) (ip : ℕ) → keys ≡ cond (list_any (same_prefix prefix) prefixes) prefixes (prefixes ++ prefix ∷ []) → covers keys ip ≡ (covers prefixes ip || is_on_prefix ip prefix)
@@ -133,13 +114,13 @@ on_more networks i network ip within here =
     ap (λ (all : List Kept). is_on (map network_seen all) ip) (take_more networks i network within)
     ∙ ap (λ (all : List Network). is_on all ip) (map-append network_seen (take i networks) (get_or networks i network ∷ []))
     ∙ list_any-append (λ n. contains_address n ip) (map network_seen (take i networks)) (network_seen (get_or networks i network) ∷ [])
-    ∙ ap (λ b. is_on (map network_seen (take i networks)) ip || b) (or_nothing (contains_address (network_seen (get_or networks i network)) ip))
+    ∙ ap (λ b. is_on (map network_seen (take i networks)) ip || b) (or_none (contains_address (network_seen (get_or networks i network)) ip))
     ∙ ap (λ (n : Kept). is_on (map network_seen (take i networks)) ip || contains_address (network_seen n) ip) (sym here)
 
 -- an address is on a network where it has the network's prefix
 pub on_network : (network : Network) (ip : ℕ) → is_on_prefix ip (prefix_of network.bits network.ip) ≡ contains_address network ip
 on_network network ip =
-    ap (λ b. b && (first_bits network.bits ip == first_bits network.bits network.ip)) (itself network.bits)
+    ap (λ b. b && (first_bits network.bits ip == first_bits network.bits network.ip)) (number_itself network.bits)
     ∙ turned (first_bits network.bits network.ip) (first_bits network.bits ip) (first_bits network.bits network.ip == first_bits network.bits ip) refl
   where
     turned : (x n : ℕ) (b : Bool) → (x == n) ≡ b → (n == x) ≡ b

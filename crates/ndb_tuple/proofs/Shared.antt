@@ -3,7 +3,7 @@
 -- what stands behind what was found so far, a line or a pair at a time
 pub use Rattle.ndb_tuple.proofs.Behind.{of-all}
 -- the prefixes that an address has, found by their lengths
-pub use Rattle.ndb_tuple.proofs.Covered.{any_gives, any_wider, both, covers_none, equal, itself, joined, same_any, same_truth}
+pub use Rattle.ndb_tuple.proofs.Covered.{any_gives, any_wider, covers_none, same_any, same_truth}
 -- the first bits of addresses, each once, and ranges of lengths
 pub use Rattle.ndb_tuple.proofs.Firsts.{contained, range_more, turned}
 -- places stand for the tuples that pass a test

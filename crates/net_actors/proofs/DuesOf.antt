@@ -2,7 +2,7 @@
 use Rattle.std.proofs.Common.{◌≡◌, ℕ, zero, suc, ◌+◌, ◌<◌, Bool, true, ◌&&◌, List, [], ◌∷◌, ◌++◌, map, length, Option, Some, None, filter_map, flat_map, nat_lt, slice_get, option_to_list, refl, ap, sym, ◌∙◌, arith, append_assoc, append-nil}
 use Rattle.std.specs.List.{range_with_len, cons_option}
 use Rattle.std.specs.Option.{option_map}
-use Rattle.std.proofs.lemmas.Bool.{lt-ltb}
+use Rattle.std.proofs.lemmas.Bool.{lt-ltb, and_from}
 use Rattle.std.proofs.lemmas.Grind.{flat_map-append}
 use Rattle.std.proofs.lemmas.List.{map-append}
 use Rattle.std.proofs.lemmas.List.Elements.{filter_map-append}
@@ -134,9 +134,6 @@ flat_same f g c a (suc n) same =
 due_same : (f g : ActorName → Actor) (h : ℕ) (p : Proto) (n : ℕ) → f (name.Conv h p n) ≡ g (name.Conv h p n) → due_at f (name.Conv h p n) ≡ due_at g (name.Conv h p n)
 due_same f g h p n same = ap (due_in_state h p n) same
 
-both_true : (a b : Bool) → a ≡ true → b ≡ true → (a && b) ≡ true
-both_true a b h k = ap (λ (x : Bool). x && b) h ∙ k
-
 pub dues_are : (v : Numbered) (ds : List Due) → ds ≡ dues_below (state_in v) v.hosts → (w : World) (states : ActorName → Actor) → AreActors w v states → ds ≡ dues_of w states
 dues_are v ds is w states are =
     is
@@ -146,7 +143,7 @@ dues_are v ds is w states are =
     at_slot : (h : ℕ) (p : Proto) (n : ℕ) → h < length w.hosts → n < 32 → due_at (state_in v) (name.Conv h p n) ≡ due_at states (name.Conv h p n)
     at_slot h p n host slot =
         due_same (state_in v) states h p n
-        (states_are w v states (name.Conv h p n) are (both_true (nat_lt h (length w.hosts)) (nat_lt n 32) (lt-ltb h (length w.hosts) host) (lt-ltb n 32 slot)))
+        (states_are w v states (name.Conv h p n) are (and_from (nat_lt h (length w.hosts)) (nat_lt n 32) (lt-ltb h (length w.hosts) host) (lt-ltb n 32 slot)))
 
     at_proto : (h : ℕ) (p : Proto) → h < length w.hosts → filter_map (due_at (state_in v)) (slots_of h p) ≡ filter_map (due_at states) (slots_of h p)
     at_proto h p host = map_same (due_at (state_in v)) (due_at states) (λ (n : ℕ). name.Conv h p n) 0 32 (λ n slot. at_slot h p n host (omega (arith, slot)))

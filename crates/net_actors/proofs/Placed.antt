@@ -16,8 +16,9 @@ use Rattle.net_actors.specs.Small.{IsSmall}
 use Rattle.net_actors.specs.Stepping.{IsReady, ActorMayWant, Steps as StepsOne}
 use Rattle.net_actors.specs.Together.{AreActors, AreFirst, CanStep, IsAt, MayWantAt, Numbered, Steps, StepsIn, has_name, state_in}
 use Rattle.net_actors.specs.declared.actor.Actor.{Actor as Kept}
-use Rattle.history_laws.proofs.Shared.{same_actor_is, same_itself}
 use Rattle.net_actors.proofs.Numbering.{among_is, below, below_in, same_in}
+use Rattle.net_base.proofs.Members.{there_at, get_set, get_set_other}
+use Rattle.net_base.proofs.SameNames.{same_actor_is, same_itself}
 
 -- what stands at a name's number is the actor of that name
 record Found (w : World) (states : ActorName → Actor) (a : ActorName) (x : Kept) : Type 0 where
@@ -86,18 +87,6 @@ states_are w v states a are has =
     stands_in v a some.0 there ∙ (found w v states a some.0 are (named w v states a are has) there).in_state
 
 -- Steps.
-
-get_set : {A : Type 0} (xs : List A) (i : ℕ) (y : A) → i < length xs → slice_get (slice_set xs i y) i ≡ Some y
-get_set [] i y lt = absurd (omega (arith, lt))
-get_set (x ∷ xs) zero y lt = refl
-get_set (x ∷ xs) (suc i) y lt = get_set xs i y (omega (arith, lt))
-
-get_set_other : {A : Type 0} (xs : List A) (i j : ℕ) (y : A) → (i ≡ j → ⊥) → slice_get (slice_set xs i y) j ≡ slice_get xs j
-get_set_other [] i j y apart = refl
-get_set_other (x ∷ xs) zero zero y apart = absurd (apart refl)
-get_set_other (x ∷ xs) zero (suc j) y apart = refl
-get_set_other (x ∷ xs) (suc i) zero y apart = refl
-get_set_other (x ∷ xs) (suc i) (suc j) y apart = get_set_other xs i j y (λ e. apart (ap suc e))
 
 apart_is : (a b : ActorName) (n : ℕ) (at : ActorName → ℕ) → at a ≡ n → (n ≡ at b → ⊥) → same_actor a b ≡ false
 apart_is a b n at is apart = by_test (same_actor a b) refl
@@ -179,11 +168,6 @@ ready_at v a x now work can is =
 
 -- At first.
 
-some_within : {A : Type 0} (xs : List A) (i : ℕ) → i < length xs → (x : A) × (slice_get xs i ≡ Some x)
-some_within [] i lt = absurd (omega (arith, lt))
-some_within (x ∷ xs) zero lt = (x, refl)
-some_within (x ∷ xs) (suc i) lt = some_within xs i (omega (arith, lt))
-
 get_push : {A : Type 0} (xs : List A) (y x : A) (k : ℕ) → slice_get (xs ++ y ∷ []) k ≡ Some x → (slice_get xs k ≡ Some x) ⊎ ((k ≡ length xs) × (y ≡ x))
 get_push [] y x zero is = inr (refl, same_Some y x is)
 get_push [] y x (suc k) is = absurd (none-some x is)
@@ -221,7 +205,7 @@ all_first w hosts media xs hosts_are media_are all = record { hosts_are = hosts_
     each a has =
         let lt = below_in w a has in
         let count = all.count in
-        let some = some_within xs (number_in w a) (omega (arith, lt, count)) in
+        let some = there_at xs (number_in w a) (omega (arith, lt, count)) in
         let x = some.0 in
         let at = all.place (number_in w a) x some.1 in
         let same = same_in w x.name a at.1 has at.2 in

@@ -3,10 +3,7 @@ use Rattle.std.proofs.Common.{◌≡◌, ℕ, ◌+◌, ◌≤◌, ◌<◌, Bool,
 use Rattle.std.specs.Prelude.{zero, suc}
 use Rattle.std.specs.List.{list_any, find}
 use Rattle.std.proofs.lemmas.List.{take_all}
-
-pub either : (a b : Bool) → (a || b) ≡ false → (a ≡ false) × (b ≡ false)
-either true b e = absurd cc
-either false b e = (refl, e)
+use Rattle.std.proofs.lemmas.Bool.{or_parts}
 
 pub neither : (a b : Bool) → a ≡ false → b ≡ false → (a || b) ≡ false
 neither true b e f = absurd cc
@@ -16,7 +13,7 @@ pub any-more : {X : Type 0} (test : X → Bool) (xs : List X) (i : ℕ) (d : X) 
 any-more test [] i d h none this = refl
 any-more test (x ∷ xs) zero d h none this = neither (test x) false this refl
 any-more test (x ∷ xs) (suc i) d h none this =
-    let parts = either (test x) (list_any test (take i xs)) none in
+    let parts = or_parts (test x) (list_any test (take i xs)) none in
     neither (test x) (list_any test (take (suc i) xs)) parts.0 (any-more test xs i d (omega (arith, h)) parts.1 this)
 
 pub any-here : {X : Type 0} (test : X → Bool) (xs : List X) (i : ℕ) (d : X) → i < length xs → test (get_or xs i d) ≡ true → list_any test xs ≡ true

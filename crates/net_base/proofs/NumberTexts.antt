@@ -8,7 +8,7 @@ use Rattle.std.specs.Int.{IsInRange}
 use Rattle.std.specs.Net.Text.{dotted_text}
 use Rattle.std.specs.Str.{all_ascii_digits}
 use Rattle.std.specs.Str.Parse.{digits_value, AllDigits}
-use Rattle.std.proofs.lemmas.Bool.{and_parts, false≢true, ne_eqb}
+use Rattle.std.proofs.lemmas.Bool.{and_parts, false≢true, ne_eqb, lt-ltb, leb-true, le-leb}
 use Rattle.std.proofs.lemmas.Bool.Decides.{nat_tests}
 use Rattle.std.proofs.lemmas.Fmt.{decimal-digits_value, decimal_digit, decimal_nonempty, first_decimal, length-decimal-le, digits_decimal}
 use Rattle.std.proofs.lemmas.List.Splits.{join_with_byte-slice_split}
@@ -25,14 +25,8 @@ use Rattle.net_base.proofs.Texts.{four_parts, value_of}
 in-range : (b : ℕ) → is_ascii_digit b ≡ true → IsInRange 48 57 b
 in-range b e = search (rules, e)
 
-pub le-true : (m n : ℕ) → nat_le m n ≡ true → m ≤ n
-le-true m n e = grind (arith, nat_tests)
-
 pub lt-true : (m n : ℕ) → nat_lt m n ≡ true → m < n
 lt-true m n e = grind (arith, nat_tests)
-
-pub lt-is : (m n : ℕ) → m < n → nat_lt m n ≡ true
-lt-is m n h = grind (arith, nat_tests)
 
 digit-here : (b : ℕ) → is_ascii_digit b ≡ true → (48 ≤ b) × (b < 58)
 digit-here b e = (grind (arith, nat_tests), grind (arith, nat_tests))
@@ -68,7 +62,7 @@ number-spelled most least greatest word n fits plain e =
         → (if b && c then Some (digits_value 10 word) else None) ≡ Some n → Spelled word greatest n
     last all some true true low high f =
         let is = same_Some (digits_value 10 word) n f in
-        let bound = le-true (digits_value 10 word) greatest high in
+        let bound = leb-true (digits_value 10 word) greatest high in
         record {
           is = spells-decimal word all (lt-true 0 (length word) some) plain (omega (arith, bound, fits)) ∙ ap (λ (k : ℕ). decimal k) is;
           within = omega (arith, bound, is);
@@ -165,25 +159,22 @@ ascii-digits (b ∷ word) = ap (λ v. is_ascii_digit b && v) (ascii-digits word)
 digits-of : (n : ℕ) → n < 2 ^ 64 → list_all is_ascii_digit (decimal n) ≡ true
 digits-of n small = sym (ascii-digits (decimal n)) ∙ digits_decimal (numerals_by_value (λ ds. all_ascii_digits ds ≡ true) tells_all_ascii_digits) n small
 
-pub le-is : (m n : ℕ) → m ≤ n → nat_le m n ≡ true
-le-is m n h = grind (arith, nat_tests)
-
 read-back : (most n : ℕ) → 0 < most → n < 10 ^ most → n < 2 ^ 64 → read_digits most (decimal n) ≡ Some n
 read-back most n some few small =
-    ap (λ v. if (v && nat_le (length (decimal n)) most) && list_all is_ascii_digit (decimal n) then Some (digits_value 10 (decimal n)) else None) (lt-is 0 (length (decimal n)) (decimal_nonempty n small))
-    ∙ (ap (λ v. if v && list_all is_ascii_digit (decimal n) then Some (digits_value 10 (decimal n)) else None) (le-is (length (decimal n)) most (length-decimal-le most n some few small))
+    ap (λ v. if (v && nat_le (length (decimal n)) most) && list_all is_ascii_digit (decimal n) then Some (digits_value 10 (decimal n)) else None) (lt-ltb 0 (length (decimal n)) (decimal_nonempty n small))
+    ∙ (ap (λ v. if v && list_all is_ascii_digit (decimal n) then Some (digits_value 10 (decimal n)) else None) (le-leb (length (decimal n)) most (length-decimal-le most n some few small))
     ∙ (ap (λ v. if v then Some (digits_value 10 (decimal n)) else None) (digits-of n small) ∙ ap (λ (k : ℕ). Some k) (value_of n small)))
 
 within-back : (least greatest n : ℕ) → is_within least greatest n ≡ true → within least greatest n ≡ Some n
 within-back least greatest n e = ap (λ v. if v then Some n else None) e
 
 pub within-is : (least greatest n : ℕ) → least ≤ n → n ≤ greatest → is_within least greatest n ≡ true
-within-is least greatest n low high = ap (λ b. b && nat_le n greatest) (le-is least n low) ∙ le-is n greatest high
+within-is least greatest n low high = ap (λ b. b && nat_le n greatest) (le-leb least n low) ∙ le-leb n greatest high
 
 -- a number within bounds is read from its decimal word
 pub number-back : (least greatest n : ℕ) → greatest < 2 ^ 64 → is_within least greatest n ≡ true → number_in least greatest (decimal n) ≡ Some n
 number-back least greatest n fits e =
-    let high = le-true n greatest ((and_parts (nat_le least n) (nat_le n greatest) e).1) in
+    let high = leb-true n greatest ((and_parts (nat_le least n) (nat_le n greatest) e).1) in
     let small : n < 2 ^ 64 = omega (arith, high, fits) in
     ap (λ v. if v then None else option_and_then (within least greatest) (read_digits 20 (decimal n))) (unpadded n small)
     ∙ (ap (option_and_then (within least greatest)) (read-back 20 n (omega arith) (omega (arith, small)) small) ∙ within-back least greatest n e)

@@ -2,33 +2,8 @@
 use Rattle.std.proofs.Common.{◌≡◌, ◌≢◌, ℕ, zero, suc, ◌+◌, ◌<◌, ◌≤◌, ◌==◌, ◌&&◌, ◌||◌, ◌⊎◌, inl, inr, Bool, true, false, cond, nat_lt, Some, None, refl, sym, ap, ◌∙◌, arith}
 use Rattle.std.specs.Prelude.{find}
 use Rattle.std.specs.List.{list_all, list_any, range_with_len}
-use Rattle.std.proofs.lemmas.Bool.{true≢false, false≢true, cases_eq, eqb-true, eqb-false}
+use Rattle.std.proofs.lemmas.Bool.{true≢false, false≢true, cases_eq, eqb-true, eqb-false, and_left, and_right, false_from_ne_true}
 use Rattle.std.proofs.lemmas.Bool.Decides.{nat_tests}
-
-pub and_left : (a b : Bool) → a ≡ false → (a && b) ≡ false
-and_left a b is = rw is refl
-
-pub and_right : (a b : Bool) → b ≡ false → (a && b) ≡ false
-and_right true b is = is
-and_right false b is = refl
-
-pub and_both : (a b : Bool) → a ≡ true → b ≡ true → (a && b) ≡ true
-and_both a b left right = rw (left, right) refl
-
-pub or_left : (a b : Bool) → a ≡ true → (a || b) ≡ true
-or_left a b is = rw is refl
-
-pub or_right : (a b : Bool) → b ≡ true → (a || b) ≡ true
-or_right true b is = refl
-or_right false b is = is
-
-pub or_false : (a b : Bool) → (a || b) ≡ false → (a ≡ false) × (b ≡ false)
-or_false true b is = absurd (true≢false is)
-or_false false b is = (refl, is)
-
-pub not_true : (a : Bool) → (a ≡ true → ⊥) → a ≡ false
-not_true true never = absurd (never refl)
-not_true false never = refl
 
 pub not_below : (n : ℕ) → nat_lt n n ≡ false
 not_below n = grind (arith, nat_tests)
@@ -78,7 +53,7 @@ passed_range test (suc n) a is = by_first (test a) refl is (λ rest. passed_rang
 
 -- no number passes, where none does
 pub unpassed : (test : ℕ → Bool) (n k : ℕ) → list_any test (range_with_len 0 n) ≡ false → k < n → test k ≡ false
-unpassed test n k none lt = not_true (test k) (λ is. true≢false (sym (some_range test n 0 k (omega arith) (omega (arith, lt)) is) ∙ none))
+unpassed test n k none lt = false_from_ne_true (test k) (λ is. true≢false (sym (some_range test n 0 k (omega arith) (omega (arith, lt)) is) ∙ none))
 
 pub none_more : (test : ℕ → Bool) (n : ℕ) (b : Bool) → ((c : ℕ) → c < n → test c ≡ false) → b ≡ test n → b ≡ false → (c : ℕ) → c < n + 1 → test c ≡ false
 none_more test n b old is none c lt = by_last (c == n) refl

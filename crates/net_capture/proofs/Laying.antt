@@ -2,6 +2,7 @@
 use Rattle.std.proofs.Common.{◌≡◌, ℕ, zero, suc, ◌+◌, ◌^◌, ◌<◌, ◌≤◌, ◌==◌, ◌&&◌, true, false, List, [], ◌∷◌, filter, Option, Some, None, slice_get, nat_le, refl, sym, subst, ◌∙◌, arith}
 use Rattle.std.specs.List.{list_all}
 use Rattle.std.proofs.lemmas.Bool.{and_parts, false≢true, leb-true, ltb-false}
+use Rattle.std.proofs.lemmas.Option.{same_Some}
 use Rattle.net_base.specs.declared.actor.ActorName.{ActorName}
 use Rattle.net_base.specs.declared.actor.ActorName.TheVariants as name
 use Rattle.net_base.specs.declared.event.Event.{Event}
@@ -23,9 +24,6 @@ use Rattle.table_laws.specs.ActorRows.{ActorRow, AtClock, AtConv, AtDesk, AtDir,
 use Rattle.table_laws.proofs.Shared.{shown_reply}
 
 -- The length of what was laid.
-
-some_is : {A : Type 0} (x y : A) → Some x ≡ Some y → x ≡ y
-some_is x y is = cc
 
 none_some : {A : Type 0} (x : A) → None ≡ Some x → ⊥
 none_some x is = cc
@@ -53,7 +51,7 @@ mtu_within n zero (r ∷ ss) s are at =
     let mtu = (and_parts (is_name r.name) (is_within 576 16384 r.mtu && (nat_le (r.loss + r.twice + r.later) 1000 && (list_all is_range r.fates && all_apart overlap r.fates))) rest).1 in
     let within = (and_parts (is_within 576 16384 r.mtu) (nat_le (r.loss + r.twice + r.later) 1000 && (list_all is_range r.fates && all_apart overlap r.fates)) mtu).0 in
     let most : r.mtu ≤ 16384 = leb-true r.mtu 16384 (and_parts (nat_le 576 r.mtu) (nat_le r.mtu 16384) within).1 in
-    subst (λ (q : MediumSpec). q.mtu ≤ 16384) (some_is r s at) most
+    subst (λ (q : MediumSpec). q.mtu ≤ 16384) (same_Some r s at) most
 mtu_within n (suc m) (r ∷ ss) s are at = mtu_within (n + 1) m ss s (and_parts (is_medium n r) (are_media (n + 1) ss) are).1 at
 
 row_laid : (w : World) → IsWorld w → (now : ℕ) (a : ActorName) (s : Actor) (e : Event) (g : With) (t : Step Actor) (m : ℕ) → ActorRow w now a s e g t
@@ -78,7 +76,7 @@ pub laid_fits : (w : World) (h : List Entry) (x : Entry) (m : ℕ) (p : Packet) 
     → packet_in (with_of (owed w h x.caller)) ≡ Some p → datagram_length p.body < 2 ^ 16
 laid_fits w h x m p world may on is =
     let gives = laid_gives w h (after w h) x m world may on in
-    let same : gives.packet ≡ p = some_is gives.packet p (sym gives.is ∙ is) in
+    let same : gives.packet ≡ p = same_Some gives.packet p (sym gives.is ∙ is) in
     let within : datagram_length p.body ≤ 16384 = subst (λ (q : Packet). datagram_length q.body ≤ 16384) same gives.within in
     omega (arith, within)
 

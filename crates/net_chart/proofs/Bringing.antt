@@ -16,18 +16,13 @@ use Rattle.net_base.specs.Stamped.{same_actor, same_proto}
 use Rattle.net_chart.specs.Frames.{owner_of}
 use Rattle.net_chart.specs.TalkLaws.{EndsThere, brought_from, is_taken_at}
 use Rattle.net_chart.specs.Talks.{Talks, cited_by, column_number, column_of, columns_by, columns_with, end_at, ends_at, entered, is_conversation, no_talks, started, talks_by, talks_from, talks_with}
+use Rattle.net_base.proofs.Tests.{number_itself}
+use Rattle.net_base.proofs.SameNames.{same_proto_itself}
 
 -- Names.
 
-same_number : (n : ℕ) → (n == n) ≡ true
-same_number n = grind (arith, nat_tests)
-
-same_kind : (p : Proto) → same_proto p p ≡ true
-same_kind proto.Il = refl
-same_kind proto.Udp = refl
-
 itself : (a : ActorName) → is_conversation a ≡ true → same_actor a a ≡ true
-itself (name.Conv h p n) is = and_from ((h == h) && same_proto p p) (n == n) (and_from (h == h) (same_proto p p) (same_number h) (same_kind p)) (same_number n)
+itself (name.Conv h p n) is = and_from ((h == h) && same_proto p p) (n == n) (and_from (h == h) (same_proto p p) (number_itself h) (same_proto_itself p)) (number_itself n)
 itself (name.Desk h) is = absurd (true≢false (sym is))
 itself (name.Dir h p) is = absurd (true≢false (sym is))
 itself (name.Medium m) is = absurd (true≢false (sym is))

@@ -8,6 +8,7 @@ use Rattle.net_chart.specs.Drawing.{drawing_of, drawn_text}
 use Rattle.net_chart.specs.Frames.{same_frame}
 use Rattle.net_chart.specs.Sights.{sight_of}
 use Rattle.net_chart.specs.Things.{Drawn, Past, arrives_in, drawn_of, is_copy, past_after, thing_at, things_from}
+use Rattle.net_base.proofs.Members.{past_all}
 
 -- Lists.
 
@@ -19,13 +20,6 @@ dropped_next (y ∷ ys) (suc i) x lt is = dropped_next ys i x (omega (arith, lt)
 -- an element and those behind it
 pub dropped : {A : Type 0} (es : List A) (i : ℕ) (x : A) → i < length es → x ≡ get_or es i x → drop i es ≡ x ∷ drop (i + 1) es
 dropped es i x lt is = let e : suc i ≡ i + 1 = omega arith in dropped_next es i x lt is ∙ ap (λ (k : ℕ). x ∷ drop k es) e
-
--- nothing is left
-pub nothing_left : {A : Type 0} (es : List A) (i : ℕ) → length es ≤ i → drop i es ≡ []
-nothing_left [] zero le = refl
-nothing_left [] (suc i) le = refl
-nothing_left (y ∷ ys) zero le = absurd (omega (arith, le))
-nothing_left (y ∷ ys) (suc i) le = nothing_left ys i (omega (arith, le))
 
 -- Copies that come.
 
@@ -54,7 +48,7 @@ pub copies_all : (es : List Entry) (i : ℕ) (keys : List (ℕ × ℕ)) → leng
     → (key : ℕ × ℕ) → list_any (same_frame key) keys ≡ arrives_in es key
 copies_all es i keys le are key =
     or_false (list_any (same_frame key) keys)
-    ∙ ap (λ (ys : List Entry). list_any (same_frame key) keys || arrives_in ys key) (sym (nothing_left es i le))
+    ∙ ap (λ (ys : List Entry). list_any (same_frame key) keys || arrives_in ys key) (sym (past_all es i le))
     ∙ are key
 
 -- Things.

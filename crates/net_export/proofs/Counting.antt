@@ -18,10 +18,11 @@ use Rattle.net_base.specs.Next.{next_of, own_replies, zone_of}
 use Rattle.net_base.specs.Scripts.{at_first, position}
 use Rattle.net_base.specs.Steps.{Ask}
 use Rattle.history_laws.proofs.Shared.{after_push, by_entries, Each, each_append, IsNextEvent}
-use Rattle.session_answers.proofs.Shared.{drop_next}
 use Rattle.net_export.specs.Counted.{brought, count_after, follow_ups, puts, releases}
 use Rattle.net_export.proofs.FreeEvents.{IsFree, IsFreeDuty, duties_free, script_free}
 use Rattle.net_export.proofs.Lengths.{duties_length}
+use Rattle.net_base.proofs.Members.{there_at, next_one}
+use Rattle.net_base.proofs.CallerNames.{script_at}
 
 -- The count of one entry more.
 
@@ -35,23 +36,13 @@ count_push w c n (y ∷ h) x = count_push w c (counted w c n y) h x
 -- .. of the one at a stamp
 pub counted_next : (w : World) (c n : ℕ) (h : List Entry) (k : ℕ) (x : Entry) → slice_get h k ≡ Some x
     → count_after w c n (drop k h) ≡ count_after w c (if x.caller == c then (n - 1) + brought w x else n) (drop (k + 1) h)
-counted_next w c n h k x is = ap (count_after w c n) (drop_next h k x is)
+counted_next w c n h k x is = ap (count_after w c n) (next_one h k x is)
 
 -- .. and behind the last
 pub counted_all : (w : World) (c n : ℕ) (h : List Entry) (k : ℕ) → length h ≤ k → count_after w c n (drop k h) ≡ n
 counted_all w c n h k past = ap (count_after w c n) (drop_all k h past)
 
 -- What a script records is free.
-
-pub stands_below : (ss : List Script) (c : ℕ) → c < length ss → (s : Script) × (slice_get ss c ≡ Some s)
-stands_below [] c below = absurd (omega arith)
-stands_below (s ∷ ss) zero below = (s, refl)
-stands_below (s ∷ ss) (suc c) below = stands_below ss c (omega arith)
-
-script_at : (w : World) (c : ℕ) → c < length w.scripts → (s : Script) × (caller_of w c ≡ IsScript s)
-script_at w c below =
-    let there = stands_below w.scripts c below in
-    (there.0, ap (λ (o : Option Script). option_map_or (λ (t : Script). IsScript t) o (other_caller w c)) there.1)
 
 next_free : (s : Script) (o : Option Ask) (x : Entry) → IsNextEvent (λ a e. IsFree e) o → o ≡ Some (asked_by x) → IsFree x.event
 next_free s None x free is = absurd (none-some _ is)

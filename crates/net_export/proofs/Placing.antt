@@ -1,7 +1,7 @@
 -- Sessions' scripts in their places: the sessions so far are in them, and the other scripts as they were.
 use Rattle.std.proofs.Common.{◌≡◌, ℕ, zero, suc, ◌+◌, ◌<◌, ◌≤◌, ◌==◌, ◌||◌, nat_lt, nat_le, not, Bool, true, false, List, [], ◌∷◌, length, take, get_or, Some, slice_get, ◌⊎◌, inl, inr, refl, sym, ap, subst, ◌∙◌, arith}
 use Rattle.std.specs.List.{list_all, list_any}
-use Rattle.std.proofs.lemmas.Bool.{and_from, and_parts, eqb-true, eqb-false, eq-eqb, true≢false}
+use Rattle.std.proofs.lemmas.Bool.{and_from, and_parts, eqb-true, eqb-false, eq-eqb, true≢false, cases_eq}
 use Rattle.std.proofs.lemmas.List.{take_all}
 use Rattle.std.proofs.lemmas.Option.{none-some, same_Some, slice_get_read, slice_get_within}
 use Rattle.net_base.specs.declared.world.Script.{Script}
@@ -16,7 +16,7 @@ use Rattle.sessions.specs.Worlds.{HaveHosts, HaveStreams, IsTranslated, Translat
 use Rattle.net_base.specs.declared.world.World.{World}
 use Rattle.net_export.specs.Answered.{ArePlayed}
 use Rattle.net_export.specs.Placed.{PlaysSession, PutsSession}
-use Rattle.net_export.proofs.Counting.{stands_below}
+use Rattle.net_base.proofs.Members.{there_at}
 
 -- The sessions so far.
 
@@ -94,22 +94,14 @@ all_from : {X : Type 0} (p : X → Bool) (xs : List X) → ((c : ℕ) (x : X) �
 all_from p [] each = refl
 all_from p (x ∷ xs) each = and_from (p x) (list_all p xs) (each 0 x refl) (all_from p xs (λ c y is. each (suc c) y is))
 
--- it is the session's place, or another
-here_or_not : (c d : ℕ) → (c ≡ d) ⊎ (c ≡ d → ⊥)
-here_or_not c d = by (c == d) refl
-  where
-    by : (b : Bool) → (c == d) ≡ b → (c ≡ d) ⊎ (c ≡ d → ⊥)
-    by true is = inl (eqb-true c d is)
-    by false is = inr (eqb-false c d is)
-
 sayable_more : (hosts : ℕ) (x : Session) (old new : List Script) → PutsSession x old new → list_all (is_script hosts) old ≡ true
     → list_all (is_script hosts) new ≡ true
-sayable_more hosts x old new puts all = all_from (is_script hosts) new (λ c y is. each c y is (here_or_not c x.place))
+sayable_more hosts x old new puts all = all_from (is_script hosts) new (λ c y is. each c y is (cases_eq c x.place))
   where
     each : (c : ℕ) (y : Script) → slice_get new c ≡ Some y → (c ≡ x.place) ⊎ (c ≡ x.place → ⊥) → is_script hosts y ≡ true
     each c y is (inr other) = all_at (is_script hosts) old c y all (sym (puts.others c other) ∙ is)
     each c y is (inl same) =
-        let stood = stands_below old c (omega (arith, slice_get_within new c y is, puts.count)) in
+        let stood = there_at old c (omega (arith, slice_get_within new c y is, puts.count)) in
         let own : PlaysSession x stood.0 y = puts.own stood.0 y (ap (λ (k : ℕ). slice_get old k) (sym same) ∙ stood.1)
         (ap (λ (k : ℕ). slice_get new k) (sym same) ∙ is) in
         let host : nat_lt y.host hosts ≡ true =
@@ -122,7 +114,7 @@ translates_more : (s : SessionWorld) (n : ℕ) (x : Session) (old new : List Scr
     → (c : ℕ) (before after : Script) → slice_get s.world.scripts c ≡ Some before → slice_get new c ≡ Some after → (c ≡ x.place) ⊎ (c ≡ x.place → ⊥)
     → Translates (first_of (suc n) s) c before after
 translates_more s n x old new streams is placing puts c before after one two (inl same) =
-    let stood = stands_below old c (omega (arith, slice_get_within new c after two, puts.count)) in
+    let stood = there_at old c (omega (arith, slice_get_within new c after two, puts.count)) in
     let own : PlaysSession x stood.0 after = puts.own stood.0 after (ap (λ (k : ℕ). slice_get old k) (sym same) ∙ stood.1)
     (ap (λ (k : ℕ). slice_get new k) (sym same) ∙ two) in
     let so_far = placing.each c before stood.0 one stood.1 in
@@ -165,7 +157,7 @@ placing_more s n x old new streams placing puts is =
     let more : Placing s (suc n) new =
     record {
       count = puts.count ∙ placing.count;
-      each = λ c before after one two. translates_more s n x old new streams is placing puts c before after one two (here_or_not c x.place);
+      each = λ c before after one two. translates_more s n x old new streams is placing puts c before after one two (cases_eq c x.place);
       sayable = sayable_more (length s.world.hosts) x old new puts placing.sayable;
     } in
     subst (λ (k : ℕ). Placing s k new) (omega arith) more
@@ -207,7 +199,7 @@ is_world s n now is placing =
 
 pub are_played : (s : SessionWorld) (w : World) → HaveStreams s → HaveHosts s → IsTranslated s w → ArePlayed w s.sessions
 are_played s w streams hosts is x there =
-    let before = stands_below s.world.scripts x.place (streams.places x there) in
-    let after = stands_below w.scripts x.place (omega (arith, streams.places x there, is.count)) in
+    let before = there_at s.world.scripts x.place (streams.places x there) in
+    let after = there_at w.scripts x.place (omega (arith, streams.places x there, is.count)) in
     let now = is.each x.place before.0 after.0 before.1 after.1 in
     record { as_script = after.0; stands = after.1; host = now.host ∙ hosts x before.0 there before.1; plays = now.session x there refl }

@@ -3,7 +3,7 @@ use Rattle.std.proofs.Common.{◌≡◌, ℕ, zero, suc, ◌<◌, ◌==◌, ◌&
 use Rattle.std.specs.Prelude.{is_none, filter, map}
 use Rattle.std.specs.List.{list_all}
 use Rattle.std.specs.Option.{option_map_or}
-use Rattle.std.proofs.lemmas.Bool.{eqb-true, false≢true}
+use Rattle.std.proofs.lemmas.Bool.{eqb-true, false≢true, and_from}
 use Rattle.std.proofs.lemmas.Option.{none-some, same_Some}
 use Rattle.net_base.specs.declared.history.Entry.{Entry}
 use Rattle.net_base.specs.declared.world.Script.{Script}
@@ -21,6 +21,7 @@ use Rattle.sessions.specs.InHistory.{IsSessionOf}
 use Rattle.session_answers.specs.Told.{AreTold, is_told}
 use Rattle.net_export.proofs.SessionEvents.{IsSessionEvent, next_of_session}
 use Rattle.net_export.proofs.ToldReplies.{entry_told}
+use Rattle.net_base.proofs.CallerNames.{script_is}
 
 -- ---- one entry
 
@@ -36,9 +37,6 @@ asked_next w bytes [] k s h c x script is free asked =
     next_is (standing w h c s).next x (next_of_session s.host bytes s.steps (at_first (zone_of w)) (own_replies h c) is)
     (subst (λ (l : Caller). IsAsked [] l (next_of w l h c) x) script asked)
 
-script_of : (w : World) (c : ℕ) (s : Script) → slice_get w.scripts c ≡ Some s → caller_of w c ≡ IsScript s
-script_of w c s is = ap (λ (o : Option Script). option_map_or (λ (t : Script). IsScript t) o (other_caller w c)) is
-
 own_reply_told : (w : World) (bytes : List ℕ) (h : List Entry) (c : ℕ) (x : Entry) → IsSessionOf w c bytes → MayFollow w h x → (x.caller == c) ≡ true → is_none x.cites ≡ true
     → is_told x.reply ≡ true
 own_reply_told w bytes h c x session may own free =
@@ -47,7 +45,7 @@ own_reply_told w bytes h c x session may own free =
     subst (λ (d : ℕ). IsAsked (owed w h d) (caller_of w d) (next_of w (caller_of w d) h d) x) same may.is_asked in
     let owes_none : is_none (cites_of (owed w h c)) ≡ true = ap (λ (d : ℕ). is_none (cites_of (owed w h d))) (sym same) ∙ (ap is_none (sym may.cites) ∙ free) in
     let event : IsSessionEvent x.actor x.event =
-    asked_next w bytes (owed w h c) (caller_of w c) session.as_script h c x (script_of w c session.as_script session.stands) session.plays owes_none asked in
+    asked_next w bytes (owed w h c) (caller_of w c) session.as_script h c x (script_is w c session.as_script session.stands) session.plays owes_none asked in
     entry_told w (after w h) x event may.is_ready may.answers
 
 -- ---- all of them
@@ -55,15 +53,12 @@ own_reply_told w bytes h c x session may own free =
 abbrev OwnTold : ℕ → Entry → Type 0
 OwnTold c x = (x.caller == c) ≡ true → is_none x.cites ≡ true → is_told x.reply ≡ true
 
-both : (a b : Bool) → a ≡ true → b ≡ true → (a && b) ≡ true
-both a b p q = rw (p, q) refl
-
 own_more : (c : ℕ) (x : Entry) (h : List Entry) → OwnTold c x → AreTold (own_replies h c) → AreTold (own_replies (x ∷ h) c)
 own_more c x h one rest = by_caller (x.caller == c) refl
   where
     by_cites : (b : Bool) → (x.caller == c) ≡ true → is_none x.cites ≡ b
         → AreTold (map (λ (y : Entry). y.reply) (cond b (x ∷ filter (λ (y : Entry). is_none y.cites) (by h c)) (filter (λ (y : Entry). is_none y.cites) (by h c))))
-    by_cites true own free = both (is_told x.reply) (list_all is_told (own_replies h c)) (one own free) rest
+    by_cites true own free = and_from (is_told x.reply) (list_all is_told (own_replies h c)) (one own free) rest
     by_cites false own owed = rest
 
     by_caller : (b : Bool) → (x.caller == c) ≡ b → AreTold (map (λ (y : Entry). y.reply) (filter (λ (y : Entry). is_none y.cites) (cond b (x ∷ by h c) (by h c))))

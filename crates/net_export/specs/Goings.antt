@@ -1,7 +1,7 @@
 -- How the play of a session's request goes on by a reply: it ends, or it awaits a conversation.
 use Rattle.std.proofs.Common.{◌≡◌, ℕ, Bool, true, false, not, ◌||◌, List, [], ◌∷◌, Option, Some, None, Result, Ok, Err, bytes_eq, if◌then◌else◌, refl, sym, ap, ◌∙◌}
 use Rattle.std.proofs.Math.Path.{fun_ext}
-use Rattle.std.proofs.lemmas.Bool.{false≢true, true≢false}
+use Rattle.std.proofs.lemmas.Bool.{false≢true, true≢false, not-true}
 use Rattle.std.proofs.lemmas.Slice.Eq.{bytes_eq-Decides}
 use Rattle.net_base.specs.declared.actor.ActorName.{ActorName}
 use Rattle.net_base.specs.declared.event.Event.{Event}
@@ -31,10 +31,6 @@ pub data Goes (h : ℕ) (names : Names) (r : Reply) (now : Names) : Option Reque
       → Goes h names r now (Some q) (Asks a e next)
 
 -- ---- replies
-
-flip : (b : Bool) → not b ≡ true → b ≡ false
-flip true is = absurd (false≢true is)
-flip false is = refl
 
 unopened_no : (r : Reply) → is_unopened r ≡ true → is_granted r ≡ false
 unopened_no reply.BadFid is = refl
@@ -181,18 +177,18 @@ module _ (h : ℕ) (names : Names) (r : Reply) (called : List ℕ) where
       by : (x : Reply) → fits_grant x ≡ true → Goes h names x names (if is_granted x then Some (request.Wait called) else None)
           (Asks a e (λ (granted : Reply). if_accepted granted (awaits f) (Ends names)))
       by (reply.Granted pair start limit) fit = IsMore a e _ (request.Wait called) (awaited f is) refl tt
-      by x fit = IsLast a e _ (ap (λ (v : Bool). if v then awaits f else Ends names) (flip (is_accepted x) fit))
+      by x fit = IsLast a e _ (ap (λ (v : Bool). if v then awaits f else Ends names) (not-true (is_accepted x) fit))
 
   controlled_goes : (f : Fid) (text : List ℕ) (read : Result Ctl ℕ) → fid_of called names ≡ Some f
       → fits_play (controls h f text read (Ends names) (Ends names)) r ≡ true
       → Goes h names r names waits (controls h f text read (Ends names) (Ends names))
   controlled_goes f text (Ok (ctl.Connect remote lport)) is fit = granted_goes _ _ f is fit
-  controlled_goes f text (Ok (ctl.Announce ip port)) is fit = ended _ _ _ (flip (is_granted r) fit) (same_ends r names)
-  controlled_goes f text (Ok (ctl.Bind port)) is fit = ended _ _ _ (flip (is_granted r) fit) (same_ends r names)
-  controlled_goes f text (Ok ctl.Hangup) is fit = ended _ _ _ (flip (is_granted r) fit) (same_ends r names)
-  controlled_goes f text (Ok (ctl.Ttl n)) is fit = ended _ _ _ (flip (is_granted r) fit) (same_ends r names)
-  controlled_goes f text (Ok (ctl.Tos n)) is fit = ended _ _ _ (flip (is_granted r) fit) (same_ends r names)
-  controlled_goes f text (Err fault) is fit = ended _ _ _ (flip (is_granted r) fit) (same_ends r names)
+  controlled_goes f text (Ok (ctl.Announce ip port)) is fit = ended _ _ _ (not-true (is_granted r) fit) (same_ends r names)
+  controlled_goes f text (Ok (ctl.Bind port)) is fit = ended _ _ _ (not-true (is_granted r) fit) (same_ends r names)
+  controlled_goes f text (Ok ctl.Hangup) is fit = ended _ _ _ (not-true (is_granted r) fit) (same_ends r names)
+  controlled_goes f text (Ok (ctl.Ttl n)) is fit = ended _ _ _ (not-true (is_granted r) fit) (same_ends r names)
+  controlled_goes f text (Ok (ctl.Tos n)) is fit = ended _ _ _ (not-true (is_granted r) fit) (same_ends r names)
+  controlled_goes f text (Err fault) is fit = ended _ _ _ (not-true (is_granted r) fit) (same_ends r names)
 
   put_goes : (f : Fid) (to : FileName) (text : List ℕ) → fid_of called names ≡ Some f → fits_play (puts h f to text (Ends names) (Ends names)) r ≡ true
       → Goes h names r names waits (puts h f to text (Ends names) (Ends names))

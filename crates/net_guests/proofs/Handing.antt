@@ -17,33 +17,10 @@ use Rattle.journal.specs.Tokens.{Looked}
 use Rattle.guest_laws.specs.Guests.{HandsOver, IsGuest, StaysGuest}
 use Rattle.net_guests.proofs.Passes.{with_more}
 use Rattle.net_guests.specs.Visits.{IsWith, Visit}
+use Rattle.net_base.proofs.Tests.{number_itself}
+use Rattle.net_base.proofs.Members.{in_front, in_back, in_filter}
 
 -- Lists of what a pass holds.
-
-pub in_front : {A : Type 0} (x : A) (xs ys : List A) → In x xs → In x (xs ++ ys)
-in_front x [] ys none = absurd none
-in_front x (y ∷ xs) ys (inl is) = inl is
-in_front x (y ∷ xs) ys (inr there) = inr (in_front x xs ys there)
-
-pub in_back : {A : Type 0} (x : A) (xs ys : List A) → In x ys → In x (xs ++ ys)
-in_back x [] ys there = there
-in_back x (y ∷ xs) ys there = inr (in_back x xs ys there)
-
-in_filter : (test : Held → Bool) (h : Held) (hs : List Held) → In h hs → test h ≡ true → In h (filter test hs)
-in_filter test h [] none is = absurd none
-in_filter test h (x ∷ hs) (inl here) is = at_head (test x) (ap test (sym here) ∙ is)
-  where
-    at_head : (b : Bool) → b ≡ true → In h (if b then x ∷ filter test hs else filter test hs)
-    at_head true yes_ = inl here
-    at_head false yes_ = absurd (true≢false (sym yes_))
-in_filter test h (x ∷ hs) (inr there) is = past_head (in_filter test h hs there is) (test x)
-  where
-    past_head : In h (filter test hs) → (b : Bool) → In h (if b then x ∷ filter test hs else filter test hs)
-    past_head rest true = inr rest
-    past_head rest false = rest
-
-pub same_number_is : (n : ℕ) → (n == n) ≡ true
-same_number_is n = grind (arith, nat_tests)
 
 -- numbers that are not one are told apart
 pub apart_test : (a b : ℕ) → (a ≡ b → ⊥) → (a == b) ≡ false
@@ -82,7 +59,7 @@ module _ (w : World) (r : Roster) (c : ℕ) (p q p' q' : Sight) (h : HandsOver r
   given : (es : List (ℕ × Noted)) → In (number.Caller c, es) p.held → In (number.Caller c, es) h.moved.held
   given es there =
       subst (λ (hs : List Held). In (number.Caller c, es) hs) (sym h.given_held)
-      (in_filter (λ (k : Held). same_number k.0 (number.Caller c)) (number.Caller c, es) p.held there (same_number_is c))
+      (in_filter (λ (k : Held). same_number k.0 (number.Caller c)) (number.Caller c, es) p.held there (number_itself c))
 
   -- the guest of the number
   pub goes_over : (v : Visit) → v.caller ≡ c → IsWith w r v p → StaysGuest w r v.caller p v.owed q' → IsWith w r v q'

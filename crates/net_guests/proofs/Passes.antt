@@ -17,7 +17,7 @@ use Rattle.journal.specs.declared.tokens.Volume.{Volume}
 use Rattle.journal.specs.Closing.{IsWhole, plain}
 use Rattle.journal.specs.Rule.{Held}
 use Rattle.journal.specs.Tokens.{Holds, HoldsAll, Met}
-use Rattle.journal.proofs.Shared.{in-left, in-right, prefix_trans}
+use Rattle.journal.proofs.Shared.{prefix_trans}
 use Rattle.guest_laws.specs.Guests.{IsGuest, IsOfGuests, StaysGuest}
 use Rattle.guest_laws.specs.Own.{AreNext, AreTimely, AreTurns, IsLegalButScripts, StandsStill}
 use Rattle.guest_laws.specs.Works.{entries, noted_net}
@@ -26,6 +26,7 @@ use Rattle.net_base.specs.Tasks.{Tasks}
 use Rattle.net_locks.specs.Rosters.{AreReplayed, IsReplayed}
 use Rattle.net_guests.specs.Visits.{Finished, Gathering, Gathers, HasBook, HasGuest, IsWith, Visit}
 use Rattle.net_locks.specs.Turns.{Stays, own}
+use Rattle.net_base.proofs.Members.{in_front, in_back}
 
 -- Guests that stay.
 
@@ -74,21 +75,17 @@ module _ (w : World) (r : Roster) where
     with_this q met stays =
         let held : In (number.Caller v.caller, is.guest.list) p'.held =
         subst (λ (hs : List Held). In (number.Caller v.caller, is.guest.list) hs) (sym met.held)
-        (in-left (number.Caller v.caller, is.guest.list) p.held q.held is.guest.held) in
+        (in_front (number.Caller v.caller, is.guest.list) p.held q.held is.guest.held) in
         with_more stays met.this held (met.lists (number.Caller v.caller) is.guest.list held)
 
     pub with_that : (q : Sight) (met : Met r q p p') → StaysGuest w r v.caller p v.owed p' → IsWith w r v p'
     with_that q met stays =
         let held : In (number.Caller v.caller, is.guest.list) p'.held =
         subst (λ (hs : List Held). In (number.Caller v.caller, is.guest.list) hs) (sym met.held)
-        (in-right (number.Caller v.caller, is.guest.list) q.held p.held is.guest.held) in
+        (in_back (number.Caller v.caller, is.guest.list) q.held p.held is.guest.held) in
         with_more stays met.that held (met.lists (number.Caller v.caller) is.guest.list held)
 
 -- One after another.
-
-pub nil_of : {A : Type 0} (xs : List A) → length xs ≡ 0 → xs ≡ []
-nil_of [] is = refl
-nil_of (x ∷ xs) is = absurd (omega (arith, is))
 
 pub last_or : {A : Type 0} (x : A) (xs : List A) (y : A) → In x (xs ++ y ∷ []) → In x xs ⊎ (x ≡ y)
 last_or x [] y (inl is) = inr is

@@ -3,6 +3,6 @@
 -- whether a duty is owed, and which stands first
 pub use Rattle.net_guests.proofs.Firsts.{first_of, first_some}
 -- a caller's number goes from one pass to another, and what is known of guests goes with it
-pub use Rattle.net_guests.proofs.Handing.{apart_test, in_back, in_front, none_more, same_number_is}
+pub use Rattle.net_guests.proofs.Handing.{apart_test, none_more}
 -- the passes of guests come together, and with them what each guest knows
-pub use Rattle.net_guests.proofs.Passes.{all_with, finished, gathered, gathering, gathers_on, holds_all, itself, kept, last_or, nil_of}
+pub use Rattle.net_guests.proofs.Passes.{all_with, finished, gathered, gathering, gathers_on, holds_all, itself, kept, last_or}

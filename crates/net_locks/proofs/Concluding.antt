@@ -1,6 +1,6 @@
 -- What is concluded of the clock from how the callers stand.
 use Rattle.std.proofs.Common.{◌≡◌, ℕ, ◌<◌, ◌≤◌, ◌&&◌, ◌||◌, nat_lt, Bool, true, false, List, [], ◌∷◌, length, Option, Some, None, if◌then◌else◌, refl, ap, sym, subst, ◌∙◌, arith, inl, inr}
-use Rattle.std.proofs.lemmas.Bool.{eq-eqb, false≢true, lt-ltb, le-ltb, true≢false}
+use Rattle.std.proofs.lemmas.Bool.{eq-eqb, false≢true, lt-ltb, le-ltb, true≢false, and_parts, and_left, and_right}
 use Rattle.net_base.specs.declared.actor.ActorName.{ActorName}
 use Rattle.net_base.specs.declared.actor.ActorName.TheVariants as name
 use Rattle.net_base.specs.declared.event.Event.{Event}
@@ -28,6 +28,7 @@ use Rattle.net_locks.specs.declared.clock.Standing.{Standing}
 use Rattle.net_locks.specs.Standings.{AllStand, DoesAny, Finds, IsLeastOf, callers_of}
 use Rattle.net_locks.specs.Moving.{IsLeast}
 use Rattle.net_locks.proofs.Found.{in_map, in_split, map_in}
+use Rattle.net_base.proofs.Leasts.{within_last}
 
 -- The history of guests.
 
@@ -42,10 +43,6 @@ of_guests ts w r p ss stand actors callers lawful =
     }
 
 -- The moment isn't past the end.
-
-within_last : (last : ℕ) (ms : List ℕ) → least last ms ≤ last
-within_last last [] = omega arith
-within_last last (m ∷ ms) = omega (arith, within_last last ms)
 
 target_within : (ts : Tasks) (w : World) (net : Net) → target_by ts w net ≤ w.end
 target_within ts w net = within_last w.end _
@@ -80,17 +77,6 @@ moment_within ts w r p ss stand lawful =
     (omega arith)
 
 -- Tests.
-
-and_left : (a b : Bool) → a ≡ false → (a && b) ≡ false
-and_left a b is = ap (λ (x : Bool). x && b) is
-
-and_right : (a b : Bool) → b ≡ false → (a && b) ≡ false
-and_right true b is = is
-and_right false b is = refl
-
-and_both : (a b : Bool) → (a && b) ≡ true → (a ≡ true) × (b ≡ true)
-and_both true b is = (refl, is)
-and_both false b is = absurd (false≢true is)
 
 or_first : (a b : Bool) → (a || b) ≡ false → a ≡ false
 or_first true b is = is
@@ -137,7 +123,7 @@ module _ (ts : Tasks) (w : World) (r : Roster) (p : Sight) (ss : List Standing) 
   -- a full caller could record
   pub full_limits : FullOnesLimit → (full : Bool) → full ≡ true → DoesAny (λ (c : ℕ). is_full net c && could ts w net c) (callers_of ss) full → limited_by ts w net ≡ true
   full_limits law true is some =
-      let both = and_both (is_full net some.0) (could ts w net some.0) some.2 in
+      let both = and_parts (is_full net some.0) (could ts w net some.0) some.2 in
       law ts w net some.0 (known some.0 some.1) both.0 both.1
   full_limits law false is some = absurd (false≢true is)
 

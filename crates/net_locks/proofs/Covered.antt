@@ -24,15 +24,13 @@ use Rattle.guest_laws.specs.Guests.{IsGuest, Records}
 use Rattle.net_locks.specs.declared.turn.Turn.{Turn}
 use Rattle.net_locks.specs.declared.turn.Turn.TheVariants as turn
 use Rattle.net_locks.specs.Turns.{Recorded, Turned, own}
-
-same_caller : (c : ℕ) → (c == c) ≡ true
-same_caller c = grind (arith, nat_tests)
+use Rattle.net_base.proofs.Tests.{number_itself}
 
 -- the last entry is its caller's last
 own_last : (n : ℕ) (past : List Noted) (x : Noted)
     → at_from (number.Caller x.entry.caller) n (past ++ x ∷ []) ≡ at_from (number.Caller x.entry.caller) n past ++ (n + length past, x) ∷ []
 own_last n [] x =
-    ap (λ (t : Bool). if t then (n, x) ∷ [] else []) (same_caller x.entry.caller) ∙ ap (λ (k : ℕ). (k, x) ∷ []) {x = n} {y = n + 0} (omega arith)
+    ap (λ (t : Bool). if t then (n, x) ∷ [] else []) (number_itself x.entry.caller) ∙ ap (λ (k : ℕ). (k, x) ∷ []) {x = n} {y = n + 0} (omega arith)
 own_last n (y ∷ past) x = by_test (y.entry.caller == x.entry.caller) (own_last (n + 1) past x)
   where
     by_test : (t : Bool)

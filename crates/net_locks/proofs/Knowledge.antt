@@ -30,6 +30,7 @@ use Rattle.journal.specs.Rule.{Lawful}
 use Rattle.net_locks.specs.declared.calendar.Calendar.{Calendar}
 use Rattle.net_locks.specs.declared.clock.Standing.{Standing}
 use Rattle.net_locks.specs.Knowing.{AreMixed, IsKnown, all_touched, due_from, is_told, mixed, touched_count}
+use Rattle.net_base.proofs.Tests.{number_itself}
 
 -- Lists.
 
@@ -229,14 +230,11 @@ actors_still w net x b other = by_step (step_by w net x)
     by_step None = refl
     by_step (Some s) = ap (λ (t : Bool). if t then s.state else net.actors b) other
 
-same_caller : (c : ℕ) → (c == c) ≡ true
-same_caller c = grind (arith, nat_tests)
-
 -- an entry stands among those of its caller
 stands_in : (n : ℕ) (past : List Noted) (x : Noted) (xs : List Noted) → In (n + length past, x) (at_from (number.Caller x.entry.caller) n (past ++ x ∷ xs))
 stands_in n [] x xs =
     subst (λ (t : Bool). In (n + 0, x) (if t then (n, x) ∷ at_from (number.Caller x.entry.caller) (n + 1) xs else at_from (number.Caller x.entry.caller) (n + 1) xs))
-    (sym (same_caller x.entry.caller)) (inl (ap (λ (k : ℕ). (k, x)) {x = n + 0} {y = n} (omega arith)))
+    (sym (number_itself x.entry.caller)) (inl (ap (λ (k : ℕ). (k, x)) {x = n + 0} {y = n} (omega arith)))
 stands_in n (y ∷ past) x xs =
     by_test (y.entry.caller == x.entry.caller)
     (subst (λ (k : ℕ). In (k, x) (at_from (number.Caller x.entry.caller) (n + 1) (past ++ x ∷ xs))) {x = n + 1 + length past} (omega arith) (stands_in (n + 1) past x xs))

@@ -27,24 +27,9 @@ use Rattle.guest_laws.specs.Works.{entries, noted_net}
 use Rattle.net_locks.specs.declared.clock.Standing.{Standing}
 use Rattle.net_locks.specs.Standings.{AllStand, StandsAt, awaited_moments, awaited_of, due_moments}
 use Rattle.net_locks.proofs.Found.{filter_map_in, in_filter_map, in_map, map_in}
+use Rattle.net_base.proofs.Leasts.{min_swap, least_min, within_last, within_each}
 
 -- The least.
-
-min_swap : (a b c : ℕ) → min a (min b c) ≡ min b (min a c)
-min_swap a b c = omega arith
-
-least_min : (last m : ℕ) (ms : List ℕ) → least (min m last) ms ≡ min m (least last ms)
-least_min last m [] = refl
-least_min last m (x ∷ ms) = ap (min x) (least_min last m ms) ∙ min_swap x m (least last ms)
-
-within_last : (last : ℕ) (ms : List ℕ) → least last ms ≤ last
-within_last last [] = omega arith
-within_last last (m ∷ ms) = omega (arith, within_last last ms)
-
-within_each : (last : ℕ) (ms : List ℕ) (m : ℕ) → In m ms → least last ms ≤ m
-within_each last [] m there = absurd there
-within_each last (n ∷ ms) m (inl is) = omega (arith, is)
-within_each last (n ∷ ms) m (inr there) = omega (arith, within_each last ms m there)
 
 -- it is the last or one of them
 one_of_them : (last : ℕ) (ms : List ℕ) → (least last ms ≡ last) ⊎ In (least last ms) ms

@@ -31,6 +31,7 @@ use Rattle.guest_laws.specs.Works.{entries, next_noted, noted_after, noted_net, 
 use Rattle.net_locks.specs.Moving.{LeavesMoved, MayLeave, MovesTo}
 use Rattle.net_locks.specs.Turns.{HasRoom, Stays, bare}
 use Rattle.net_locks.proofs.Covered.{covers_move}
+use Rattle.net_base.proofs.Tests.{apart_turned}
 
 -- moves owe their ticks
 abbrev pub MovesOwe : Type 0
@@ -40,9 +41,6 @@ MovesOwe = (w : World) (actors : ActorName → Actor) (stamp now : ℕ) → Move
 at_other : (k : Number) (x : Noted) → matches k x ≡ false → (n : ℕ) (log : List Noted) → at_from k n (log ++ x ∷ []) ≡ at_from k n log
 at_other k x other n [] = ap (λ (b : Bool). if b then (n, x) ∷ [] else []) other
 at_other k x other n (y ∷ log) = ap (λ (l : List (ℕ × Noted)). if matches k y then (n, y) ∷ l else l) (at_other k x other (n + 1) log)
-
-apart : (a b : ℕ) → (a == b) ≡ false → (b == a) ≡ false
-apart a b is = grind (arith, nat_tests)
 
 module _ (ts : Tasks) (w : World) (r : Roster) (c now m : ℕ) (p p' : Sight) (ds : List Duty) (g : IsGuest w r c p ds) (stamp : ℕ) (o : Outcome)
     (d : Records w r name.Clock c now (bare (event.Move m)) None p stamp o p')
@@ -113,7 +111,7 @@ module _ (ts : Tasks) (w : World) (r : Roster) (c now m : ℕ) (p p' : Sight) (d
         stays.guest,
         record {
           before = (entry ∷ [], sym seen);
-          alone = ap (at (number.Caller k)) seen ∙ at_other (number.Caller k) entry (apart k c other) 0 p.seen;
+          alone = ap (at (number.Caller k)) seen ∙ at_other (number.Caller k) entry (apart_turned k c other) 0 p.seen;
           stands = stays.stands;
         },
       )
@@ -134,7 +132,7 @@ module _ (ts : Tasks) (w : World) (r : Roster) (c now m : ℕ) (p p' : Sight) (d
         free = free;
         here = moment_on grows here;
         covers = λ t covers. covers_move ts w c now (bare (event.Move m)) None p p' ds ds' moves.stamp moves.reply t moves.turn covers;
-        others = λ k es guest other. others_on k es other (stay k es (apart k c other) guest);
+        others = λ k es guest other. others_on k es other (stay k es (apart_turned k c other) guest);
       }
 
 -- After what came before it, which left the pass and the duties as they were.

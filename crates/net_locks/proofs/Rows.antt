@@ -221,10 +221,6 @@ module _ {A B : Type 0} (f : A → ActorName) (g : B → ActorName) where
   pub taken_all : (made : List A) (left : List B) (all : List ActorName) → map f made ++ map g (reverse left) ≡ all → left ≡ [] → map f made ≡ all
   taken_all made left all so none = sym (append-nil (map f made)) ∙ (ap (λ (l : List B). map f made ++ map g (reverse l)) (sym none) ∙ so)
 
-pub nil_of : {A : Type 0} (xs : List A) → length xs ≡ 0 → xs ≡ []
-nil_of [] is = refl
-nil_of (x ∷ xs) is = absurd (omega (arith, is))
-
 -- each actor of the roster is the world's
 pub known : (w : World) (n : ℕ) (actors : List ActorName) → AreNumbered w n actors → (a : ActorName) → In a actors → has_actor w a ≡ true
 known w n actors are a i = let at_k = in_get actors a i in (are.each at_k.0 a at_k.1).0

@@ -2,7 +2,7 @@
 use Rattle.std.proofs.Common.{◌≡◌, ℕ, zero, suc, ◌+◌, ◌<◌, ◌&&◌, ◌||◌, inl, inr, nat_lt, Bool, true, false, List, [], ◌∷◌, length, Option, Some, None, is_some, slice_get, refl, ap, sym, subst, ◌∙◌, arith}
 use Rattle.std.specs.List.{enumerate_from, list_any}
 use Rattle.std.specs.Option.{option_map, option_map_or}
-use Rattle.std.proofs.lemmas.Bool.{false≢true, lt-ltb, ltb-true, true≢false}
+use Rattle.std.proofs.lemmas.Bool.{false≢true, lt-ltb, ltb-true, true≢false, and_parts}
 use Rattle.std.proofs.lemmas.Option.{none-some, same_Some}
 use Rattle.net_base.specs.declared.actor.ActorName.{ActorName}
 use Rattle.net_base.specs.declared.history.Entry.{Entry}
@@ -25,6 +25,7 @@ use Rattle.journal.specs.declared.tokens.Sight.{Sight}
 use Rattle.guest_laws.specs.Works.{entries, noted_net}
 use Rattle.net_locks.specs.declared.clock.Standing.{Standing}
 use Rattle.net_locks.specs.Standings.{AllStand, StandsAt, ask_of, has_left}
+use Rattle.net_base.proofs.Members.{there_at}
 
 -- A script has something to record next exactly where a step is left.
 
@@ -89,19 +90,10 @@ unpassed test (x ∷ ss) is s there = by_first (test x) refl is there (unpassed 
     by_first false here is (inl same) rest = ap test same ∙ here
     by_first false here is (inr later) rest = rest is s later
 
-some_there : (xs : List Script) (k : ℕ) → k < length xs → (s : Script) × (slice_get xs k ≡ Some s)
-some_there [] k lt = absurd (omega (arith, lt))
-some_there (x ∷ xs) zero lt = (x, refl)
-some_there (x ∷ xs) (suc k) lt = some_there xs k (omega (arith, lt))
-
 within : (xs : List Script) (k : ℕ) (s : Script) → slice_get xs k ≡ Some s → k < length xs
 within [] k s is = absurd (none-some s is)
 within (x ∷ xs) zero s is = omega arith
 within (x ∷ xs) (suc k) s is = omega (arith, within xs k s is)
-
-and_both : (a b : Bool) → (a && b) ≡ true → (a ≡ true) × (b ≡ true)
-and_both true b is = (refl, is)
-and_both false b is = absurd (false≢true is)
 
 and_second : (a b : Bool) → (a && b) ≡ false → a ≡ true → b ≡ false
 and_second a b is left = sym (ap (λ (x : Bool). x && b) left) ∙ is
@@ -144,8 +136,8 @@ module _ (ts : Tasks) (w : World) (r : Roster) (p : Sight) (ss : List Standing) 
   pub some_unfinished : list_any (has_left (length w.scripts)) ss ≡ true → unfinished_by ts w net ≡ true
   some_unfinished some =
       let s = passed (has_left (length w.scripts)) ss some in
-      let both = and_both (nat_lt s.0.caller (length w.scripts)) (is_some s.0.next) s.2 in
-      let script = some_there w.scripts s.0.caller (ltb-true s.0.caller (length w.scripts) both.0) in
+      let both = and_parts (nat_lt s.0.caller (length w.scripts)) (is_some s.0.next) s.2 in
+      let script = there_at w.scripts s.0.caller (ltb-true s.0.caller (length w.scripts) both.0) in
       let here : s.0.caller ≡ 0 + s.0.caller = omega arith in
       some_of unfinished_at w.scripts 0 s.0.caller script.0 script.1
       (subst (λ (i : ℕ). is_unfinished_by ts w net.past i script.0 ≡ true) here (unfinished_so s.0 (stand.each s.0 s.1) script.0 script.1 ∙ both.1))

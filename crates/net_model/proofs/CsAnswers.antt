@@ -32,13 +32,14 @@ use Rattle.net_base.specs.Net.{Net, after, net_after, step_of, stepped_to, work_
 use Rattle.net_base.specs.Stamped.{same_actor}
 use Rattle.net_base.specs.Versions.{database_of}
 use Rattle.net_model.specs.Headline.{AnswersCs, last_version, version_in, version_told}
-use Rattle.history_laws.proofs.Shared.{after_push, by_entries, legal_take, next_other, next_same, same_actor_is}
+use Rattle.history_laws.proofs.Shared.{after_push, by_entries, legal_take, next_other, next_same}
 use Rattle.table_laws.specs.ActorRows.{ActorRow, AtClock, AtConv, AtDesk, AtDir, AtMedium, DeskRow, MediumRow, Refuses, Tells}
 use Rattle.table_laws.specs.ConvRows.{ConvRow}
 use Rattle.table_laws.specs.ConvRows as conv_row
 use Rattle.table_laws.specs.DirRows.{DirRow}
 use Rattle.table_laws.specs.DirRows as dir_row
 use Rattle.table_laws.proofs.Shared.{shown_reply}
+use Rattle.net_base.proofs.SameNames.{same_actor_is}
 
 -- The version that a desk told last.
 

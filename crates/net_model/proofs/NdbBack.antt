@@ -11,6 +11,7 @@ use Rattle.net_model.specs.NdbWhole.{files_in, is_local, is_whole}
 use Rattle.net_model.proofs.NdbBundles.{bundle_reads, bundle_spelled}
 use Rattle.net_model.proofs.NdbWritable.{WritableTuples, bundle_is_writable}
 use Rattle.net_model.proofs.NdbWritten.{written_reads}
+use Rattle.net_base.proofs.Tests.{equal_texts}
 
 -- the one file of a text without files
 abbrev local_of : List (List (List NdbPair)) → File
@@ -27,9 +28,6 @@ of-name db name false e = rw e refl
 eq-turned : (a b : List ℕ) (v : Bool) → bytes_eq a b ≡ v → bytes_eq b a ≡ v
 eq-turned a b true e = grind (arith, bytes_eq-Decides a b, bytes_eq-Decides b a, e)
 eq-turned a b false e = grind (arith, bytes_eq-Decides a b, bytes_eq-Decides b a, e)
-
-eq-same : (a b : List ℕ) → bytes_eq a b ≡ true → a ≡ b
-eq-same a b e = grind (arith, bytes_eq-Decides a b, e)
 
 none-in : (a b : List (List (List NdbPair))) → a ≡ [] → a ++ b ≡ b
 none-in a b e = ap (λ (ts : List (List (List NdbPair))). ts ++ b) e
@@ -61,7 +59,7 @@ others-all db name (other ∷ names) none = by (bytes_eq other name) refl (other
     by : (v : Bool) → bytes_eq other name ≡ v → flat_map (of_name db) (others name names) ≡ flat_map (of_name db) names → flat_map (of_name db) (others name (other ∷ names)) ≡ flat_map (of_name db) (other ∷ names)
     by true e rest =
         filter-by db name other names true e
-        ∙ (rest ∙ sym (none-in (of_name db other) _ (ap (of_name db) (eq-same other name e) ∙ none)))
+        ∙ (rest ∙ sym (none-in (of_name db other) _ (ap (of_name db) (equal_texts other name e) ∙ none)))
     by false e rest = filter-by db name other names false e ∙ ap (λ (ts : List (List (List NdbPair))). of_name db other ++ ts) rest
 
 once-names : (db : List (List (List NdbPair))) (names : List (List ℕ)) → flat_map (of_name db) (each_once names) ≡ cond (list_any is_local names) db []
@@ -70,7 +68,7 @@ once-names db (name ∷ names) = by (bytes_eq name local_name) refl (once-names 
   where
     by : (v : Bool) → bytes_eq name local_name ≡ v → flat_map (of_name db) (each_once names) ≡ cond (list_any is_local names) db [] → flat_map (of_name db) (each_once (name ∷ names)) ≡ cond (list_any is_local (name ∷ names)) db []
     by true e rest =
-        ap (λ (ts : List (List (List NdbPair))). of_name db name ++ ts) (ap (λ (n : List ℕ). flat_map (of_name db) (others n (each_once names))) (eq-same name local_name e) ∙ others-none db (each_once names))
+        ap (λ (ts : List (List (List NdbPair))). of_name db name ++ ts) (ap (λ (n : List ℕ). flat_map (of_name db) (others n (each_once names))) (equal_texts name local_name e) ∙ others-none db (each_once names))
         ∙ (append-nil (of_name db name)
         ∙ (of-name db name true (eq-turned name local_name true e)
         ∙ sym (ap (λ (v : Bool). cond (v || list_any is_local names) db []) e)))

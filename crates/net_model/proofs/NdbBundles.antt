@@ -5,12 +5,14 @@ use Rattle.std.specs.List.{list_any, before_first}
 use Rattle.std.proofs.Math.Seq.{take-append_seam}
 use Rattle.std.proofs.lemmas.Bool.Decides.{nat_tests}
 use Rattle.std.proofs.lemmas.List.{take_all}
+use Rattle.std.proofs.lemmas.Bool.{or_parts, or_left, or_right}
 use Rattle.net_base.specs.Ndb.{NdbPair}
 use Rattle.net_base.specs.NdbText.{is_percent, begins, begins_with, is_empty, lines_of, pairs_of, starts, goes_on, tuples_of}
 use Rattle.net_base.specs.NdbBundle.{File, file_of, is_file_line, named_files, has_tuple, cause, causes_of, least, told, first_bad, bad_line, chosen, reading, database}
 use Rattle.ndb_text.specs.NdbSpelling.{ReadsLine, ReadsTuples, ReadsFiles, ReadsBundle, IsFileName}
-use Rattle.ndb_text.proofs.Shared.{or_false, some_none, before_first-none, line_reads, or_true, cons_none, and_false, some_once, starts-at, goes_on-at, line_has_no_cause, tuples_read}
+use Rattle.ndb_text.proofs.Shared.{or_false, some_none, before_first-none, line_reads, cons_none, some_once, starts-at, goes_on-at, line_has_no_cause, tuples_read}
 use Rattle.ndb_reader.proofs.Shared.{Next, has-line, before-more, before-stop, named-more, named-stop, reading-is, bundle-is-spelled}
+use Rattle.net_base.proofs.Tests.{and_none}
 
 -- Lines that begin a file.
 
@@ -52,12 +54,8 @@ has-more before line file =
     ∙ has-line (before ++ line ∷ []) (length before) line (at-end before line) file
     ∙ ap (λ (ls : List (List ℕ)). has_tuple ls || (starts line || false)) (take-append_seam before (line ∷ []))
 
-or-left : (a b : Bool) → a ≡ true → (a || b) ≡ true
-or-left true b e = refl
-or-left false b e = cc
-
 and-not : (a b : Bool) → b ≡ true → (a && not b) ≡ false
-and-not a true e = and_false a
+and-not a true e = and_none a
 and-not a false e = cc
 
 -- a tuple stands before in this file, or no line goes on with one
@@ -79,20 +77,20 @@ good-lines before (line ∷ front) tail more tuples begun (inl (r, others)) rest
     (good-lines (before ++ line ∷ []) front tail more tuples (on begun) others rest)
   where
     on : Begun before more → Begun (before ++ line ∷ []) more
-    on (inl some) = inl (has-more before line (no-file line [] r) ∙ or-left _ _ some)
+    on (inl some) = inl (has-more before line (no-file line [] r) ∙ or_left _ _ some)
     on (inr none) = inr none
 good-lines before (line ∷ front) tail more tuples (inr none) (inr (inl (pair, pairs, left, m, white, r, others))) rest =
     absurd (cons_none (sym m ∙ none))
 good-lines before (line ∷ front) tail more tuples (inl some) (inr (inl (pair, pairs, left, m, white, r, others))) rest =
     good-line before line (front ++ tail) (line_has_no_cause (has_tuple before) line (pair ∷ pairs) (and-not (goes_on line) (has_tuple before) some) r)
-    (good-lines (before ++ line ∷ []) front tail left tuples (inl (has-more before line (no-file line (pair ∷ pairs) r) ∙ or-left _ _ some)) others rest)
+    (good-lines (before ++ line ∷ []) front tail left tuples (inl (has-more before line (no-file line (pair ∷ pairs) r) ∙ or_left _ _ some)) others rest)
 good-lines before (line ∷ front) tail more tuples begun (inr (inr (pair, pairs, left, behind, m, t, white, r, others))) rest =
     let words : is_empty (pairs_of line) ≡ false = ap is_empty (line_reads line (pair ∷ pairs) r) in
     let g : goes_on line ≡ false = goes_on-at line false false words white in
     let s : starts line ≡ true = starts-at line false false words white in
     good-line before line (front ++ tail) (line_has_no_cause (has_tuple before) line (pair ∷ pairs) (ap (λ (b : Bool). b && not (has_tuple before)) g) r)
     (good-lines (before ++ line ∷ []) front tail left behind
-    (inl (has-more before line (no-file line (pair ∷ pairs) r) ∙ or_true (has_tuple before) _ (or-left (starts line) false s))) others rest)
+    (inl (has-more before line (no-file line (pair ∷ pairs) r) ∙ or_right (has_tuple before) _ (or_left (starts line) false s))) others rest)
 
 good-files : (lines : List (List ℕ)) (file : File) (files : List File) (before : List (List ℕ)) → ReadsFiles lines file files → first_bad causes_of before lines ≡ None
 good-files lines file [] before r =
@@ -113,20 +111,16 @@ none-begins (line ∷ lines) more tuples (inr (inl (pair, pairs, left, m, white,
 none-begins (line ∷ lines) more tuples (inr (inr (pair, pairs, left, behind, m, t, white, r, others))) =
     or_false _ _ (no-file line (pair ∷ pairs) r) (none-begins lines left behind others)
 
-or-first : (a b : Bool) → (a || b) ≡ false → (a ≡ false) × (b ≡ false)
-or-first true b e = cc
-or-first false b e = (refl, e)
-
 before-file : (front rest : List (List ℕ)) (line : List ℕ) → list_any is_file_line front ≡ false → is_file_line line ≡ true → before_first is_file_line (front ++ line ∷ rest) ≡ front
 before-file [] rest line none file = before-stop line rest file
 before-file (l ∷ front) rest line none file =
-    let parts = or-first (is_file_line l) (list_any is_file_line front) none in
+    let parts = or_parts (is_file_line l) (list_any is_file_line front) none in
     before-more l (front ++ line ∷ rest) parts.0 ∙ ap (λ (ls : List (List ℕ)). l ∷ ls) (before-file front rest line parts.1 file)
 
 named-behind : (front rest : List (List ℕ)) → list_any is_file_line front ≡ false → named_files (front ++ rest) ≡ named_files rest
 named-behind [] rest none = refl
 named-behind (l ∷ front) rest none =
-    let parts = or-first (is_file_line l) (list_any is_file_line front) none in
+    let parts = or_parts (is_file_line l) (list_any is_file_line front) none in
     named-more l (front ++ rest) parts.0 ∙ named-behind front rest parts.1
 
 file-is : (name : List ℕ) (tuples : List (List (List NdbPair))) (file : File) → file.name ≡ name → tuples ≡ file.tuples → record { name = name; tuples = tuples } ≡ file

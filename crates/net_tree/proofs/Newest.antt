@@ -8,6 +8,7 @@ use Rattle.net_base.specs.Steps as steps
 use Rattle.net_base.specs.Steps.{Bound, Fid as File, fid_among, is_among}
 use Rattle.net_tree.specs.declared.fids.Fid.{Fid}
 use Rattle.net_tree.specs.Bindings.{with_name, bindings, file_of, bound_of, newest_onto, AreApart}
+use Rattle.net_base.proofs.Tests.{or_true}
 
 abbrev or_else : Option File → Option File → Option File
 or_else None other = other
@@ -28,10 +29,6 @@ is_fine (Err e) fine = absurd (false≢true fine)
 
 pub same_bindings : {a b : List Bound} {r s : Option (List ℕ)} → a ≡ b → r ≡ s → bindings a r ≡ bindings b s
 same_bindings e f = λ i. bindings (e i) (f i)
-
-or_true : (b : Bool) → (b || true) ≡ true
-or_true true = refl
-or_true false = refl
 
 module _ {Z : Type 0} where
   abbrev has : List ℕ → Vec ℕ Z → Bool

@@ -35,10 +35,6 @@ guard_low : {A : Type 0} (b : Bool) (x y : A) → cond b None (Some x) ≡ Some 
 guard_low true x y e = absurd cc
 guard_low false x y e = (refl, cc)
 
-guard_high : {A : Type 0} (b : Bool) (x y : A) → cond b (Some x) None ≡ Some y → (b ≡ true) × (x ≡ y)
-guard_high true x y e = (refl, cc)
-guard_high false x y e = absurd cc
-
 guard_then : {A : Type 0} (b : Bool) (x : Option A) (y : A) → cond b x None ≡ Some y → (b ≡ true) × (x ≡ Some y)
 guard_then true x y e = (refl, e)
 guard_then false x y e = absurd cc

@@ -2,6 +2,7 @@
 use Rattle.std.proofs.Common.{◌≡◌, ℕ, ◌+◌, ◌≤◌, Bool, true, false, cond, eqb, List, [], ◌++◌, length, drop, Some, None, refl, sym, ap, subst, ◌∙◌, arith}
 use Rattle.std.proofs.lemmas.Bool.{eqb-true}
 use Rattle.std.proofs.lemmas.List.{append-nil, nil_from_length, drop-drop, get_or-drop, length-drop}
+use Rattle.std.proofs.lemmas.Option.{cond_some}
 use Rattle.byteorder.specs.Endian.{little_number}
 use Rattle.byteorder.specs.Numbers.{little_number-reads_back}
 use Rattle.net_base.specs.declared.ninep.Tmsg.{Tmsg}
@@ -15,10 +16,6 @@ use Rattle.net_base.specs.NinepReading.{all_of, t_at, t_of, r_at, r_of}
 use Rattle.ninep_wire.proofs.Laws.{IsBytes, IsBytes-drop, bind_some, front_1, front_2, front_4}
 use Rattle.ninep_wire.proofs.Requests.{IsT, t_takes, t_again}
 use Rattle.ninep_wire.proofs.Responses.{IsR, r_takes, r_again}
-
-guard_ended : {A : Type 0} (b : Bool) (x y : A) → cond b (Some x) None ≡ Some y → (b ≡ true) × (x ≡ y)
-guard_ended true x y e = (refl, cc)
-guard_ended false x y e = absurd cc
 
 -- ---- headers
 
@@ -119,7 +116,7 @@ pub t_found : (bytes : List ℕ) (m : Tmsg) → IsBytes bytes → HasSize bytes 
 unfolding t_bytes
 t_found bytes m fits sized e =
     let a = bind_some (t_at (type_field bytes) (tag_field bytes) (drop 7 bytes)) (λ x. cond (eqb (length x.1) 0) (Some x.0) None) m e in
-    let g = guard_ended (eqb (length a.0.1) 0) a.0.0 m a.2 in
+    let g = cond_some (eqb (length a.0.1) 0) a.0.0 m a.2 in
     let none : a.0.1 ≡ [] = nil_from_length a.0.1 (eqb-true _ _ g.0) in
     let one = t_takes (type_field bytes) (tag_field bytes) (drop 7 bytes) a.0.0 a.0.1 (IsBytes-drop 7 bytes fits) a.1 in
     let is : IsT (type_field bytes) (tag_field bytes) (drop 7 bytes) m [] =
@@ -199,7 +196,7 @@ pub r_found : (bytes : List ℕ) (m : Rmsg) → IsBytes bytes → HasSize bytes 
 unfolding r_bytes
 r_found bytes m fits sized e =
     let a = bind_some (r_at (type_field bytes) (tag_field bytes) (drop 7 bytes)) (λ x. cond (eqb (length x.1) 0) (Some x.0) None) m e in
-    let g = guard_ended (eqb (length a.0.1) 0) a.0.0 m a.2 in
+    let g = cond_some (eqb (length a.0.1) 0) a.0.0 m a.2 in
     let none : a.0.1 ≡ [] = nil_from_length a.0.1 (eqb-true _ _ g.0) in
     let one = r_takes (type_field bytes) (tag_field bytes) (drop 7 bytes) a.0.0 a.0.1 (IsBytes-drop 7 bytes fits) a.1 in
     let is : IsR (type_field bytes) (tag_field bytes) (drop 7 bytes) m [] =

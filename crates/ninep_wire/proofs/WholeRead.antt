@@ -1,7 +1,7 @@
 -- What bytes spell is what a reading of them gives.
 use Rattle.std.proofs.Common.{◌≡◌, ℕ, suc, ◌<◌, ◌≤◌, ◌==◌, ◌&&◌, Bool, true, false, nat_le, List, [], ◌∷◌, length, Option, Some, None, if◌then◌else◌, refl, arith}
 use Rattle.std.specs.List.{list_all}
-use Rattle.std.proofs.lemmas.Bool.{and_parts, eqb-true}
+use Rattle.std.proofs.lemmas.Bool.{and_parts, eqb-true, and_from, eq-eqb, leb-true, le-leb}
 use Rattle.std.proofs.lemmas.Bool.Decides.{nat_tests}
 use Rattle.net_base.specs.declared.ninep.Tmsg.{Tmsg}
 use Rattle.net_base.specs.declared.ninep.Rmsg.{Rmsg}
@@ -12,31 +12,19 @@ use Rattle.net_base.specs.World.{is_byte}
 use Rattle.ninep_wire.proofs.Laws.{IsBytes}
 use Rattle.ninep_wire.proofs.Whole.{r_found, r_heads, r_only, t_found, t_heads, t_only}
 
-both : (a b : Bool) → a ≡ true → b ≡ true → (a && b) ≡ true
-both a b p q = rw (p, q) refl
-
-le_test : (n m : ℕ) → n ≤ m → nat_le n m ≡ true
-le_test n m le = grind (arith, nat_tests)
-
-le_told : (n m : ℕ) → nat_le n m ≡ true → n ≤ m
-le_told n m is = grind (arith, nat_tests)
-
-eq_test : (n m : ℕ) → n ≡ m → (n == m) ≡ true
-eq_test n m is = grind (arith, nat_tests)
-
 byte_test : (b : ℕ) → b < 256 → is_byte b ≡ true
 byte_test b lt = grind (arith, nat_tests)
 
 are_bytes : (bytes : List ℕ) → IsBytes bytes → list_all is_byte bytes ≡ true
 are_bytes [] fits = refl
-are_bytes (b ∷ bs) fits = both (is_byte b) (list_all is_byte bs) (byte_test b (fits 0)) (are_bytes bs (λ i. fits (suc i)))
+are_bytes (b ∷ bs) fits = and_from (is_byte b) (list_all is_byte bs) (byte_test b (fits 0)) (are_bytes bs (λ i. fits (suc i)))
 
 -- bytes with a good header are framed
 framed_so : (bytes : List ℕ) → IsBytes bytes → HasSize bytes → is_framed bytes ≡ true
 framed_so bytes fits sized =
-    both (list_all is_byte bytes) _ (are_bytes bytes fits)
-    (both (nat_le 7 (length bytes)) _ (le_test 7 (length bytes) sized.header)
-    (both (size_field bytes == length bytes) (nat_le (length bytes) longest) (eq_test (size_field bytes) (length bytes) sized.whole) (le_test (length bytes) longest sized.short)))
+    and_from (list_all is_byte bytes) _ (are_bytes bytes fits)
+    (and_from (nat_le 7 (length bytes)) _ (le-leb 7 (length bytes) sized.header)
+    (and_from (size_field bytes == length bytes) (nat_le (length bytes) longest) (eq-eqb (size_field bytes) (length bytes) sized.whole) (le-leb (length bytes) longest sized.short)))
 
 sized_so : (bytes : List ℕ) → is_framed bytes ≡ true → HasSize bytes
 sized_so bytes is =
@@ -44,9 +32,9 @@ sized_so bytes is =
     let last = (and_parts (nat_le 7 (length bytes)) _ behind).1 in
     let ends = and_parts (size_field bytes == length bytes) (nat_le (length bytes) longest) last in
     record {
-      header = le_told 7 (length bytes) (and_parts (nat_le 7 (length bytes)) _ behind).0;
+      header = leb-true 7 (length bytes) (and_parts (nat_le 7 (length bytes)) _ behind).0;
       whole = eqb-true (size_field bytes) (length bytes) ends.0;
-      short = le_told (length bytes) longest ends.1;
+      short = leb-true (length bytes) longest ends.1;
     }
 
 -- ---- T-messages

@@ -17,6 +17,7 @@ use Rattle.net_base.specs.Net.{Net, after, moment, moment_after, net_after, next
 use Rattle.net_base.specs.Next.{by}
 use Rattle.net_base.specs.Stamped.{same_actor}
 use Rattle.net_base.specs.World.{IsWorld}
+use Rattle.net_base.proofs.Leasts.{within_last}
 
 -- Entries.
 
@@ -97,12 +98,8 @@ one_more_entry [] k lt = absurd (omega (arith, lt))
 one_more_entry (y ∷ h) zero lt = (y, refl, refl)
 one_more_entry (y ∷ h) (suc k) lt = let rest = one_more_entry h k (omega (arith, lt)) in (rest.0, rest.1, ap (λ (xs : List Entry). y ∷ xs) rest.2)
 
-least_within : (last : ℕ) (ms : List ℕ) → least last ms ≤ last
-least_within last [] = omega arith
-least_within last (m ∷ ms) = omega (arith, least_within last ms)
-
 move_within : (w : World) (net : Net) (e : Event) → IsInTime net w e → net.moment ≤ w.end → moment_after net.moment e ≤ w.end
-move_within w net (event.Move m) in_time before = subst (λ (n : ℕ). n ≤ w.end) (sym in_time.1) (least_within w.end _)
+move_within w net (event.Move m) in_time before = subst (λ (n : ℕ). n ≤ w.end) (sym in_time.1) (within_last w.end _)
 move_within w net _ in_time before = before
 
 step_within : (w : World) (net : Net) (x : Entry) (s : Option (Step Actor)) → IsInTime net w x.event → net.moment ≤ w.end

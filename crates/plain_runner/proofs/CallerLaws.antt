@@ -27,11 +27,9 @@ use Rattle.plain_runner.specs.declared.turn.Turn.{Turn}
 use Rattle.plain_runner.specs.Callers.{GoesOn, HasRole, IsCaller, IsEntryOf, IsScriptAt}
 use Rattle.plain_runner.specs.Turns.{AreOwn, IsOwn, IsTurn, OfDuty, ask_of, asks_of, may_turn, may_turn_by}
 use Rattle.plain_runner.proofs.Replies.{before_last, duty_replies, next_replies}
+use Rattle.net_base.proofs.CallerNames.{script_is}
 
 -- What comes next.
-
-script_is : (w : World) (c : ℕ) (s : Script) → slice_get w.scripts c ≡ Some s → caller_of w c ≡ IsScript s
-script_is w c s is = rw is refl
 
 pub next_of_script : (w : World) (h : List Entry) (c : ℕ) (s : Script) → slice_get w.scripts c ≡ Some s → next w h c ≡ next_after (zone_of w) s (own_replies h c)
 next_of_script w h c s is = ap (λ (k : Called). next_of w k h c) (script_is w c s is)

@@ -1,7 +1,7 @@
 -- Whether callers could record, as a run tells it.
 use Rattle.std.proofs.Common.{◌≡◌, ℕ, ◌+◌, ◌<◌, ◌≤◌, ◌==◌, ◌&&◌, ◌||◌, Bool, true, false, List, [], ◌∷◌, length, Some, codes, slice_get, Bor, nat_lt, refl, sym, ap, subst, ◌∙◌, arith}
 use Rattle.std.specs.List.{list_any}
-use Rattle.std.proofs.lemmas.Bool.{true≢false, eqb-true, lt-ltb}
+use Rattle.std.proofs.lemmas.Bool.{true≢false, eqb-true, lt-ltb, and_left, and_right}
 use Rattle.std.proofs.lemmas.Option.{same_Some}
 use Rattle.net_base.specs.declared.history.Entry.{Entry}
 use Rattle.net_base.specs.declared.reply.Reply.{Reply}
@@ -26,8 +26,9 @@ use Rattle.plain_runner.specs.declared.caller.Role.TheVariants as role
 use Rattle.plain_runner.specs.declared.runner.Runner.{Runner}
 use Rattle.calm_laws.proofs.Shared.{is_busy}
 use Rattle.plain_runner.proofs.Halting.{NobodyCould, busy_unfinished, done_word, full_word, idle_calm, limit_word, moment_within, other_word, stopped_word}
-use Rattle.net_base.proofs.Shared.{and_left, and_right, passed_range, unpassed}
-use Rattle.plain_runner.proofs.Standing.{script_at, script_role, unfinished_from, unfinished_more, unfinished_none}
+use Rattle.net_base.proofs.Shared.{passed_range, unpassed}
+use Rattle.plain_runner.proofs.Standing.{script_role, unfinished_from, unfinished_more, unfinished_none}
+use Rattle.net_base.proofs.Members.{there_at}
 
 pub past_is : (w : World) (h : List Entry) → (after w h).past ≡ h
 past_is w h = past_after w (opening_net w) h
@@ -164,14 +165,14 @@ pub left_here : (w : World) (h : List Entry) (n : ℕ) (b v : Bool) → n < leng
     → ((s : Script) → slice_get w.scripts n ≡ Some s → b ≡ is_unfinished w h n s)
     → unfinished_from w h n ≡ v → b ≡ true → true ≡ v
 left_here w h n b v lt is all some =
-    let s = script_at w.scripts n lt in
+    let s = there_at w.scripts n lt in
     sym (unfinished_more w h n s.0 s.1 ∙ ap (λ (c : Bool). c || unfinished_from w h (n + 1)) (left_there w h n s.0 b (is s.0 s.1) ∙ some)) ∙ all
 
 pub left_next : (w : World) (h : List Entry) (n : ℕ) (b v : Bool) → n < length w.scripts
     → ((s : Script) → slice_get w.scripts n ≡ Some s → b ≡ is_unfinished w h n s)
     → unfinished_from w h n ≡ v → b ≡ false → unfinished_from w h (n + 1) ≡ v
 left_next w h n b v lt is all none =
-    let s = script_at w.scripts n lt in
+    let s = there_at w.scripts n lt in
     sym (unfinished_more w h n s.0 s.1 ∙ ap (λ (c : Bool). c || unfinished_from w h (n + 1)) (left_there w h n s.0 b (is s.0 s.1) ∙ none)) ∙ all
 
 pub left_none : (w : World) (h : List Entry) (n : ℕ) (v : Bool) → length w.scripts ≤ n → unfinished_from w h n ≡ v → false ≡ v

@@ -32,10 +32,11 @@ use Rattle.plain_runner.specs.Turns.{IsMoving, may_turn_by}
 use Rattle.plain_runner.specs.declared.runner.Runner.{Runner}
 use Rattle.plain_runner.specs.declared.turn.Turn.{Turn}
 use Rattle.plain_runner.proofs.Advancing.{clock_before}
-use Rattle.calm_laws.proofs.Shared.{Kind, OfScript, OfCourier, OfClock, clock_is, courier_is, kind_of, script_is}
+use Rattle.calm_laws.proofs.Shared.{Kind, OfScript, OfCourier, OfClock, clock_is, courier_is, kind_of}
 use Rattle.plain_runner.proofs.Could.{past_is}
 use Rattle.plain_runner.proofs.Recorded.{got}
 use Rattle.plain_runner.proofs.Unmoved.{IsStill, duty_still, next_still}
+use Rattle.net_base.proofs.CallerNames.{script_is}
 
 -- Entries that are the same.
 

@@ -2,7 +2,7 @@
 use Rattle.std.proofs.Common.{◌≡◌, ℕ, ◌<◌, ◌≤◌, ◌==◌, ◌&&◌, ◌||◌, Bool, true, false, not, List, [], ◌∷◌, ◌++◌, length, take, filter_map, codes, nat_lt, ◌⊎◌, inl, inr, refl, sym, ap, subst, ◌∙◌, arith, if◌then◌else◌}
 use Rattle.std.proofs.Math.Nat.{min-le_right}
 use Rattle.std.proofs.Math.Seq.{take-append_seam}
-use Rattle.std.proofs.lemmas.Bool.{true≢false, false≢true, eq-eqb, eqb-true, eqb-false, lt-ltb, ne_eqb}
+use Rattle.std.proofs.lemmas.Bool.{true≢false, false≢true, eq-eqb, eqb-true, eqb-false, lt-ltb, ne_eqb, and_from, or_parts, and_left, and_right}
 use Rattle.net_base.specs.declared.actor.ActorName.{ActorName}
 use Rattle.net_base.specs.declared.event.Event.{Event}
 use Rattle.net_base.specs.declared.event.Event.TheVariants as event
@@ -16,15 +16,13 @@ use Rattle.net_base.specs.Duties.{conversations, due_of}
 use Rattle.net_base.specs.Next.{by, next_of}
 use Rattle.net_base.specs.Summary.{end_word}
 use Rattle.history_laws.proofs.Shared.{after_push, at_push, by_entries, timed_take}
-use Rattle.calm_laws.proofs.Shared.{Kind, OfScript, OfCourier, OfClock, clock_is, clock_waits, courier_is, is_calm, kind_of, script_is}
-use Rattle.net_base.proofs.Shared.{and_both, and_left, and_right, none_range, not_below, some_range}
+use Rattle.calm_laws.proofs.Shared.{Kind, OfScript, OfCourier, OfClock, clock_is, clock_waits, courier_is, is_calm, kind_of}
+use Rattle.net_base.proofs.Shared.{none_range, not_below, some_range}
 use Rattle.plain_runner.proofs.Recorded.{step_moment}
+use Rattle.net_base.proofs.CallerNames.{script_is}
+use Rattle.net_base.proofs.Leasts.{within_last}
 
 -- The moment is never past the end.
-
-least_within : (last : ℕ) (ms : List ℕ) → least last ms ≤ last
-least_within last [] = omega arith
-least_within last (m ∷ ms) = omega (arith, min-le_right m (least last ms), least_within last ms)
 
 abbrev due_and_awaited : World → Net → List ℕ
 due_and_awaited w net =
@@ -32,7 +30,7 @@ due_and_awaited w net =
     ++ filter_map (λ (c : ℕ). awaited_moment (next_of w (caller_of w c) net.past c)) (callers w)
 
 event_within : (w : World) (net : Net) (e : Event) → IsInTime net w e → net.moment ≤ w.end → moment_after net.moment e ≤ w.end
-event_within w net (event.Move m) timed before = let e : least w.end (due_and_awaited w net) ≤ w.end = least_within w.end (due_and_awaited w net) in omega
+event_within w net (event.Move m) timed before = let e : least w.end (due_and_awaited w net) ≤ w.end = within_last w.end (due_and_awaited w net) in omega
     (arith, timed.1, e)
 event_within w net _ timed before = before
 
@@ -62,10 +60,6 @@ could_is w net c other (OfClock at) = absurd (other at)
 clock_could : (w : World) (net : Net) → could_record w net (caller_of w (clock_number w)) (clock_number w) ≡ (owes net (clock_number w) || movable w net)
 clock_could w net = ap (λ (k : Caller). could_record w net k (clock_number w)) (clock_is w)
 
-pub or_parts : (a b : Bool) → (a || b) ≡ false → (a ≡ false) × (b ≡ false)
-or_parts true b is = absurd (true≢false is)
-or_parts false b is = (refl, is)
-
 idle_free : (w : World) (net : Net) → NobodyCould w net → (movable w net ≡ false) ⊎ (length (by net.past (clock_number w)) ≡ most_entries → ⊥)
     → limited w net ≡ false
 idle_free w net idle rests = none_range (at_limit w net) (caller_count w) 0 (λ c lt. by_clock c (c == clock_number w) refl (omega (arith, lt)))
@@ -87,7 +81,7 @@ idle_free w net idle rests = none_range (at_limit w net) (caller_count w) 0 (λ 
 pub some_limited : (w : World) (net : Net) (c : ℕ) → c < caller_count w → (length (by net.past c) == most_entries) ≡ true
     → (owes net c || can_go_on w net c) ≡ true → limited w net ≡ true
 some_limited w net c lt full could = some_range (at_limit w net) (caller_count w) 0 c (omega arith) (omega (arith, lt))
-    (and_both _ _ full (by_clock (c == clock_number w) refl))
+    (and_from _ _ full (by_clock (c == clock_number w) refl))
   where
     by_clock : (b : Bool) → (c == clock_number w) ≡ b → could_record w net (caller_of w c) c ≡ true
     by_clock false is = could_is w net c (eqb-false c (clock_number w) is) (kind_of w c lt) ∙ could
@@ -107,7 +101,7 @@ some_limited w net c lt full could = some_range (at_limit w net) (caller_count w
 pub clock_limited : (w : World) (net : Net) → movable w net ≡ true → (length (by net.past (clock_number w)) == most_entries) ≡ true → limited w net ≡ true
 clock_limited w net moves full =
     some_range (at_limit w net) (caller_count w) 0 (clock_number w) (omega arith) (omega arith)
-    (and_both _ _ full (clock_could w net ∙ or_right (owes net (clock_number w)) (movable w net) moves))
+    (and_from _ _ full (clock_could w net ∙ or_right (owes net (clock_number w)) (movable w net) moves))
   where
     or_right : (a b : Bool) → b ≡ true → (a || b) ≡ true
     or_right true b is = refl

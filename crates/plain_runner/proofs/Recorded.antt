@@ -27,20 +27,9 @@ use Rattle.plain_runner.specs.declared.caller.Role.{Role}
 use Rattle.plain_runner.specs.declared.caller.Role.TheVariants as role
 use Rattle.plain_runner.specs.declared.runner.Runner.{Runner}
 use Rattle.plain_runner.specs.declared.turn.Turn.{Turn}
+use Rattle.net_base.proofs.Members.{get_set, get_set_other}
 
 -- Lists.
-
-pub set_here : {A : Type 0} (xs : List A) (i : ℕ) (x : A) → i < length xs → slice_get (slice_set xs i x) i ≡ Some x
-set_here [] i x lt = absurd (omega (arith, lt))
-set_here (y ∷ xs) zero x lt = refl
-set_here (y ∷ xs) (suc i) x lt = set_here xs i x (omega (arith, lt))
-
-pub set_there : {A : Type 0} (xs : List A) (i j : ℕ) (x : A) → (i ≡ j → ⊥) → slice_get (slice_set xs i x) j ≡ slice_get xs j
-set_there [] i j x apart = refl
-set_there (y ∷ xs) zero zero x apart = absurd (apart refl)
-set_there (y ∷ xs) zero (suc j) x apart = refl
-set_there (y ∷ xs) (suc i) zero x apart = refl
-set_there (y ∷ xs) (suc i) (suc j) x apart = set_there xs i j x (λ e. apart (omega (arith, e)))
 
 -- The other callers.
 
@@ -123,12 +112,12 @@ recorded_so w old new c t k x lt b rec history count callers ways now = record {
     kept : (d : ℕ) (e : Caller) (same : Bool) → (c == d) ≡ same → slice_get (slice_set old.callers.items c k) d ≡ Some e
         → IsCaller w (old.history.entries ++ x ∷ []) d e
     kept d e true is at =
-        let here : k ≡ e = same_Some k e (sym (set_here old.callers.items c k lt) ∙ ap (slice_get (slice_set old.callers.items c k)) (eqb-true c d is)
+        let here : k ≡ e = same_Some k e (sym (get_set old.callers.items c k lt) ∙ ap (slice_get (slice_set old.callers.items c k)) (eqb-true c d is)
         ∙ at) in
         subst (λ (n : ℕ). IsCaller w (old.history.entries ++ x ∷ []) n e) (eqb-true c d is) (subst (IsCaller w (old.history.entries ++ x ∷ []) c) here rec.kept)
     kept d e false is at =
         let other : c ≡ d → ⊥ = eqb-false c d is in
-        caller_stays w old.history.entries d e x (λ s. other (sym rec.caller_is ∙ s)) (b.others d e other (sym (set_there old.callers.items c d k other) ∙ at))
+        caller_stays w old.history.entries d e x (λ s. other (sym rec.caller_is ∙ s)) (b.others d e other (sym (get_set_other old.callers.items c d k other) ∙ at))
 
 -- Results.
 

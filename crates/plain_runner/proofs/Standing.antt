@@ -19,7 +19,8 @@ use Rattle.plain_runner.specs.declared.caller.Caller.{Caller}
 use Rattle.plain_runner.specs.declared.caller.Role.{Role}
 use Rattle.plain_runner.specs.declared.caller.Role.TheVariants as role
 use Rattle.plain_runner.specs.declared.runner.Runner.{Runner}
-use Rattle.calm_laws.proofs.Shared.{script_is}
+use Rattle.net_base.proofs.Members.{there_at, drop_one, next_one, past_all}
+use Rattle.net_base.proofs.CallerNames.{script_is}
 
 -- One script.
 
@@ -40,25 +41,6 @@ script_role w r c k s st at is = by_role k.role refl (st.callers_are.each c k at
     by_role role.Clock same has = let e : true ≡ false = ap is_script (sym (script_is w c s is) ∙ has) in absurd (true≢false e)
 
 -- Rows of scripts.
-
-drop_one : {A : Type 0} (xs : List A) (n : ℕ) (s : A) → slice_get xs n ≡ Some s → drop n xs ≡ s ∷ drop (suc n) xs
-drop_one [] n s is = absurd (none-some s is)
-drop_one (x ∷ xs) zero s is = ap (λ y. y ∷ xs) (same_Some x s is)
-drop_one (x ∷ xs) (suc n) s is = drop_one xs n s is
-
-pub next_one : {A : Type 0} (xs : List A) (n : ℕ) (s : A) → slice_get xs n ≡ Some s → drop n xs ≡ s ∷ drop (n + 1) xs
-next_one xs n s is = let e : suc n ≡ n + 1 = omega arith in subst (λ (k : ℕ). drop n xs ≡ s ∷ drop k xs) e (drop_one xs n s is)
-
-pub past_all : {A : Type 0} (xs : List A) (n : ℕ) → length xs ≤ n → drop n xs ≡ []
-past_all [] zero le = refl
-past_all [] (suc n) le = refl
-past_all (x ∷ xs) zero le = absurd (omega (arith, le))
-past_all (x ∷ xs) (suc n) le = past_all xs n (omega (arith, le))
-
-pub script_at : (xs : List Script) (n : ℕ) → n < length xs → (s : Script) × (slice_get xs n ≡ Some s)
-script_at [] n lt = absurd (omega (arith, lt))
-script_at (x ∷ xs) zero lt = (x, refl)
-script_at (x ∷ xs) (suc n) lt = script_at xs n (omega (arith, lt))
 
 -- the scripts from the n-th on, of which some isn't finished
 abbrev pub unfinished_from : World → List Entry → ℕ → Bool
@@ -84,7 +66,7 @@ pub answered_next : (w : World) (h : List Entry) (n a x v : ℕ) → n < length 
     → ((s : Script) → slice_get w.scripts n ≡ Some s → x ≡ answered_by w h (n, s))
     → a + answered_from w h n ≡ v → (a + x) + answered_from w h (n + 1) ≡ v
 answered_next w h n a x v lt is all =
-    let s = script_at w.scripts n lt in
+    let s = there_at w.scripts n lt in
     omega (arith, all, is s.0 s.1, answered_more w h n s.0 s.1)
 
 pub answered_all : (w : World) (h : List Entry) (n a v : ℕ) → length w.scripts ≤ n → a + answered_from w h n ≡ v → a ≡ v

@@ -13,8 +13,8 @@ use Rattle.plain_runner.specs.Recording.{IsHistory}
 use Rattle.plain_runner.specs.declared.caller.Caller.{Caller}
 use Rattle.plain_runner.specs.declared.runner.Runner.{Runner}
 use Rattle.plain_runner.specs.declared.turn.Turn.{Turn}
-use Rattle.plain_runner.proofs.Recorded.{set_here, set_there}
 use Rattle.plain_runner.proofs.Unmoved.{ready_turn}
+use Rattle.net_base.proofs.Members.{get_set, get_set_other}
 
 -- a run whose caller's turn was taken
 pub record IsTaken (old mid : Runner) (c : ℕ) (k : Caller) : Type 0 where
@@ -32,9 +32,9 @@ taken_before w r mid c old new t lt s ready at takes is = record {
   count_is = is.counted ∙ s.count_is ∙ ap length (sym is.history);
   count = ap length is.callers ∙ length-set r.callers.items c new ∙ s.callers_are.count;
   others = λ d k apart there. subst (λ (h : List Entry). IsCaller w h d k) (sym is.history)
-      (s.callers_are.each d k (sym (set_there r.callers.items c d new apart) ∙ sym (ap (λ ks. slice_get ks d) is.callers) ∙ there));
+      (s.callers_are.each d k (sym (get_set_other r.callers.items c d new apart) ∙ sym (ap (λ ks. slice_get ks d) is.callers) ∙ there));
   turning = λ k there. subst (λ (h : List Entry). IsTurning w h c t.cites k) (sym is.history)
-      (subst (λ (e : Caller). IsTurning w r.history.entries c t.cites e) (same_Some new k (sym (set_here r.callers.items c new lt)
+      (subst (λ (e : Caller). IsTurning w r.history.entries c t.cites e) (same_Some new k (sym (get_set r.callers.items c new lt)
       ∙ sym (ap (λ ks. slice_get ks c) is.callers) ∙ there)) taken.1);
   ready = subst (λ (h : List Entry). IsReadyTurn w h c t) (sym is.history)
       (ready_turn w r.history.entries c t s.history taken.0 (omega (arith, lt, s.callers_are.count)) ready.room ready.ready);

@@ -25,16 +25,10 @@ use Rattle.plain_runner.specs.Turns.{asks_of}
 use Rattle.plain_runner.specs.declared.caller.Caller.{Caller}
 use Rattle.plain_runner.specs.declared.runner.Runner.{Runner}
 use Rattle.plain_runner.proofs.Could.{past_is}
-use Rattle.plain_runner.proofs.Standing.{next_one, past_all}
+use Rattle.net_base.proofs.Members.{next_one, past_all}
+use Rattle.net_base.proofs.Leasts.{min_swap, least_min}
 
 -- The least.
-
-min_swap : (a b c : ℕ) → min a (min b c) ≡ min b (min a c)
-min_swap a b c = omega arith
-
-least_min : (last m : ℕ) (ms : List ℕ) → least (min m last) ms ≡ min m (least last ms)
-least_min last m [] = refl
-least_min last m (x ∷ ms) = ap (min x) (least_min last m ms) ∙ min_swap x m (least last ms)
 
 least_more : (last : ℕ) (ms ns : List ℕ) → least last (ms ++ ns) ≡ least (least last ns) ms
 least_more last [] ns = refl

@@ -1,6 +1,6 @@
 -- What the turns of an end do, linked or not.
 use Rattle.std.proofs.Common.{◌≡◌, ℕ, ◌==◌, ◌&&◌, Bool, true, false, not, cond, [], length, Option, Some, None, ◌⊎◌, inl, inr, refl, sym, ap, subst, ◌∙◌, arith}
-use Rattle.std.proofs.lemmas.Bool.{and_parts, eqb-true, eq-eqb, true≢false}
+use Rattle.std.proofs.lemmas.Bool.{and_parts, eqb-true, eq-eqb, true≢false, not-true}
 use Rattle.std.proofs.lemmas.Option.{none-some}
 use Rattle.net_base.specs.declared.event.Event.{Event}
 use Rattle.net_base.specs.declared.event.Event.TheVariants as event
@@ -34,10 +34,6 @@ Refusal m = (m.kind ≡ Close) × (m.spec ≡ 1)
 abbrev pub Told : End → IlMsg → Type 0
 Told e' m = ((e'.fresh ≡ false) × Sound e' m) ⊎ Refusal m
 
-not_true : (b : Bool) → not b ≡ true → b ≡ false
-not_true false is = refl
-not_true true is = absurd (true≢false (sym is))
-
 not_zero : (n : ℕ) → n ≡ 1 → (n == 0) ≡ true → ⊥
 not_zero n is none = let e = eqb-true n 0 none in absurd (omega arith)
 
@@ -48,7 +44,7 @@ refusal_row state.Syncer now m e e' one l knows =
     (λ _. good_same e e' l knows)
 refusal_row state.Syncee now m e e' one l knows =
     good_if (not (m.spec == 1) && (m.ack == e.start)) _ _
-    (λ may. absurd (both_ways (eq-eqb m.spec 1 one) (not_true (m.spec == 1) (and_parts (not (m.spec == 1)) (m.ack == e.start) may).0)))
+    (λ may. absurd (both_ways (eq-eqb m.spec 1 one) (not-true (m.spec == 1) (and_parts (not (m.spec == 1)) (m.ack == e.start) may).0)))
     (λ _. good_same e e' l knows)
 refusal_row state.Established now m e e' one l knows =
     good_if (m.spec == 0) _ _ (λ is. absurd (not_zero m.spec one is)) (λ _. good_same e e' l knows)

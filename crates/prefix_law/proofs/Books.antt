@@ -31,9 +31,10 @@ use Rattle.prefix_law.proofs.Deeds.{both_ways}
 use Rattle.prefix_law.proofs.ConvMoves.{is_connected, Stays, Move, Stay, Begin, Join, Come, Listen, Elsewhere, of_end}
 use Rattle.prefix_law.proofs.Untouched.{Leaves}
 use Rattle.prefix_law.proofs.Accounts.{HasEmpty, ReadsAll, AllSized, AtEnd, no_empty, given_by, Reading, Account, Silent, left_account, joined-append}
-use Rattle.prefix_law.proofs.Sides.{same_pair_is, same_pair_from, put_here}
+use Rattle.prefix_law.proofs.Sides.{same_pair_from, put_here}
 use Rattle.prefix_law.proofs.Touch.{owner_of, Owned, HasEnd, ConvFine, touched, side_at}
 use Rattle.prefix_law.proofs.ConvSteps.{GiftFine, quiet_trace, trace_touched}
+use Rattle.net_base.proofs.SameNames.{same_pair_is}
 
 -- the conversation of an owner
 abbrev pub conv_of : Owner → Conversation

@@ -26,9 +26,10 @@ use Rattle.net_base.specs.Duties.{Duty, follow_up}
 use Rattle.prefix_law.proofs.Trace.{Owner, Trace, empty_side, put_at}
 use Rattle.prefix_law.proofs.Deeds.{both_ways}
 use Rattle.prefix_law.proofs.ConvMoves.{is_connected}
-use Rattle.prefix_law.proofs.Sides.{same_pair_is, same_pair_itself, put_here, put_there, put_same}
+use Rattle.prefix_law.proofs.Sides.{put_here, put_there, put_same}
 use Rattle.prefix_law.proofs.Touch.{owner_of, Owned, Later, Emitted, EmittedIf, HasEnd, ActorFine}
 use Rattle.prefix_law.proofs.ConvSteps.{GiftFine}
+use Rattle.net_base.proofs.SameNames.{same_pair_is, same_pair_itself}
 
 -- what duties carry
 abbrev pub WithFine : World → Trace → ActorName → Event → With → Type 0

@@ -18,12 +18,13 @@ use Rattle.net_base.specs.Tasks.{Tasks}
 use Rattle.net_base.specs.World.{IsWorld}
 use Rattle.net_base.specs.Written.{Conversation, Given, actor_of, given_in, holder, pair_of, peer, same_conversation}
 use Rattle.prefix_law.proofs.Deeds.{both_ways}
-use Rattle.history_laws.proofs.Shared.{same_proto_is, in_of_get, once, same_itself}
+use Rattle.history_laws.proofs.Shared.{once}
 use Rattle.prefix_law.proofs.Peers.{same_conversation_is}
 use Rattle.prefix_law.proofs.Places.{places}
-use Rattle.prefix_law.proofs.Sides.{same_pair_is, same_pair_itself}
 use Rattle.prefix_law.proofs.Trace.{HasPlaces}
 use Rattle.prefix_law.proofs.UdpTrace.{Known, Kept, all_kept}
+use Rattle.net_base.proofs.Members.{in_of_get}
+use Rattle.net_base.proofs.SameNames.{same_proto_is, same_proto_itself, same_itself, same_pair_is, same_pair_itself}
 
 -- Lists of what was given.
 
@@ -50,10 +51,6 @@ place_of : (gs : List Given) (g : Given) → In g gs → (i : ℕ) × (slice_get
 place_of [] g there = absurd there
 place_of (x ∷ gs) g (inl same) = (zero, ap (λ (y : Given). Some y) (sym same))
 place_of (x ∷ gs) g (inr there) = let r = place_of gs g there in (suc r.0, r.1)
-
-proto_itself : (p : Proto) → same_proto p p ≡ true
-proto_itself proto.Il = refl
-proto_itself proto.Udp = refl
 
 -- Over a legal history.
 
@@ -82,7 +79,7 @@ module _ {ts : Tasks} (w : World) (world : HasPlaces w) (h : List Entry) (legal 
   pub holder_is : (f : Conversation) (q : Pair) → Known w h (record { to = f; pair = q }) → holder w h f.proto q ≡ Some f
   holder_is f q known =
       found (λ (g : Given). same_proto g.to.proto f.proto && same_pair g.pair q) (λ (g : Given). g.to) (given_in w h) (record { to = f; pair = q }) known
-      (and_from (same_proto f.proto f.proto) (same_pair q q) (proto_itself f.proto) (same_pair_itself q))
+      (and_from (same_proto f.proto f.proto) (same_pair q q) (same_proto_itself f.proto) (same_pair_itself q))
       (λ x there passes.
       let tests = and_parts (same_proto x.to.proto f.proto) (same_pair x.pair q) passes in
       let i = place_of (given_in w h) x there in

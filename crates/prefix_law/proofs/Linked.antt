@@ -20,10 +20,11 @@ use Rattle.net_base.specs.Net.{Net, opening_net, next_net, net_of, after, work_o
 use Rattle.net_base.specs.Same.{same_pair}
 use Rattle.net_base.specs.Written.{Conversation, Given, gave, given_from, given_in}
 use Rattle.prefix_law.proofs.Books.{conv_of}
-use Rattle.prefix_law.proofs.Sides.{same_pair_is, same_pair_itself, put_same, put_there}
+use Rattle.prefix_law.proofs.Sides.{put_same, put_there}
 use Rattle.prefix_law.proofs.Touch.{Later}
 use Rattle.prefix_law.proofs.Trace.{Owner, Trace, put_at, dir_trace, actor_trace}
 use Rattle.prefix_law.proofs.Whole.{conv_trace_owner}
+use Rattle.net_base.proofs.SameNames.{same_pair_is, same_pair_itself}
 
 -- what stands in a list
 abbrev pub Has : List Given → Given → Type 0

@@ -19,10 +19,11 @@ use Rattle.prefix_law.specs.PrefixLaw.{HaveRoom}
 use Rattle.prefix_law.proofs.Accounts.{ReadsAll}
 use Rattle.prefix_law.proofs.Books.{conv_of, is_at, reads, read_here, reads_push, got_sized, Booked, EntryAccount, NoEntry}
 use Rattle.prefix_law.proofs.Happened.{Happened, happened, kept_at}
-use Rattle.history_laws.proofs.Shared.{at_push, before_push, by_entries, same_actor_is}
+use Rattle.history_laws.proofs.Shared.{at_push, before_push, by_entries}
 use Rattle.prefix_law.proofs.Pairs.{Side}
 use Rattle.prefix_law.proofs.Trace.{Owner, Trace, empty_side, actor_trace, trace}
 use Rattle.prefix_law.proofs.Whole.{Kept}
+use Rattle.net_base.proofs.SameNames.{same_actor_is}
 
 pub read_pushed : (h : List Entry) (x : Entry) (e : Conversation) (k count : ℕ) (text : List ℕ) → IsRead h e k count text → IsRead (h ++ x ∷ []) e k count text
 read_pushed h x e k count text r = record {

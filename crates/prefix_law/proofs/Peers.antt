@@ -16,16 +16,9 @@ use Rattle.net_base.specs.Stamped.{same_actor, same_proto}
 use Rattle.net_base.specs.Written.{Conversation, Given, actor_of, given_in, same_conversation, pair_of, holder, peer}
 use Rattle.prefix_law.proofs.Books.{conv_of}
 use Rattle.prefix_law.proofs.Deeds.{both_ways}
-use Rattle.history_laws.proofs.Shared.{same_actor_is}
 use Rattle.prefix_law.proofs.Linked.{Has, Linked, owner_in}
-use Rattle.prefix_law.proofs.Sides.{same_pair_is, same_pair_itself}
 use Rattle.prefix_law.proofs.Trace.{Owner, Trace}
-
-same_proto_is : (p q : Proto) → same_proto p q ≡ true → p ≡ q
-same_proto_is proto.Il proto.Il is = refl
-same_proto_is proto.Udp proto.Udp is = refl
-same_proto_is proto.Il proto.Udp is = absurd (both_ways is refl)
-same_proto_is proto.Udp proto.Il is = absurd (both_ways is refl)
+use Rattle.net_base.proofs.SameNames.{same_proto_is, same_actor_is, same_pair_is, same_pair_itself}
 
 -- what is found stands in the list and passes
 found_in : (test : Given → Bool) (gs : List Given) (g : Given) → find test gs ≡ Some g → Has gs g × (test g ≡ true)

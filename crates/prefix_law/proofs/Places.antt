@@ -3,7 +3,7 @@ use Rattle.std.proofs.Common.{◌≡◌, ℕ, zero, suc, ◌==◌, ◌||◌, nat
 use Rattle.std.specs.Prelude.{find, flat_map}
 use Rattle.std.specs.List.{list_any}
 use Rattle.std.specs.Option.{option_and_then, option_map, option_map_or}
-use Rattle.std.proofs.lemmas.Bool.{and_parts, eqb-true, eq-eqb}
+use Rattle.std.proofs.lemmas.Bool.{and_parts, eqb-true, eq-eqb, or_left, or_right, not-true}
 use Rattle.std.proofs.lemmas.Option.{none-some, same_Some}
 use Rattle.net_base.specs.declared.world.HostSpec.{HostSpec}
 use Rattle.net_base.specs.declared.world.Iface.{Iface}
@@ -17,31 +17,19 @@ either_true : (x y : Bool) → (x || y) ≡ true → (x ≡ true) ⊎ (y ≡ tru
 either_true true y is = inl refl
 either_true false y is = inr is
 
-true_right : (x y : Bool) → y ≡ true → (x || y) ≡ true
-true_right true y is = refl
-true_right false y is = is
-
-true_left : (x y : Bool) → x ≡ true → (x || y) ≡ true
-true_left true y is = refl
-true_left false y is = absurd (both_ways is refl)
-
-not_true : (b : Bool) → not b ≡ true → b ≡ false
-not_true false is = refl
-not_true true is = absurd (both_ways is refl)
-
 -- Addresses of hosts.
 
 any_left : (ip : ℕ) (xs ys : List ℕ) → list_any (nat_eq ip) xs ≡ true → list_any (nat_eq ip) (xs ++ ys) ≡ true
 any_left ip [] ys is = absurd (both_ways is refl)
 any_left ip (x ∷ xs) ys is =
     elim (either_true (nat_eq ip x) (list_any (nat_eq ip) xs) is) [
-      | inl here ↦ true_left (nat_eq ip x) (list_any (nat_eq ip) (xs ++ ys)) here
-      | inr there ↦ true_right (nat_eq ip x) (list_any (nat_eq ip) (xs ++ ys)) (any_left ip xs ys there)
+      | inl here ↦ or_left (nat_eq ip x) (list_any (nat_eq ip) (xs ++ ys)) here
+      | inr there ↦ or_right (nat_eq ip x) (list_any (nat_eq ip) (xs ++ ys)) (any_left ip xs ys there)
     ]
 
 any_right : (ip : ℕ) (xs ys : List ℕ) → list_any (nat_eq ip) ys ≡ true → list_any (nat_eq ip) (xs ++ ys) ≡ true
 any_right ip [] ys is = is
-any_right ip (x ∷ xs) ys is = true_right (nat_eq ip x) (list_any (nat_eq ip) (xs ++ ys)) (any_right ip xs ys is)
+any_right ip (x ∷ xs) ys is = or_right (nat_eq ip x) (list_any (nat_eq ip) (xs ++ ys)) (any_right ip xs ys is)
 
 apart_rest : (xs ys : List ℕ) → all_apart nat_eq (xs ++ ys) ≡ true → all_apart nat_eq ys ≡ true
 apart_rest [] ys is = is
@@ -53,7 +41,7 @@ apart_parts ip [] ys is one two = both_ways one refl
 apart_parts ip (x ∷ xs) ys is one two =
     let parts = and_parts (not (list_any (nat_eq x) (xs ++ ys))) (all_apart nat_eq (xs ++ ys)) is in
     elim (either_true (nat_eq ip x) (list_any (nat_eq ip) xs) one) [
-      | inl here ↦ both_ways (any_right x xs ys (subst (λ (i : ℕ). list_any (nat_eq i) ys ≡ true) (eqb-true ip x here) two)) (not_true (list_any (nat_eq x) (xs ++ ys)) parts.0)
+      | inl here ↦ both_ways (any_right x xs ys (subst (λ (i : ℕ). list_any (nat_eq i) ys ≡ true) (eqb-true ip x here) two)) (not-true (list_any (nat_eq x) (xs ++ ys)) parts.0)
       | inr there ↦ apart_parts ip xs ys parts.1 there two
     ]
 
@@ -61,8 +49,8 @@ listed : (ip : ℕ) (is : List Iface) → list_any (λ (i : Iface). i.ip == ip) 
 listed ip [] has = absurd (both_ways has refl)
 listed ip (i ∷ is) has =
     elim (either_true (i.ip == ip) (list_any (λ (j : Iface). j.ip == ip) is) has) [
-      | inl here ↦ true_left (nat_eq ip i.ip) (list_any (nat_eq ip) (map (λ (j : Iface). j.ip) is)) (eq-eqb ip i.ip (sym (eqb-true i.ip ip here)))
-      | inr there ↦ true_right (nat_eq ip i.ip) (list_any (nat_eq ip) (map (λ (j : Iface). j.ip) is)) (listed ip is there)
+      | inl here ↦ or_left (nat_eq ip i.ip) (list_any (nat_eq ip) (map (λ (j : Iface). j.ip) is)) (eq-eqb ip i.ip (sym (eqb-true i.ip ip here)))
+      | inr there ↦ or_right (nat_eq ip i.ip) (list_any (nat_eq ip) (map (λ (j : Iface). j.ip) is)) (listed ip is there)
     ]
 
 abbrev HasIt : ℕ → List HostSpec → ℕ → Type 0
@@ -88,13 +76,13 @@ found_has ip (j ∷ js) i is = go (j.ip == ip) is (found_has ip js i)
   where
     go : (b : Bool) → (if b then Some j else find (λ (k : Iface). k.ip == ip) js) ≡ Some i
         → (find (λ (k : Iface). k.ip == ip) js ≡ Some i → list_any (λ (k : Iface). k.ip == i.ip) js ≡ true) → ((j.ip == i.ip) || list_any (λ (k : Iface). k.ip == i.ip) js) ≡ true
-    go true same later = true_left (j.ip == i.ip) _ (eq-eqb j.ip i.ip (ap (λ (k : Iface). k.ip) (same_Some j i same)))
-    go false same later = true_right (j.ip == i.ip) _ (later same)
+    go true same later = or_left (j.ip == i.ip) _ (eq-eqb j.ip i.ip (ap (λ (k : Iface). k.ip) (same_Some j i same)))
+    go false same later = or_right (j.ip == i.ip) _ (later same)
 
 placed_has : (is : List Iface) (n : ℕ) (i : Iface) → slice_get is n ≡ Some i → list_any (λ (j : Iface). j.ip == i.ip) is ≡ true
 placed_has [] n i is = absurd (none-some i is)
-placed_has (j ∷ js) zero i is = true_left (j.ip == i.ip) _ (eq-eqb j.ip i.ip (ap (λ (k : Iface). k.ip) (same_Some j i is)))
-placed_has (j ∷ js) (suc n) i is = true_right (j.ip == i.ip) _ (placed_has js n i is)
+placed_has (j ∷ js) zero i is = or_left (j.ip == i.ip) _ (eq-eqb j.ip i.ip (ap (λ (k : Iface). k.ip) (same_Some j i is)))
+placed_has (j ∷ js) (suc n) i is = or_right (j.ip == i.ip) _ (placed_has js n i is)
 
 by_route : (w : World) (h : HostSpec) (ip : ℕ) (next : ℕ) (found : Option Iface) (n : ℕ) (out : Way) → slice_get h.ifaces n ≡ found → option_map (way_by w next) found ≡ Some out → has_ip out.source h ≡ true
 by_route w h ip next None n out at is = absurd (none-some out is)

@@ -3,7 +3,7 @@ use Rattle.std.proofs.Common.{◌≡◌, ℕ, zero, suc, ◌+◌, ◌-◌, ◌<�
 use Rattle.std.specs.Prelude.{flat_map, filter_map, IsSome}
 use Rattle.std.specs.List.{list_all, range_with_len}
 use Rattle.std.specs.Option.{option_map, option_map_or, option_and_then}
-use Rattle.std.proofs.lemmas.Bool.{and_parts, cond_both, ltb-true, ltb-false, eqb-true, eq-eqb, false≢true}
+use Rattle.std.proofs.lemmas.Bool.{and_parts, cond_both, ltb-true, ltb-false, eqb-true, eq-eqb, false≢true, not-true}
 use Rattle.std.proofs.lemmas.Bool.Decides.{nat_tests}
 use Rattle.std.proofs.lemmas.Option.{none-some, same_Some, slice_get_within}
 use Rattle.net_base.specs.declared.actor.ActorName.{ActorName}
@@ -35,30 +35,18 @@ use Rattle.net_base.specs.Steps.{Ask}
 use Rattle.net_base.specs.World.{IsWorld, is_script, is_step}
 use Rattle.prefix_law.proofs.ConvWaits.{TimedActor, actor_later, IsConvName, tick_later, timed_opening}
 use Rattle.prefix_law.proofs.Deeds.{both_ways}
-use Rattle.history_laws.proofs.Shared.{after_push, by_entries, legal_take, one_more, next_same, next_other, same_actor_is, same_itself, all_at, in_range}
+use Rattle.history_laws.proofs.Shared.{after_push, by_entries, legal_take, one_more, next_same, next_other, all_at, in_range}
 use Rattle.prefix_law.proofs.Untils.{UntilAt, FineNext, fine_position}
 use Rattle.prefix_law.proofs.Waits.{Beyond}
+use Rattle.net_base.proofs.Members.{in_front, in_back, in_parts, there_at}
+use Rattle.net_base.proofs.SameNames.{same_actor_is, same_itself}
 
 -- Lists.
 
-in_left : {A : Type 0} (x : A) (xs ys : List A) → In x xs → In x (xs ++ ys)
-in_left x [] ys there = absurd there
-in_left x (y ∷ xs) ys (inl is) = inl is
-in_left x (y ∷ xs) ys (inr there) = inr (in_left x xs ys there)
-
-in_right : {A : Type 0} (x : A) (xs ys : List A) → In x ys → In x (xs ++ ys)
-in_right x [] ys there = there
-in_right x (y ∷ xs) ys there = inr (in_right x xs ys there)
-
-in_either : {A : Type 0} (x : A) (xs ys : List A) → In x (xs ++ ys) → In x xs ⊎ In x ys
-in_either x [] ys there = inr there
-in_either x (y ∷ xs) ys (inl is) = inl (inl is)
-in_either x (y ∷ xs) ys (inr there) = elim (in_either x xs ys there) [ inl front ↦ inl (inr front) | inr back ↦ inr back ]
-
 in_flat : {A B : Type 0} (f : A → List B) (xs : List A) (x : A) (y : B) → In x xs → In y (f x) → In y (flat_map f xs)
 in_flat f [] x y there in_f = absurd there
-in_flat f (z ∷ xs) x y (inl is) in_f = in_left y (f z) (flat_map f xs) (subst (λ u. In y (f u)) is in_f)
-in_flat f (z ∷ xs) x y (inr there) in_f = in_right y (f z) (flat_map f xs) (in_flat f xs x y there in_f)
+in_flat f (z ∷ xs) x y (inl is) in_f = in_front y (f z) (flat_map f xs) (subst (λ u. In y (f u)) is in_f)
+in_flat f (z ∷ xs) x y (inr there) in_f = in_back y (f z) (flat_map f xs) (in_flat f xs x y there in_f)
 
 -- each is beyond
 abbrev pub Above : ℕ → List ℕ → Type 0
@@ -96,9 +84,9 @@ conv_mapped h p (n ∷ ns) a (inr there) = conv_mapped h p ns a there
 conv_named : (hs : List ℕ) (a : ActorName) → In a (flat_map (λ (h : ℕ). slots_of h proto.Il ++ slots_of h proto.Udp) hs) → IsConvName a
 conv_named [] a there = absurd there
 conv_named (h ∷ hs) a there =
-    elim (in_either a (slots_of h proto.Il ++ slots_of h proto.Udp) _ there) [
+    elim (in_parts a (slots_of h proto.Il ++ slots_of h proto.Udp) _ there) [
       | inr later ↦ conv_named hs a later
-      | inl here ↦ elim (in_either a (slots_of h proto.Il) (slots_of h proto.Udp) here) [
+      | inl here ↦ elim (in_parts a (slots_of h proto.Il) (slots_of h proto.Udp) here) [
         | inl il ↦ conv_mapped h proto.Il (range_with_len 0 slot_count) a il
         | inr udp ↦ conv_mapped h proto.Udp (range_with_len 0 slot_count) a udp
       ]
@@ -169,12 +157,12 @@ module _ (w : World) (net : Net) (x : Entry) (s : Step Actor) where
           let mine : IsAsked (net.owed c) (caller_of w x.caller) ask x = subst (λ (d : ℕ). IsAsked (net.owed d) (caller_of w x.caller) ask x) (eqb-true x.caller c same) asked in
           elim (remains (net.owed c) tick.duty (caller_of w x.caller) ask x tick.there mine) [
             | inl first ↦ inl (sym first.0 ∙ tick.actor_is, sym first.1 ∙ tick.event_is)
-            | inr later ↦ inr (record { duty = tick.duty; there = in_left tick.duty (drop 1 (net.owed c)) new later; actor_is = tick.actor_is; event_is = tick.event_is })
+            | inr later ↦ inr (record { duty = tick.duty; there = in_front tick.duty (drop 1 (net.owed c)) new later; actor_is = tick.actor_is; event_is = tick.event_is })
           ]
 
   -- what the entry owes is owed by its caller
   owed_new : (d : Duty) → In d new → In d ((net_after w net x (Some s)).owed x.caller)
-  owed_new d there = subst (λ (b : Bool). In d (cond b (drop 1 (net.owed x.caller) ++ new) (net.owed x.caller))) (sym (eq-eqb x.caller x.caller refl)) (in_right d (drop 1 (net.owed x.caller)) new there)
+  owed_new d there = subst (λ (b : Bool). In d (cond b (drop 1 (net.owed x.caller) ++ new) (net.owed x.caller))) (sym (eq-eqb x.caller x.caller refl)) (in_back d (drop 1 (net.owed x.caller)) new there)
 
 -- Moves.
 
@@ -254,7 +242,7 @@ module _ (w : World) (net : Net) (x : Entry) (s : Step Actor) (rests : Rests w n
             subst (λ (b : ActorName). In duty (ticks w net.actors b n x.event)) (sym clock) (subst (λ (e : Event). In duty (ticks w net.actors name.Clock n e)) (sym move) listed) in
             let front : List Duty = (emitted_put w x.actor n s.outcome.emit ++ follow_up x.actor n x.event (with_of (net.owed x.caller)) s.outcome.reply) ++ courier_duty w x.actor n s.outcome.taken in
             let fresh : In duty (new w net x s) =
-            in_left duty (front ++ ticks w net.actors x.actor n x.event) (release x.actor n s.state s.outcome.ended) (in_right duty front (ticks w net.actors x.actor n x.event) here) in
+            in_front duty (front ++ ticks w net.actors x.actor n x.event) (release x.actor n s.state s.outcome.ended) (in_back duty front (ticks w net.actors x.actor n x.event) here) in
             inr (owed_tick a (generation_of (net.actors a)) 0 x.caller below (record { duty = duty; there = owed_new w net x s duty fresh; actor_is = refl; event_is = refl }) (ap generation_of (sym stays)))
       ]
 
@@ -355,15 +343,6 @@ in_some : {A : Type 0} (x : A) (xs : List A) → In x xs → 0 < length xs
 in_some x [] there = absurd there
 in_some x (y ∷ xs) there = omega arith
 
-got : {A : Type 0} (xs : List A) (k : ℕ) → k < length xs → (x : A) × (slice_get xs k ≡ Some x)
-got [] k lt = absurd (omega arith)
-got (y ∷ xs) zero lt = (y, refl)
-got (y ∷ xs) (suc k) lt = got xs k (omega arith)
-
-not_is : (b : Bool) → not b ≡ true → b ≡ false
-not_is false is = refl
-not_is true is = absurd (both_ways is refl)
-
 module _ (w : World) (net : Net) (world : IsWorld w) (rests : Rests w net) (is_calm : calm w net ≡ true) where
   nobody_owes : nothing_owed w net ≡ true
   nobody_owes = (and_parts (nothing_owed w net) (nothing_pending w net && scripts_wait w net) is_calm).0
@@ -377,7 +356,7 @@ module _ (w : World) (net : Net) (world : IsWorld w) (rests : Rests w net) (is_c
         | inl beyond ↦ beyond
         | inr owed ↦
             let none : nat_lt 0 (length (net.owed owed.by)) ≡ false =
-            not_is (nat_lt 0 (length (net.owed owed.by))) (all_in (λ (c : ℕ). not (owes_some net c)) (callers w) owed.by nobody_owes (in_range 0 (caller_count w) owed.by (omega arith) (omega (arith, owed.below)))) in
+            not-true (nat_lt 0 (length (net.owed owed.by))) (all_in (λ (c : ℕ). not (owes_some net c)) (callers w) owed.by nobody_owes (in_range 0 (caller_count w) owed.by (omega arith) (omega (arith, owed.below)))) in
             let some = in_some owed.tick.duty (net.owed owed.by) owed.tick.there in
             absurd (omega (arith, some, ltb-false 0 (length (net.owed owed.by)) none))
       ]
@@ -385,7 +364,7 @@ module _ (w : World) (net : Net) (world : IsWorld w) (rests : Rests w net) (is_c
   -- a desk answers a wait for a moment that came
   until_ready : (h m : ℕ) → h < length w.hosts → nat_le m net.moment ≡ true → is_ready w net (Some (record { actor = name.Desk h; event = event.Until m })) ≡ true
   until_ready h m lt come =
-      let host = got w.hosts h lt in
+      let host = there_at w.hosts h lt in
       let has : nat_lt h (length w.hosts) ≡ true = grind (arith, nat_tests) in
       rw ((rests.desks h).1) (rw (has, host.1, come) refl)
 
@@ -413,7 +392,7 @@ module _ (w : World) (net : Net) (world : IsWorld w) (rests : Rests w net) (is_c
       let waits = all_in (λ (k : ℕ). not (can_go_on w net k)) (range_with_len 0 (length w.scripts)) c all_wait (in_range 0 (length w.scripts) c (omega arith) (omega (arith, slice_get_within w.scripts c s is))) in
       let waits_so : not (is_ready w net (next_of w (IsScript s) net.past c)) ≡ true =
       subst (λ (o : Option Script). not (is_ready w net (next_of w (option_map_or (λ (t : Script). IsScript t) o (other_caller w c)) net.past c)) ≡ true) is waits in
-      by_ask s.host (next_of w (IsScript s) net.past c) lt (fine_position s.host s.steps (zone_of w) (own_replies net.past c)) (not_is (is_ready w net (next_of w (IsScript s) net.past c)) waits_so)
+      by_ask s.host (next_of w (IsScript s) net.past c) lt (fine_position s.host s.steps (zone_of w) (own_replies net.past c)) (not-true (is_ready w net (next_of w (IsScript s) net.past c)) waits_so)
 
   -- the clock's target is beyond the moment, where the end is
   rises : net.moment < w.end → net.moment < target w net

@@ -8,26 +8,9 @@ use Rattle.net_base.specs.Same.{same_addr, same_pair}
 use Rattle.net_base.specs.Mirror.{mirror}
 use Rattle.prefix_law.proofs.Trace.{put_at}
 use Rattle.prefix_law.proofs.Deeds.{both_ways, Holds, Stepped, other_holds}
+use Rattle.net_base.proofs.SameNames.{same_addr_is, same_addr_itself, same_pair_is, same_pair_itself}
 
 -- Tests of pairs.
-
-same_addr_is : (a b : Addr) → same_addr a b ≡ true → a ≡ b
-same_addr_is a b is =
-    let t = and_parts (a.ip == b.ip) (a.port == b.port) is in
-    let one = eqb-true a.ip b.ip t.0 in
-    let two = eqb-true a.port b.port t.1 in
-    ap (λ (n : ℕ). record a { ip = n }) one ∙ ap (λ (n : ℕ). record b { port = n }) two
-
-pub same_pair_is : (p q : Pair) → same_pair p q ≡ true → p ≡ q
-same_pair_is p q is =
-    let t = and_parts (same_addr p.local q.local) (same_addr p.remote q.remote) is in
-    ap (λ (a : Addr). record p { local = a }) (same_addr_is p.local q.local t.0) ∙ ap (λ (a : Addr). record q { remote = a }) (same_addr_is p.remote q.remote t.1)
-
-same_addr_itself : (a : Addr) → same_addr a a ≡ true
-same_addr_itself a = and_from (a.ip == a.ip) (a.port == a.port) (eq-eqb a.ip a.ip refl) (eq-eqb a.port a.port refl)
-
-pub same_pair_itself : (p : Pair) → same_pair p p ≡ true
-same_pair_itself p = and_from (same_addr p.local p.local) (same_addr p.remote p.remote) (same_addr_itself p.local) (same_addr_itself p.remote)
 
 pub same_pair_from : (p q : Pair) → p ≡ q → same_pair p q ≡ true
 same_pair_from p q is = subst (λ (r : Pair). same_pair p r ≡ true) is (same_pair_itself p)

@@ -19,12 +19,13 @@ use Rattle.net_base.specs.Tasks.{Tasks}
 use Rattle.net_base.specs.World.{IsWorld}
 use Rattle.net_base.specs.Written.{Conversation, Given, IsRead, gives, given_from, given_in}
 use Rattle.prefix_law.specs.PrefixLaw.{WasWritten}
-use Rattle.history_laws.proofs.Shared.{in_more, legal_take, slice_get_take}
+use Rattle.history_laws.proofs.Shared.{legal_take, slice_get_take}
 use Rattle.prefix_law.proofs.Holders.{peer_is}
 use Rattle.prefix_law.proofs.Places.{places}
 use Rattle.prefix_law.proofs.Trace.{HasPlaces}
 use Rattle.prefix_law.proofs.UdpConvs.{FirstOf, ReadFine}
 use Rattle.prefix_law.proofs.UdpTrace.{Known, Wrote, all_kept, took}
+use Rattle.net_base.proofs.Members.{in_front}
 
 given_append : (w : World) (net : Net) (xs ys : List Entry) → given_from w net (xs ++ ys) ≡ given_from w net xs ++ given_from w (net_of w net xs) ys
 given_append w net [] ys = refl
@@ -36,7 +37,7 @@ given_append w net (x ∷ xs) ys =
 known_later : (w : World) (h : List Entry) (k : ℕ) (g : Given) → Known w (take k h) g → Known w h g
 known_later w h k g there =
     subst (λ (xs : List Entry). In g (given_in w xs)) (take-append-drop k h)
-    (subst (λ (gs : List Given). In g gs) (sym (given_append w (opening_net w) (take k h) (drop k h))) (in_more g (given_in w (take k h)) _ there))
+    (subst (λ (gs : List Given). In g gs) (sym (given_append w (opening_net w) (take k h) (drop k h))) (in_front g (given_in w (take k h)) _ there))
 
 module _ {ts : Tasks} (w : World) (world : HasPlaces w) (h : List Entry) (legal : IsLegalBy ts w h) where
   -- the datagram that was read, in the beginning before the read

@@ -28,7 +28,7 @@ use Rattle.net_base.specs.Stamped.{In, same_actor}
 use Rattle.net_base.specs.Tasks.{Tasks}
 use Rattle.net_base.specs.Written.{Conversation, Given, gave, given_in, IsWrite}
 use Rattle.prefix_law.proofs.Deeds.{both_ways}
-use Rattle.history_laws.proofs.Shared.{in_more, in_last, after_push, at_push, before_push, by_entries, same_actor_is, in_parts, same_itself}
+use Rattle.history_laws.proofs.Shared.{in_last, after_push, at_push, before_push, by_entries}
 use Rattle.prefix_law.proofs.DirSteps.{all_free}
 use Rattle.prefix_law.proofs.Linked.{given_push}
 use Rattle.prefix_law.proofs.Trace.{HasPlaces}
@@ -36,6 +36,8 @@ use Rattle.prefix_law.proofs.UdpConvs.{SentAs, SentIf}
 use Rattle.prefix_law.proofs.UdpSteps.{StateFine, state_more, Next, next}
 use Rattle.prefix_law.proofs.UdpDirs.{with_new, SlotIsFine, IsNew}
 use Rattle.prefix_law.proofs.UdpDuties.{EmittedAs, EmittedIf, emitted_more, TakenAt, EachDuty, each_duty_more, each_duty_append, each_duty_rest, duties_fine, work_fine}
+use Rattle.net_base.proofs.Members.{in_front, in_parts}
+use Rattle.net_base.proofs.SameNames.{same_actor_is, same_itself}
 
 -- What is known of a history.
 
@@ -61,8 +63,8 @@ pub record Kept (w : World) (h : List Entry) : Type 0 where
 -- Lists of what was given.
 
 known_now : (gs : List Given) (o : Option Given) (g : Given) → with_new o (λ x. In x gs) g → In g (gs ++ option_to_list o)
-known_now gs None g there = in_more g gs [] there
-known_now gs (Some x) g (inl there) = in_more g gs (x ∷ []) there
+known_now gs None g there = in_front g gs [] there
+known_now gs (Some x) g (inl there) = in_front g gs (x ∷ []) there
 known_now gs (Some x) g (inr same) = subst (λ (y : Given). In y (gs ++ x ∷ [])) same (in_last x gs)
 
 known_then : (gs : List Given) (o : Option Given) (g : Given) → In g (gs ++ option_to_list o) → with_new o (λ x. In x gs) g
@@ -146,7 +148,7 @@ module _ (w : World) (h : List Entry) (x : Entry) (kept : Kept w h) (t : Took w 
   then g there = known_then (given_in w h) o g (subst (λ (gs : List Given). In g gs) given_is there)
 
   stays : (g : Given) → Known w h g → Known w h' g
-  stays g there = subst (λ (gs : List Given). In g gs) (sym given_is) (in_more g (given_in w h) (option_to_list o) there)
+  stays g there = subst (λ (gs : List Given). In g gs) (sym given_is) (in_front g (given_in w h) (option_to_list o) there)
 
   wrote_stays : (p : Pair) (text : List ℕ) → Wrote w h p text → Wrote w h' p text
   wrote_stays p text was = record {

@@ -26,14 +26,16 @@ use Rattle.net_base.specs.Medium.{Medium, medium_step, takes, lays, fate_of, now
 use Rattle.net_base.specs.Net.{Net, actors_after}
 use Rattle.net_base.specs.Stamped.{In, same_actor}
 use Rattle.net_base.specs.World.{IsWorld}
-use Rattle.history_laws.proofs.Shared.{same_actor_is, duties_each, same_itself, Each, Later, each_append, each_weaker}
+use Rattle.history_laws.proofs.Shared.{duties_each, Each, Later, each_append, each_weaker}
 use Rattle.progress_law.proofs.Duties.{Steady, OfKind, IsKind, IsMediumKind, AreSlots, AreCopies, IsActorOf, IsBirth, Apart, bears, named, same_core, reached, given_last, generation_at, conv_generation, generation_in}
 use Rattle.progress_law.proofs.DirRows.{Moved, MovesIf, FollowsAt, dir_moves}
 use Rattle.progress_law.proofs.ConvRows.{Kept, KeptIf, conv_kept, birth_done}
 use Rattle.progress_law.proofs.Worlds.{may_give}
 use Rattle.progress_law.proofs.Least.{each_in}
-use Rattle.progress_law.proofs.Keeping.{Changes, IsNew, IsBorne, IsGained, NotConv, no_birth, each_of, in_append, in_right, later_append}
+use Rattle.progress_law.proofs.Keeping.{Changes, IsNew, IsBorne, IsGained, NotConv, no_birth, each_of, later_append}
 use Rattle.progress_law.proofs.New.{IsPlainDuty, plain_new, emitted_each, courier_each, release_each, left_each, ticks_new, none_bears, follow_apart}
+use Rattle.net_base.proofs.Members.{in_back, in_parts}
+use Rattle.net_base.proofs.SameNames.{same_actor_is, same_itself}
 
 -- Media.
 
@@ -398,7 +400,7 @@ dir_changes w net after c h p e with t (IsDir d) r is = record {
     cites x there =
         each_in (λ (y : Duty). y.cites ≡ length net.past) _ x
         (duties_each (λ (y : Duty). y.cites ≡ length net.past) (length net.past) (λ a v g other. refl) w net.actors (name.Dir h p) (record { event = e; with = with }) t)
-        (subst (In x) (sym all_is) (in_right x emitted follow there))
+        (subst (In x) (sym all_is) (in_back x emitted follow there))
 
     follow_new : (x : Duty) → In x follow → IsNew w net after x
     follow_new x there =
@@ -426,10 +428,10 @@ dir_changes w net after c h p e with t (IsDir d) r is = record {
               inr record {
                 next = omega (arith, at.0, at.1, more.0);
                 duty = one.0;
-                there = subst (In one.0) (sym all_is) (in_right one.0 emitted follow (subst (In one.0) (sym one.1) (inl refl)));
+                there = subst (In one.0) (sym all_is) (in_back one.0 emitted follow (subst (In one.0) (sym one.1) (inl refl)));
                 actor = one.2 ∙ names;
                 birth = birth;
-                alone = λ x there is. elim (in_append x emitted follow (subst (In x) all_is there)) [
+                alone = λ x there is. elim (in_parts x emitted follow (subst (In x) all_is there)) [
                   | inl put_one ↦ absurd (subst NotConv is (each_in (IsPlainDuty w (length net.past)) emitted x put put_one).not)
                   | inr follows ↦ elim (subst (In x) one.1 follows) [
                     | inl first ↦ subst (λ (y : Duty). IsBirth (given_last after i q m) y.event) (sym first) birth

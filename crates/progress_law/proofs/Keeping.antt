@@ -17,6 +17,7 @@ use Rattle.net_base.specs.Stamped.{In}
 use Rattle.history_laws.proofs.Shared.{Each, Later, each_append}
 use Rattle.progress_law.proofs.Duties.{Steady, OfKind, IsKind, IsActorOf, IsBirth, IsOwedBirth, Apart, bears, named, reached, given_last}
 use Rattle.progress_law.proofs.Least.{each_in}
+use Rattle.net_base.proofs.Members.{in_front, in_back, in_parts}
 
 -- a duty that an entry adds
 pub record IsNew (w : World) (net after : Net) (d : Duty) : Type 0 where
@@ -59,20 +60,6 @@ pub record Changes (w : World) (net after : Net) (c : ℕ) (new : List Duty) : T
 
 -- Lists.
 
-pub in_append : {A : Type 0} (x : A) (xs ys : List A) → In x (xs ++ ys) → In x xs ⊎ In x ys
-in_append x [] ys there = inr there
-in_append x (y ∷ xs) ys (inl is) = inl (inl is)
-in_append x (y ∷ xs) ys (inr later) = elim (in_append x xs ys later) [ inl here ↦ inl (inr here) | inr there ↦ inr there ]
-
-pub in_left : {A : Type 0} (x : A) (xs ys : List A) → In x xs → In x (xs ++ ys)
-in_left x [] ys there = absurd there
-in_left x (y ∷ xs) ys (inl is) = inl is
-in_left x (y ∷ xs) ys (inr later) = inr (in_left x xs ys later)
-
-pub in_right : {A : Type 0} (x : A) (xs ys : List A) → In x ys → In x (xs ++ ys)
-in_right x [] ys there = there
-in_right x (y ∷ xs) ys there = inr (in_right x xs ys there)
-
 in_rest : {A : Type 0} (x : A) (xs : List A) → In x (drop 1 xs) → In x xs
 in_rest x [] there = there
 in_rest x (y ∷ xs) there = inr there
@@ -99,7 +86,7 @@ owed_or : (w : World) (net after : Net) (c : ℕ) (new : List Duty) → Changes 
 owed_or w net after c new ch k d there = elim (eqb_tells c k) [
   | inl same ↦
       let at : In d (drop 1 (net.owed k) ++ new) = subst (In d) (ch.owed k ∙ rw same.0 refl) there in
-      elim (in_append d (drop 1 (net.owed k)) new at) [ inl old ↦ inl (in_rest d (net.owed k) old) | inr young ↦ inr (same.1, young) ]
+      elim (in_parts d (drop 1 (net.owed k)) new at) [ inl old ↦ inl (in_rest d (net.owed k) old) | inr young ↦ inr (same.1, young) ]
   | inr apart ↦ inl (subst (In d) (ch.owed k ∙ rw apart.0 refl) there)
 ]
 
@@ -109,14 +96,14 @@ kept_or : (w : World) (net after : Net) (c : ℕ) (new : List Duty) → Changes 
 kept_or w net after c new ch k d there = elim (eqb_tells c k) [
   | inl same ↦
       let at : In d (drop 1 (net.owed k) ++ new) = subst (In d) (ch.owed k ∙ rw same.0 refl) there in
-      elim (in_append d (drop 1 (net.owed k)) new at) [ inl old ↦ inl (in_rest d (net.owed k) old, λ _. old) | inr young ↦ inr (same.1, young) ]
+      elim (in_parts d (drop 1 (net.owed k)) new at) [ inl old ↦ inl (in_rest d (net.owed k) old, λ _. old) | inr young ↦ inr (same.1, young) ]
   | inr apart ↦ inl (subst (In d) (ch.owed k ∙ rw apart.0 refl) there, λ same. absurd (apart.1 same))
 ]
 
 -- what was owed is owed still, or was the first duty of the entry's caller
 still_owed : (w : World) (net after : Net) (c : ℕ) (new : List Duty) → Changes w net after c new → (k : ℕ) (d : Duty) → In d (net.owed k) → In d (after.owed k) ⊎ ((c ≡ k) × ((ds : List Duty) × (net.owed k ≡ d ∷ ds)))
 still_owed w net after c new ch k d there = elim (eqb_tells c k) [
-  | inl same ↦ by (net.owed k) there (λ at. subst (In d) (sym (ch.owed k ∙ rw same.0 refl)) (in_left d (drop 1 (net.owed k)) new at)) same.1 refl
+  | inl same ↦ by (net.owed k) there (λ at. subst (In d) (sym (ch.owed k ∙ rw same.0 refl)) (in_front d (drop 1 (net.owed k)) new at)) same.1 refl
   | inr apart ↦ inl (subst (In d) (sym (ch.owed k ∙ rw apart.0 refl)) there)
 ]
   where
@@ -128,7 +115,7 @@ still_owed w net after c new ch k d there = elim (eqb_tells c k) [
 -- new duties are owed by the entry's caller
 new_owed : (w : World) (net after : Net) (c : ℕ) (new : List Duty) → Changes w net after c new → (d : Duty) → In d new → In d (after.owed c)
 new_owed w net after c new ch d there = elim (eqb_tells c c) [
-  | inl same ↦ subst (In d) (sym (ch.owed c ∙ rw same.0 refl)) (in_right d (drop 1 (net.owed c)) new there)
+  | inl same ↦ subst (In d) (sym (ch.owed c ∙ rw same.0 refl)) (in_back d (drop 1 (net.owed c)) new there)
   | inr apart ↦ absurd (apart.1 refl)
 ]
 

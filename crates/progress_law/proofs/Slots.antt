@@ -6,18 +6,7 @@ use Rattle.net_base.specs.declared.actor.Call.{Call}
 use Rattle.net_base.specs.Directory.{Slot}
 use Rattle.history_laws.proofs.Shared.{Each, each_weaker}
 use Rattle.progress_law.proofs.Duties.{AreSlots, IsCallIn, generation_in}
-
-pub get_set : {A : Type 0} (xs : List A) (i : ℕ) (y : A) → i < length xs → slice_get (slice_set xs i y) i ≡ Some y
-get_set [] i y lt = absurd (omega (arith, lt))
-get_set (x ∷ xs) zero y lt = refl
-get_set (x ∷ xs) (suc i) y lt = get_set xs i y (omega (arith, lt))
-
-pub get_set_other : {A : Type 0} (xs : List A) (i j : ℕ) (y : A) → (i ≡ j → ⊥) → slice_get (slice_set xs i y) j ≡ slice_get xs j
-get_set_other [] i j y apart = refl
-get_set_other (x ∷ xs) zero zero y apart = absurd (apart refl)
-get_set_other (x ∷ xs) zero (suc j) y apart = refl
-get_set_other (x ∷ xs) (suc i) zero y apart = refl
-get_set_other (x ∷ xs) (suc i) (suc j) y apart = get_set_other xs i j y (λ e. apart (ap suc e))
+use Rattle.net_base.proofs.Members.{get_set, get_set_other}
 
 -- the generations don't fall
 abbrev pub Rise : List Slot → List Slot → Type 0

@@ -1,6 +1,6 @@
 -- A player goes from reply to reply and from step to step.
 use Rattle.std.proofs.Common.{◌≡◌, ℕ, zero, suc, ◌+◌, ◌-◌, ◌<◌, ◌≤◌, ◌∙◌, ◌&&◌, nat_lt, Bool, true, false, List, [], ◌∷◌, ◌++◌, drop, length, Option, Some, None, slice_get, is_none, refl, sym, ap, subst, rules, tests, arith, if◌then◌else◌}
-use Rattle.std.proofs.lemmas.Bool.{true≢false, false≢true}
+use Rattle.std.proofs.lemmas.Bool.{true≢false, false≢true, lt-ltb}
 use Rattle.std.proofs.lemmas.Bool.Decides.{nat_tests}
 use Rattle.std.proofs.lemmas.Option.{none-some, same_Some}
 use Rattle.net_base.specs.declared.left.Left.{Left}
@@ -239,9 +239,6 @@ none_is : (o : Option Request) → is_none o ≡ true → o ≡ None
 none_is None is = refl
 none_is (Some q) is = absurd (false≢true is)
 
-lt_test : (k n : ℕ) → k < n → nat_lt k n ≡ true
-lt_test k n lt = search (rules, tests, lt)
-
 -- the step goes on, or the next one comes
 goes_on : (zone : Tuples) (s : Script) (rs : List Reply) (p : Playing) (t : StepTask) (step : InStep zone s rs p t) (r : Reply) (b : Holdings) → Moved zone s rs p t step r b.names
     → (through : Bool) → is_none (asks (after t r) b.names) ≡ through → (l : Left) → l ≡ (if through then leaves (after t r) p.left else p.left)
@@ -281,7 +278,7 @@ goes_on zone s rs p t step r b moves true is l same =
       within = omega (arith, more.0);
       unknown = refl;
     } in
-    chosen (nat_lt p.finished (length s.steps)) (lt_test p.finished (length s.steps) more.0) next
+    chosen (nat_lt p.finished (length s.steps)) (lt-ltb p.finished (length s.steps) more.0) next
   where
     chosen : (c : Bool) → c ≡ true → Between zone s (rs ++ r ∷ []) (record p { holdings = b; effect = None; left = l; finished = p.finished + 1; task = None })
         → AtIts zone s (rs ++ r ∷ [])

@@ -19,9 +19,7 @@ use Rattle.plain_runner.specs.Callers.{HasRole, IsCaller, IsScriptAt}
 use Rattle.plain_runner.specs.declared.caller.Caller.{Caller}
 use Rattle.plain_runner.specs.declared.caller.Role.{Role}
 use Rattle.plain_runner.specs.declared.caller.Role.TheVariants as role
-
-script_of : (w : World) (c : ℕ) (s : Script) → slice_get w.scripts c ≡ Some s → caller_of w c ≡ IsScript s
-script_of w c s at = ap (λ (o : Option Script). option_map_or (λ (t : Script). IsScript t) o (other_caller w c)) at
+use Rattle.net_base.proofs.CallerNames.{script_is}
 
 no_courier : (s : Script) (m : ℕ) → IsScript s ≡ IsCourier m → ⊥
 no_courier s m is = cc
@@ -36,8 +34,8 @@ script_kept w h c k s is at = by_role k.role refl is.stands.role_is
   where
     by_role : (x : Role) → k.role ≡ x → HasRole w h c x k.before → (t : Bor Script) × (p : Playing) × (k.role ≡ role.Script t p) × IsScriptAt w h c s p k.before
     by_role (role.Script t p) same has = (t, p, same, subst (λ (u : Script). IsScriptAt w h c u p k.before) (same_Some t.now s (sym has.is ∙ at)) has)
-    by_role (role.Courier m) same has = absurd (no_courier s m (sym (script_of w c s at) ∙ has))
-    by_role role.Clock same has = absurd (no_clock s (sym (script_of w c s at) ∙ has))
+    by_role (role.Courier m) same has = absurd (no_courier s m (sym (script_is w c s at) ∙ has))
+    by_role role.Clock same has = absurd (no_clock s (sym (script_is w c s at) ∙ has))
 
 abbrev pub player_in : Role → Option Playing
 player_in (role.Script t p) = Some p

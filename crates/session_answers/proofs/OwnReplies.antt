@@ -7,15 +7,7 @@ use Rattle.std.proofs.lemmas.Option.{none-some, same_Some}
 use Rattle.net_base.specs.declared.history.Entry.{Entry}
 use Rattle.net_base.specs.declared.reply.Reply.{Reply}
 use Rattle.net_base.specs.Next.{by, own_replies}
-
-drop_one : {A : Type 0} (xs : List A) (n : ℕ) (x : A) → slice_get xs n ≡ Some x → drop n xs ≡ x ∷ drop (suc n) xs
-drop_one [] n x is = absurd (none-some x is)
-drop_one (y ∷ ys) zero x is = ap (λ z. z ∷ ys) (same_Some y x is)
-drop_one (y ∷ ys) (suc n) x is = drop_one ys n x is
-
--- from this element on
-pub drop_next : {A : Type 0} (xs : List A) (n : ℕ) (x : A) → slice_get xs n ≡ Some x → drop n xs ≡ x ∷ drop (n + 1) xs
-drop_next xs n x is = let e : suc n ≡ n + 1 = omega arith in subst (λ (k : ℕ). drop n xs ≡ x ∷ drop k xs) e (drop_one xs n x is)
+use Rattle.net_base.proofs.Members.{drop_one, next_one}
 
 -- the replies to those entries that nothing owed
 abbrev replies_in : List Entry → List Reply
@@ -43,12 +35,12 @@ first_other c x xs other = of_caller (x.caller == c) refl other
 -- the entry at a stamp is the caller's own
 pub own_at : (c : ℕ) (xs : List Entry) (n : ℕ) (x : Entry) → slice_get xs n ≡ Some x → ((x.caller == c) && is_none x.cites) ≡ true
     → own_replies (drop n xs) c ≡ x.reply ∷ own_replies (drop (n + 1) xs) c
-own_at c xs n x is own = ap (λ (l : List Entry). own_replies l c) (drop_next xs n x is) ∙ first_own c x (drop (n + 1) xs) own
+own_at c xs n x is own = ap (λ (l : List Entry). own_replies l c) (next_one xs n x is) ∙ first_own c x (drop (n + 1) xs) own
 
 -- .. or it isn't
 pub other_at : (c : ℕ) (xs : List Entry) (n : ℕ) (x : Entry) → slice_get xs n ≡ Some x → ((x.caller == c) && is_none x.cites) ≡ false
     → own_replies (drop n xs) c ≡ own_replies (drop (n + 1) xs) c
-other_at c xs n x is other = ap (λ (l : List Entry). own_replies l c) (drop_next xs n x is) ∙ first_other c x (drop (n + 1) xs) other
+other_at c xs n x is other = ap (λ (l : List Entry). own_replies l c) (next_one xs n x is) ∙ first_other c x (drop (n + 1) xs) other
 
 -- behind the last one
 pub none_behind : (c : ℕ) (xs : List Entry) (n : ℕ) → length xs ≤ n → own_replies (drop n xs) c ≡ []

@@ -5,6 +5,7 @@ use Rattle.std.specs.Int.Digits.{digits_of}
 use Rattle.std.specs.List.{list_all}
 use Rattle.std.proofs.lemmas.Bool.Decides.{nat_tests}
 use Rattle.std.proofs.lemmas.Int.Digits.{length-digits_of-le}
+use Rattle.std.proofs.lemmas.Bool.{and_from}
 use Rattle.net_base.specs.declared.address.Addr.{Addr}
 use Rattle.net_base.specs.declared.address.Pair.{Pair}
 use Rattle.net_base.specs.declared.il.Cause.{Cause}
@@ -70,14 +71,11 @@ addr_short a ip port =
 
 -- ---- replies
 
-both : (a b : Bool) → a ≡ true → b ≡ true → (a && b) ≡ true
-both a b p q = rw (p, q) refl
-
 -- one number behind a word
 pub one_number : (x : Reply) (n : ℕ) (word : List ℕ) → reply_words x ≡ word ∷ numeral n ∷ [] → is_short word ≡ true → n < 2 ^ 64 → length (printed x) ≤ longest_text
 one_number x n word is short lt =
     has_room x
-    (ap (λ (ws : List (List ℕ)). list_all is_short ws) is ∙ both (is_short word) _ short (both (is_short (numeral n)) true (number_short n lt) refl))
+    (ap (λ (ws : List (List ℕ)). list_all is_short ws) is ∙ and_from (is_short word) _ short (and_from (is_short (numeral n)) true (number_short n lt) refl))
     (omega (arith, ap (λ (ws : List (List ℕ)). length ws) is))
 
 pub two_numbers : (x : Reply) (n m : ℕ) (word : List ℕ) → reply_words x ≡ word ∷ numeral n ∷ numeral m ∷ [] → is_short word ≡ true → n < 2 ^ 64 → m < 2 ^ 64
@@ -85,20 +83,20 @@ pub two_numbers : (x : Reply) (n m : ℕ) (word : List ℕ) → reply_words x �
 two_numbers x n m word is short one two =
     has_room x
     (ap (λ (ws : List (List ℕ)). list_all is_short ws) is
-    ∙ both (is_short word) _ short (both (is_short (numeral n)) _ (number_short n one) (both (is_short (numeral m)) true (number_short m two) refl)))
+    ∙ and_from (is_short word) _ short (and_from (is_short (numeral n)) _ (number_short n one) (and_from (is_short (numeral m)) true (number_short m two) refl)))
     (omega (arith, ap (λ (ws : List (List ℕ)). length ws) is))
 
 pub grant_short : (pair : Pair) (start limit : ℕ) → pair.local.ip < 2 ^ 32 → pair.local.port < 2 ^ 16 → pair.remote.ip < 2 ^ 32 → pair.remote.port < 2 ^ 16
     → start < 2 ^ 64 → limit < 2 ^ 64 → length (printed (reply.Granted pair start limit)) ≤ longest_text
 grant_short pair start limit a b c d e f =
     has_room (reply.Granted pair start limit)
-    (both (is_short (addr_word pair.local)) _ (addr_short pair.local a b)
-    (both (is_short (addr_word pair.remote)) _ (addr_short pair.remote c d)
-    (both (is_short (numeral start)) _ (number_short start e) (both (is_short (numeral limit)) true (number_short limit f) refl))))
+    (and_from (is_short (addr_word pair.local)) _ (addr_short pair.local a b)
+    (and_from (is_short (addr_word pair.remote)) _ (addr_short pair.remote c d)
+    (and_from (is_short (numeral start)) _ (number_short start e) (and_from (is_short (numeral limit)) true (number_short limit f) refl))))
     (omega arith)
 
 pub state_short : (s : StateName) → length (printed (reply.WrongState s)) ≤ longest_text
-state_short s = has_room (reply.WrongState s) (both (is_short (state_word s)) true (word s) refl) (omega arith)
+state_short s = has_room (reply.WrongState s) (and_from (is_short (state_word s)) true (word s) refl) (omega arith)
   where
     word : (n : StateName) → is_short (state_word n) ≡ true
     word name.Free = refl
@@ -126,4 +124,4 @@ hungup_short c = one_number (reply.Hungup c) (cause_number c) (codes "hungup") r
 -- a word alone
 pub word_short : (x : Reply) (word : List ℕ) → reply_words x ≡ word ∷ [] → is_short word ≡ true → length (printed x) ≤ longest_text
 word_short x word is short =
-    has_room x (ap (λ (ws : List (List ℕ)). list_all is_short ws) is ∙ both (is_short word) true short refl) (omega (arith, ap (λ (ws : List (List ℕ)). length ws) is))
+    has_room x (ap (λ (ws : List (List ℕ)). list_all is_short ws) is ∙ and_from (is_short word) true short refl) (omega (arith, ap (λ (ws : List (List ℕ)). length ws) is))

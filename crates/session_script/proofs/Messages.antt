@@ -3,6 +3,7 @@ use Rattle.std.proofs.Common.{◌≡◌, ℕ, ◌+◌, ◌≤◌, ◌<◌, List,
 use Rattle.std.specs.Prelude.{option_to_list, IsErrOf}
 use Rattle.std.proofs.Math.Seq.{take-append_seam, drop-append_seam}
 use Rattle.std.proofs.lemmas.List.{nil_from_length}
+use Rattle.std.proofs.lemmas.Option.{same_Some}
 use Rattle.byteorder.specs.Endian.{little_number}
 use Rattle.byteorder.specs.Numbers.{little_number-reads_back}
 use Rattle.net_base.specs.declared.world.Step.{Step}
@@ -43,12 +44,9 @@ has_header k m bytes rest b = omega (arith, length_is k m bytes rest b, long m)
 pub none_begins : (k : ℕ) (m : Tmsg) (bytes rest : List ℕ) → bytes ≡ [] → Begins k m bytes rest → ⊥
 none_begins k m bytes rest none b = absurd (omega (arith, has_header k m bytes rest b, ap (λ (xs : List ℕ). length xs) none))
 
-some_same : {A : Type 0} (x y : A) → Some x ≡ Some y → x ≡ y
-some_same x y e = cc
-
 -- bytes spell one message
 same_spelled : (m n : Tmsg) → SpellsT m (t_bytes m) → SpellsT n (t_bytes n) → t_bytes m ≡ t_bytes n → m ≡ n
-same_spelled m n a b e = some_same m n (sym (t_only m (t_bytes m) a) ∙ t_only n (t_bytes m) (subst (SpellsT n) (sym e) b))
+same_spelled m n a b e = same_Some m n (sym (t_only m (t_bytes m) a) ∙ t_only n (t_bytes m) (subst (SpellsT n) (sym e) b))
 
 -- bytes begin with one message
 pub one_beginning : (k : ℕ) (m n : Tmsg) (bytes p q : List ℕ) → Begins k m bytes p → Begins k n bytes q → (m ≡ n) × (p ≡ q)

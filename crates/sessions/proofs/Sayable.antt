@@ -4,7 +4,7 @@ use Rattle.std.specs.Prelude.{codes, option_to_list, nat_lt, nat_le}
 use Rattle.std.specs.List.{list_all, list_any, slice_split}
 use Rattle.std.specs.Option.{option_and_then}
 use Rattle.std.specs.Int.Digits.{digits_of}
-use Rattle.std.proofs.lemmas.Bool.{and_parts}
+use Rattle.std.proofs.lemmas.Bool.{and_parts, and_from, lt-ltb}
 use Rattle.std.proofs.lemmas.Bool.Decides.{nat_tests}
 use Rattle.std.proofs.lemmas.Fmt.{decimal_by_steps}
 use Rattle.std.proofs.lemmas.Int.Digits.{length-digits_of-le}
@@ -30,17 +30,11 @@ use Rattle.net_base.specs.SessionScript.{Begins, IsScript, IsStream, after, atta
 use Rattle.net_base.specs.declared.ninep.Target.{Target}
 use Rattle.net_base.specs.SessionTable.{IsSound, Table, fresh, is_taken, opening, put, set, used}
 
-both : (a b : Bool) → a ≡ true → b ≡ true → (a && b) ≡ true
-both a b p q = rw (p, q) refl
-
-below : (a b : ℕ) → a < b → nat_lt a b ≡ true
-below a b lt = grind (arith, nat_tests)
-
 within : (n : ℕ) → 1 ≤ n → n ≤ 65536 → is_within 1 65536 n ≡ true
-within n some few = both (nat_le 1 n) (nat_le n 65536) (grind (arith, nat_tests)) (grind (arith, nat_tests))
+within n some few = and_from (nat_le 1 n) (nat_le n 65536) (grind (arith, nat_tests)) (grind (arith, nat_tests))
 
 all_both : (p : ℕ → Bool) (xs ys : List ℕ) → list_all p xs ≡ true → list_all p ys ≡ true → list_all p (xs ++ ys) ≡ true
-all_both p xs ys a b = list_all-append p xs ys ∙ both (list_all p xs) (list_all p ys) a b
+all_both p xs ys a b = list_all-append p xs ys ∙ and_from (list_all p xs) (list_all p ys) a b
 
 behind : (p : ℕ → Bool) (xs ys : List ℕ) → list_all p (xs ++ ys) ≡ true → list_all p ys ≡ true
 behind p xs ys all = (and_parts (list_all p xs) (list_all p ys) (sym (list_all-append p xs ys) ∙ all)).1
@@ -56,8 +50,8 @@ name_digit d lt = grind (arith, nat_tests)
 name_digits : (n : ℕ) → list_all is_name_byte (numeral n) ≡ true
 name_digits n =
     numeral_by_steps (λ m ds. list_all is_name_byte ds ≡ true)
-    (λ m lt. both (is_name_byte (48 + m)) true (name_digit m lt) refl)
-    (λ m ds ten told. all_both is_name_byte ds ((48 + m % 10) ∷ []) told (both (is_name_byte (48 + m % 10)) true (name_digit (m % 10) (omega arith)) refl))
+    (λ m lt. and_from (is_name_byte (48 + m)) true (name_digit m lt) refl)
+    (λ m ds ten told. all_both is_name_byte ds ((48 + m % 10) ∷ []) told (and_from (is_name_byte (48 + m % 10)) true (name_digit (m % 10) (omega arith)) refl))
     n
 
 length_shown : (ds : List ℕ) → length (map (λ digit. 48 + digit) ds) ≡ length ds
@@ -73,9 +67,9 @@ few_digits (suc n) lt =
 
 named : (fid : ℕ) → Holds 4 fid → is_name (fid_name fid) ≡ true
 named fid holds =
-    both (list_all is_name_byte (numeral fid)) (nat_lt (length (numeral fid)) 27)
+    and_from (list_all is_name_byte (numeral fid)) (nat_lt (length (numeral fid)) 27)
     (name_digits fid)
-    (below (length (numeral fid)) 27 (omega (arith, few_digits fid (omega (arith, holds)))))
+    (lt-ltb (length (numeral fid)) 27 (omega (arith, few_digits fid (omega (arith, holds)))))
 
 -- ---- paths
 
@@ -88,8 +82,8 @@ word_digit d lt = grind (arith, nat_tests)
 word_digits : (n : ℕ) → n < 2 ^ 64 → list_all is_word_byte (decimal n) ≡ true
 word_digits =
     decimal_by_steps (λ m ds. list_all is_word_byte ds ≡ true)
-    (λ m lt. both (is_word_byte (48 + m)) true (word_digit m lt) refl)
-    (λ m ds ten told. all_both is_word_byte ds ((48 + m % 10) ∷ []) told (both (is_word_byte (48 + m % 10)) true (word_digit (m % 10) (omega arith)) refl))
+    (λ m lt. and_from (is_word_byte (48 + m)) true (word_digit m lt) refl)
+    (λ m ds ten told. all_both is_word_byte ds ((48 + m % 10) ∷ []) told (and_from (is_word_byte (48 + m % 10)) true (word_digit (m % 10) (omega arith)) refl))
 
 file_word : (f : FileName) → list_all is_word_byte (file_name f) ≡ true
 file_word file.Ctl = refl
@@ -274,10 +268,10 @@ open_says fid mode f holds is = either_says (is_plain f.node) (option_map (opens
   where
     by : (o : Option Mode) → Says (option_map (opens fid f.node) o)
     by None = tt
-    by (Some m) = both (is_name (fid_name fid)) (is_word (path_of f.node)) (named fid holds) (path_word f.node is)
+    by (Some m) = and_from (is_name (fid_name fid)) (is_word (path_of f.node)) (named fid holds) (path_word f.node is)
 
 reads_says : (fid n : ℕ) → Holds 4 fid → 1 ≤ n → n ≤ 65536 → Says (Some (reads fid n))
-reads_says fid n holds some few = both (is_name (fid_name fid)) (is_within 1 65536 n) (named fid holds) (within n some few)
+reads_says fid n holds some few = and_from (is_name (fid_name fid)) (is_within 1 65536 n) (named fid holds) (within n some few)
 
 count_says : (fid offset most : ℕ) (at : Node) → Holds 4 fid → 1 ≤ most → most ≤ 65536 → Says (option_map (reads fid) (read_count offset most at))
 count_says fid offset most node.Root holds some few = tt
@@ -304,7 +298,7 @@ text_said [] all none = refl
 text_said (b ∷ bytes) all none =
     let byte = and_parts (is_byte b) (list_all is_byte bytes) all in
     let line = neither (b == 10) (list_any (λ (x : ℕ). x == 10) bytes) none in
-    both (is_byte b && not (b == 10)) (is_text bytes) (both (is_byte b) (not (b == 10)) byte.0 (ap not line.0)) (text_said bytes byte.1 line.1)
+    and_from (is_byte b && not (b == 10)) (is_text bytes) (and_from (is_byte b) (not (b == 10)) byte.0 (ap not line.0)) (text_said bytes byte.1 line.1)
   where
     neither : (x y : Bool) → (x || y) ≡ false → (x ≡ false) × (y ≡ false)
     neither true y e = absurd (cc)
@@ -323,7 +317,7 @@ cs_says bytes all = by (is_query bytes) refl
 
 write_says : (fid : ℕ) (bytes : List ℕ) (f : Target) → Holds 4 fid → list_all is_byte bytes ≡ true → Says (write_step fid bytes f)
 write_says fid bytes f holds all =
-    either_says (is_cs f.node) (cs_step bytes) (Some (step.Writex (fid_name fid) bytes)) (cs_says bytes all) (both (is_name (fid_name fid)) (list_all is_byte bytes) (named fid holds) all)
+    either_says (is_cs f.node) (cs_step bytes) (Some (step.Writex (fid_name fid) bytes)) (cs_says bytes all) (and_from (is_name (fid_name fid)) (list_all is_byte bytes) (named fid holds) all)
 
 close_says : (fid : ℕ) (f : Target) → Holds 4 fid → Says (close_step fid f)
 close_says fid f holds = either_says (is_plain f.node) (Some (step.Close (fid_name fid))) None (named fid holds) tt
@@ -375,7 +369,7 @@ data_bytes (t.Wstat tag fid stat) all = refl
 
 held : (o : Option Step) (steps : List Step) → Says o → list_all is_step steps ≡ true → list_all is_step (option_to_list o ++ steps) ≡ true
 held None steps is all = all
-held (Some s) steps is all = both (is_step s) (list_all is_step steps) is all
+held (Some s) steps is all = and_from (is_step s) (list_all is_step steps) is all
 
 all_said : (table : Table) (ms : List Tmsg) (bytes : List ℕ) → IsSound table → list_all is_byte bytes ≡ true → IsStream table ms bytes → list_all is_step (steps_of table ms) ≡ true
 all_said table [] bytes s all is = refl

@@ -1,6 +1,7 @@
 -- The fields of headers stand where they are read, and what is read is spelled so.
 use Rattle.std.proofs.Common.{◌≡◌, ℕ, ◌≤◌, Bool, true, false, ◌&&◌, List, ◌++◌, length, take, drop, get_or, refl, sym, ap, ◌∙◌, arith}
 use Rattle.std.proofs.lemmas.Slice.Eq.{bytes_eq-Decides}
+use Rattle.std.proofs.lemmas.Bool.{and_parts}
 use Rattle.wire_text.proofs.Shared.{IsBytes, word_again, long_again, word_high, word_low, long_0, long_1, long_2, long_3, items, by_items}
 use Rattle.net_base.specs.declared.headers.Headers.{Headers}
 use Rattle.net_base.specs.DatagramHeaders.{AreHeaders, SpellsHeaders, all_mapped, headers_bytes, headers_of, is_mapped, mapped_front}
@@ -42,10 +43,6 @@ spells_once h other text rest bytes s t = (
 
 -- ---- what is read is spelled so
 
-both_true : (a b : Bool) → (a && b) ≡ true → (a ≡ true) × (b ≡ true)
-both_true true b e = (refl, e)
-both_true false b e = absurd cc
-
 -- the fronts of the three addresses
 front_0 : (bytes : List ℕ) → 52 ≤ length bytes → is_mapped 0 bytes ≡ true → items 0 12 bytes ≡ mapped_front
 front_0 bytes long is =
@@ -66,8 +63,8 @@ fronted remote local iface bytes =
 
 fronts_read : (bytes : List ℕ) → AreSound bytes → items 0 52 bytes ≡ fronted mapped_front mapped_front mapped_front bytes
 fronts_read bytes sound =
-    let all = both_true (is_mapped 0 bytes && is_mapped 16 bytes) (is_mapped 32 bytes) sound.mapped in
-    let first = both_true (is_mapped 0 bytes) (is_mapped 16 bytes) all.0 in
+    let all = and_parts (is_mapped 0 bytes && is_mapped 16 bytes) (is_mapped 32 bytes) sound.mapped in
+    let first = and_parts (is_mapped 0 bytes) (is_mapped 16 bytes) all.0 in
     ap (λ (f : List ℕ). fronted f (items 16 12 bytes) (items 32 12 bytes) bytes) (front_0 bytes sound.long first.0)
     ∙ ap (λ (f : List ℕ). fronted mapped_front f (items 32 12 bytes) bytes) (front_16 bytes sound.long first.1)
     ∙ ap (λ (f : List ℕ). fronted mapped_front mapped_front f bytes) (front_32 bytes sound.long all.1)

@@ -1,7 +1,7 @@
 -- A script's task plays the script, and its code goes from step to step as the definitions do.
 use Rattle.std.proofs.Common.{◌≡◌, ℕ, zero, suc, ◌+◌, ◌<◌, ◌∙◌, Bool, true, false, List, [], ◌∷◌, ◌++◌, drop, length, Option, Some, None, slice_get, is_none, is_some, nat_lt, nat_le, option_map, if◌then◌else◌, refl, sym, ap, subst, rules, tests, arith}
 use Rattle.std.proofs.lemmas.Bool.Decides.{nat_tests}
-use Rattle.std.proofs.lemmas.Bool.{true≢false}
+use Rattle.std.proofs.lemmas.Bool.{true≢false, lt-ltb, lt-leb}
 use Rattle.std.proofs.lemmas.Option.{none-some}
 use Rattle.net_base.specs.declared.left.Left.{Left}
 use Rattle.net_base.specs.declared.reply.Reply.{Reply}
@@ -48,9 +48,6 @@ rest_ended names (r ∷ rs) = rest_ended names rs
 ended : (names : Names) (rs : List Reply) → Ties (record { next = None; left = [] }) (rest (Ends names) rs)
 ended names rs = record { next_is = sym (rest_ended names rs); left_is = ap is_some (sym (rest_ended names rs)) }
 
-lt_test : (k n : ℕ) → k < n → nat_lt k n ≡ true
-lt_test k n lt = search (rules, tests, lt)
-
 -- where the steps behind a step stand that was told these replies, and so their plays
 abbrev behind_at : ℕ → List Step → Left → Step → List Reply → Names → List Reply → Position
 behind_at h behind left s said names later = position h behind (record { names = names; left = left_after left s said }) later
@@ -62,7 +59,7 @@ step_ties : (h : ℕ) (left : Left) (s : Step) (ss : List Step) → ((k : Holds)
 step_ties h left s ss later said (Ends names) rs =
     subst (λ (xs : List Reply). Ties (behind_at h ss left s xs names rs) (rest (plays_behind h ss left s names said) rs)) (sym (append_nothing said))
     (later (record { names = names; left = left_after left s said }) rs)
-step_ties h left s ss later said (Asks a e next) [] = record { next_is = refl; left_is = lt_test 0 (suc (length ss)) (omega arith) }
+step_ties h left s ss later said (Asks a e next) [] = record { next_is = refl; left_is = lt-ltb 0 (suc (length ss)) (omega arith) }
 step_ties h left s ss later said (Asks a e next) (r ∷ rs) =
     subst (λ (xs : List Reply). Ties (position_by (stands (next r) rs) (s ∷ ss) (behind_at h ss left s xs)) (rest (then_play (said ++ r ∷ []) (next r) (plays_behind h ss left s)) rs))
     (append_one said r (first_replies (next r) rs))
@@ -184,9 +181,6 @@ pub progress_finished : (n : ℕ) (left : Left) (t : Option StepTask) (steps : L
 progress_finished n left None steps = begun_finished n left steps
 progress_finished n left (Some t) steps = refl
 
-not_le : (m n : ℕ) → n < m → nat_le m n ≡ false
-not_le m n lt = search (rules, tests, lt)
-
 le_nothing : (n : ℕ) → nat_le 0 n ≡ true
 le_nothing n = search (rules, tests)
 
@@ -196,7 +190,7 @@ le_more m n = grind (arith, nat_tests)
 -- no step is left exactly where nothing is asked
 none_left : (n : ℕ) (left : Left) (ss : List Step) (names : Names) → nat_le (length ss) n ≡ is_none (asks (begun_at 0 left (drop n ss)) names)
 none_left zero left [] names = le_nothing 0
-none_left zero left (s ∷ ss) names = not_le (suc (length ss)) 0 (omega arith) ∙ sym (step_laws.begun_asks left s names)
+none_left zero left (s ∷ ss) names = lt-leb (suc (length ss)) 0 (omega arith) ∙ sym (step_laws.begun_asks left s names)
 none_left (suc n) left [] names = le_nothing (suc n)
 none_left (suc n) left (s ∷ ss) names = le_more (length ss) n ∙ none_left n left ss names
 
@@ -207,7 +201,7 @@ begun_alike m n left (s ∷ ss) names = refl
 pub through_right : (n : ℕ) (left : Left) (t : Option StepTask) (ss : List Step) → Kept n t ss
     → (names : Names) → nat_le (length ss) n ≡ is_none (asks (progress n left t (drop n ss)) names)
 through_right n left None ss kept names = none_left n left ss names ∙ ap is_none (begun_alike 0 n left (drop n ss) names)
-through_right n left (Some t) ss kept names = not_le (length ss) n kept.0 ∙ sym (kept.1 names)
+through_right n left (Some t) ss kept names = lt-leb (length ss) n kept.0 ∙ sym (kept.1 names)
 
 -- the step that begins is the first of those that are to come
 begun_left : (n : ℕ) (ss : List Step) (o : Option Step) → slice_get ss n ≡ o → (m : ℕ) (left : Left) → progress m left (option_map (step.begun left) o) (drop n ss) ≡ begun_at m left (drop n ss)

@@ -9,17 +9,13 @@ use Rattle.std.specs.Map.{lookup}
 use Rattle.std.specs.Ordering.{is_eq, is_gt, nat_cmp}
 use Rattle.std.proofs.lemmas.Map.Keys.{le_from_not_gt}
 use Rattle.std.specs.List.{list_any}
-use Rattle.std.proofs.lemmas.Bool.{and_parts, eqb-true, false≢true}
+use Rattle.std.proofs.lemmas.Bool.{and_parts, eqb-true, false≢true, cases_lt}
 use Rattle.std.proofs.lemmas.Bool.Decides.{nat_tests}
 use Rattle.std.proofs.lemmas.List.Folds.{list_any-append}
 use Rattle.std.proofs.lemmas.Option.{none-some, same_Some}
 use Rattle.net_base.specs.declared.world.FateRange.{FateRange}
 use Rattle.net_base.specs.World.{overlap}
 use Rattle.world_file.specs.Indexed.{AreFound, AreIndexed, has_frames}
-
-or-parts : (a b : Bool) → (a || b) ≡ false → (a ≡ false) × (b ≡ false)
-or-parts false b e = (refl, e)
-or-parts true b e = absurd (false≢true (sym e))
 
 not-overlap : (a b c d : ℕ) → (nat_le a b && nat_le c d) ≡ false → a ≤ b → c ≤ d → ⊥
 not-overlap a b c d e f g = by (nat_le a b) refl (nat_le c d) refl e
@@ -48,13 +44,6 @@ no-overlap-right a b c d lt = by (nat_le a b)
     by true = no c d lt
     by false = refl
 
-below-or : (a b : ℕ) → (a < b) ⊎ (b ≤ a)
-below-or a b = by (nat_le b a) refl
-  where
-    by : (v : Bool) → nat_le b a ≡ v → (a < b) ⊎ (b ≤ a)
-    by true e = inr (grind (arith, nat_tests))
-    by false e = inl (grind (arith, nat_tests))
-
 some-is : {A : Type 0} (o : Option A) (x : A) → o ≡ Some x → IsSome o
 some-is o x e = subst IsSome (sym e) refl
 
@@ -63,7 +52,7 @@ some-is o x e = subst IsSome (sym e) refl
 -- nothing is found from the first frame on
 pub none_from : (find : ℕ → Option ℕ) (new : FateRange) (fates : List FateRange) → AreFound find fates → ((q : ℕ) → new.first ≤ q → find q ≡ None) → list_any (overlap new) fates ≡ false
 none_from find new [] found none = refl
-none_from find new (f ∷ fates) found none = by (below-or f.last new.first) ∙ none_from find new fates found.1 none
+none_from find new (f ∷ fates) found none = by (cases_lt f.last new.first) ∙ none_from find new fates found.1 none
   where
     by : (f.last < new.first) ⊎ (new.first ≤ f.last) → (overlap new f || list_any (overlap new) fates) ≡ list_any (overlap new) fates
     by (inl lt) = ap (λ b. b || list_any (overlap new) fates) (no-overlap-left new.first f.last f.first new.last lt)
@@ -79,7 +68,7 @@ none_before find new fates last first k at least far = all fates k.listed
     one f e (inr le) =
         let low = least f.last le (some-is (find f.last) f.first e) in
         let forward = k.forward last first at in
-        second f e (below-or last f.last) low forward
+        second f e (cases_lt last f.last) low forward
       where
         second : (g : FateRange) → find g.last ≡ Some g.first → (last < g.last) ⊎ (g.last ≤ last) → last ≤ g.last → first ≤ last → overlap new g ≡ false
         second g e2 (inl lt) low forward = let start = k.apart last first g.last g.first at e2 lt in no-overlap-right new.first g.last g.first new.last (omega (arith, start, far, forward))
@@ -89,7 +78,7 @@ none_before find new fates last first k at least far = all fates k.listed
 
     all : (fs : List FateRange) → AreFound find fs → list_any (overlap new) fs ≡ false
     all [] found = refl
-    all (f ∷ fs) found = ap (λ b. b || list_any (overlap new) fs) (one f found.0 (below-or f.last new.first)) ∙ all fs found.1
+    all (f ∷ fs) found = ap (λ b. b || list_any (overlap new) fs) (one f found.0 (cases_lt f.last new.first)) ∙ all fs found.1
 
 framed : (new : FateRange) (first last : ℕ) (fates : List FateRange) → list_any (has_frames first last) fates ≡ true → new.first ≤ last → first ≤ new.last → list_any (overlap new) fates ≡ true
 framed new first last [] there low high = absurd (false≢true there)
@@ -178,7 +167,7 @@ module _ (find next : ℕ → Option ℕ) (new : FateRange) (fates : List FateRa
   apart-more : (last first other start : ℕ) → next last ≡ Some first → next other ≡ Some start → last < other → (last ≡ new.last) ⊎ (last ≢ new.last) → (other ≡ new.last) ⊎ (other ≢ new.last) → last < start
   apart-more last first other start e f lt (inl is) (inl too) = absurd (omega (arith, is, too, lt))
   apart-more last first other start e f lt (inl is) (inr second) =
-      let found = sym (others other second) ∙ f in by (below-or last start) found
+      let found = sym (others other second) ∙ f in by (cases_lt last start) found
     where
       by : (last < start) ⊎ (start ≤ last) → find other ≡ Some start → last < start
       by (inl ok) found = ok
@@ -186,7 +175,7 @@ module _ (find next : ℕ → Option ℕ) (new : FateRange) (fates : List FateRa
   apart-more last first other start e f lt (inr one) (inl too) =
       let found = sym (others last one) ∙ e in
       let same = same_Some new.first start (sym here ∙ (ap next (sym too) ∙ f)) in
-      let forward = k.forward last first found in by (below-or last start) found same forward
+      let forward = k.forward last first found in by (cases_lt last start) found same forward
     where
       by : (last < start) ⊎ (start ≤ last) → find last ≡ Some first → new.first ≡ start → first ≤ last → last < start
       by (inl ok) found same forward = ok

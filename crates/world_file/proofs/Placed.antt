@@ -2,7 +2,7 @@
 use Rattle.std.proofs.Common.{◌≡◌, ℕ, ◌+◌, ◌<◌, ◌≤◌, suc, zero, Bool, true, false, not, ◌&&◌, cond, List, [], ◌∷◌, length, map, get_or, refl, sym, ap, ◌∙◌, arith, Option, Some, None}
 use Rattle.std.specs.Prelude.{bytes_eq, nat_lt, position, slice_set, if◌then◌else◌}
 use Rattle.std.specs.List.{last_or, list_any, position_or_len}
-use Rattle.std.proofs.lemmas.Bool.{and_parts}
+use Rattle.std.proofs.lemmas.Bool.{and_parts, or_parts}
 use Rattle.std.proofs.lemmas.Bool.Decides.{nat_tests}
 use Rattle.std.proofs.lemmas.List.Sums.{prefix_len-le-length}
 use Rattle.std.proofs.lemmas.Option.{none-some, same_Some}
@@ -10,7 +10,8 @@ use Rattle.net_base.specs.declared.world.MediumSpec.{MediumSpec}
 use Rattle.net_base.specs.World.{all_apart, overlap}
 use Rattle.net_base.specs.declared.world.FateRange.{FateRange}
 use Rattle.world_text.specs.WorldLines.{at_last, is_fated, is_medium_named, on_medium}
-use Rattle.world_text.proofs.Shared.{false-of-not, or-parts, equal}
+use Rattle.world_text.proofs.Shared.{false-of-not}
+use Rattle.net_base.proofs.Tests.{equal_texts}
 
 -- The last element.
 
@@ -62,7 +63,7 @@ place_none p xs e = by (nat_lt (position_or_len p xs) (length xs)) refl e (prefi
 others_stay : (called : List ℕ) (f : MediumSpec → MediumSpec) (ms : List MediumSpec) → list_any (bytes_eq called) (map (λ (s : MediumSpec). s.name) ms) ≡ false → on_medium called f ms ≡ ms
 others_stay called f [] none = refl
 others_stay called f (s ∷ ms) none =
-    let parts = or-parts (bytes_eq called s.name) (list_any (bytes_eq called) (map (λ (m : MediumSpec). m.name) ms)) none in
+    let parts = or_parts (bytes_eq called s.name) (list_any (bytes_eq called) (map (λ (m : MediumSpec). m.name) ms)) none in
     ap (λ b. (if b then f s else s) ∷ on_medium called f ms) parts.0 ∙ ap (λ xs. s ∷ xs) (others_stay called f ms parts.1)
 
 abbrev place : List ℕ → List MediumSpec → ℕ
@@ -80,7 +81,7 @@ medium_set called f (s ∷ ms) d new apart lt is =
         → (place called ms < length ms → new ≡ f (get_or ms (place called ms) d) → slice_set ms (place called ms) new ≡ on_medium called f ms)
         → slice_set (s ∷ ms) (cond (not b) (1 + place called ms) 0) new ≡ (if b then f s else s) ∷ on_medium called f ms
     by true e none h g later =
-        ap (λ x. x ∷ ms) g ∙ ap (λ xs. f s ∷ xs) (sym (others_stay called f ms (ap (λ c. list_any (bytes_eq c) (map (λ (m : MediumSpec). m.name) ms)) (equal called s.name e) ∙ none)))
+        ap (λ x. x ∷ ms) g ∙ ap (λ xs. f s ∷ xs) (sym (others_stay called f ms (ap (λ c. list_any (bytes_eq c) (map (λ (m : MediumSpec). m.name) ms)) (equal_texts called s.name e) ∙ none)))
     by false e none h g later = next (place called ms) h g later
       where
         next : (n : ℕ) → 1 + n < suc (length ms) → new ≡ f (get_or (s ∷ ms) (1 + n) d) → (n < length ms → new ≡ f (get_or ms n d) → slice_set ms n new ≡ on_medium called f ms)
@@ -104,7 +105,7 @@ pub unfated_at : (called : List ℕ) (new : FateRange) (ms : List MediumSpec) (d
     → list_any (overlap new) (get_or ms (place called ms) d).fates ≡ false
 unfated_at called new [] d lt none = absurd (omega (arith, lt))
 unfated_at called new (s ∷ ms) d lt none =
-    let parts = or-parts (is_fated called new s) (list_any (is_fated called new) ms) none in by (bytes_eq called s.name) refl lt parts.0 (λ h. unfated_at called new ms d h parts.1)
+    let parts = or_parts (is_fated called new s) (list_any (is_fated called new) ms) none in by (bytes_eq called s.name) refl lt parts.0 (λ h. unfated_at called new ms d h parts.1)
   where
     by : (b : Bool) → bytes_eq called s.name ≡ b → cond (not b) (1 + place called ms) 0 < suc (length ms) → is_fated called new s ≡ false
         → (place called ms < length ms → list_any (overlap new) (get_or ms (place called ms) d).fates ≡ false)

@@ -1,7 +1,7 @@
 -- A text is looked through, line by line, for one that begins a version.
 use Rattle.std.proofs.Common.{◌≡◌, ℕ, ◌+◌, ◌-◌, ◌<◌, ◌≤◌, ◌==◌, ◌⊎◌, inl, inr, Bool, true, false, not, ◌||◌, List, [], ◌∷◌, ◌++◌, length, refl, sym, ap, ◌∙◌, arith, append_assoc, length-append}
 use Rattle.std.specs.List.{list_all, list_any}
-use Rattle.std.proofs.lemmas.Bool.{and_from, and_parts}
+use Rattle.std.proofs.lemmas.Bool.{and_from, and_parts, or_parts}
 use Rattle.std.proofs.lemmas.List.Elements.{All-nil}
 use Rattle.std.proofs.lemmas.List.Folds.{list_all-append, list_any-append}
 use Rattle.net_base.specs.NdbText.{is_newline, lines_of}
@@ -9,7 +9,7 @@ use Rattle.net_base.proofs.Shared.{IsWithout, cut_at, one_part, without_one}
 use Rattle.world_text.specs.VersionLines.{is_at_line}
 use Rattle.world_text.specs.WorldSpelling.{is_line, laid}
 use Rattle.world_text.specs.WorldText.{cuts_of}
-use Rattle.world_text.proofs.Shared.{false-of-not, or-parts, Shape, shape}
+use Rattle.world_text.proofs.Shared.{false-of-not, Shape, shape}
 use Rattle.world_file.specs.Bundles.{IsFront, IsLast}
 
 -- Lines of a text.
@@ -17,7 +17,7 @@ use Rattle.world_file.specs.Bundles.{IsFront, IsLast}
 pub line_without : (line : List ℕ) → is_line line ≡ true → IsWithout 10 line
 line_without [] whole = All-nil (λ (x : ℕ). (x == 10) ≡ false)
 line_without (b ∷ line) whole =
-    let parts = or-parts (is_newline b) (list_any is_newline line) (false-of-not (list_any is_newline (b ∷ line)) whole) in
+    let parts = or_parts (is_newline b) (list_any is_newline line) (false-of-not (list_any is_newline (b ∷ line)) whole) in
     without_one 10 b line parts.0 (line_without line (ap not parts.1))
 
 -- lines with their newlines, and what stands behind them

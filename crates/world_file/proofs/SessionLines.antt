@@ -15,8 +15,9 @@ use Rattle.world_text.specs.declared.line.WorldLine.TheVariants as line
 use Rattle.world_text.specs.LineReading.{argued, read_line, script_of, words_line}
 use Rattle.world_text.specs.WorldLines.{Draft, Goes, after, at_last, good_line, host_number, is_passed, line_verdict, with_step, world_of}
 use Rattle.world_text.specs.WorldWords.{words_of}
-use Rattle.world_text.proofs.Shared.{without-none, equal, First, Good, Passed, Refused, View, bad-goes, begins-goes, same-goes, view}
+use Rattle.world_text.proofs.Shared.{without-none, First, Good, Passed, Refused, View, bad-goes, begins-goes, same-goes, view}
 use Rattle.world_file.specs.SessionText.{Feeds, OpensSession, Other, Passes, as_script, row_by, row_of}
+use Rattle.net_base.proofs.Tests.{equal_texts}
 
 -- ---- scripts
 
@@ -83,7 +84,7 @@ pub opens : (d : Draft) (text : List ℕ) → row_of d text ≡ OpensSession →
 opens d text is = by (is_passed text) (d.group == 0) (words_of text) refl refl is
   where
     named : (b : Bool) (word : List ℕ) (args : List (List ℕ)) → bytes_eq word (codes "session") ≡ b → (d.group == 0) ≡ false → words_of text ≡ word ∷ args → (if b then OpensSession else Other) ≡ OpensSession → Opens d text
-    named true word args same late are e = record { begun = late; args = args; words = are ∙ ap (λ (w : List ℕ). w ∷ args) (equal word (codes "session") same) }
+    named true word args same late are e = record { begun = late; args = args; words = are ∙ ap (λ (w : List ℕ). w ∷ args) (equal_texts word (codes "session") same) }
     named false word args same late are e = absurd (cc)
 
     first : (b : Bool) (word : List ℕ) (args : List (List ℕ)) (fed : Option (List ℕ)) → (d.group == 0) ≡ false → words_of text ≡ word ∷ args

@@ -2,6 +2,7 @@
 use Rattle.std.proofs.Common.{◌≡◌, ◌≤◌, ◌<◌, inl, inr, ℕ, ◌+◌, Bool, true, false, List, [], ◌∷◌, ◌++◌, length, refl, sym, ap, subst, ◌∙◌, arith, Option, Some, None, Result, Ok, Err}
 use Rattle.std.specs.Prelude.{IfErr, IfOk, is_none, if◌then◌else◌}
 use Rattle.std.proofs.lemmas.Bool.{false≢true}
+use Rattle.std.proofs.lemmas.List.{nil_from_length}
 use Rattle.sessions.specs.declared.world.Session.{Session}
 use Rattle.sessions.specs.declared.world.SessionWorld.{SessionWorld}
 use Rattle.net_base.specs.SessionScript.{IsBadStream}
@@ -218,15 +219,10 @@ so_unread bytes old new n rest line behind (Ok w) so at taken bad = bad
 so_unread bytes old new n rest line behind (Err error.Memory) so at taken bad = tt
 so_unread bytes old new n rest line behind (Err (error.Bad l c)) so at taken bad = begins-says bytes old new n rest line behind (Err (l, c)) so at taken bad
 
--- the lines end
-nothing-left : (rest : List ℕ) → length rest ≡ 0 → rest ≡ []
-nothing-left [] none = refl
-nothing-left (b ∷ rest) none = absurd (omega (arith, none))
-
 at-end : (bytes : List ℕ) (told : Told) (n : ℕ) (rest : List ℕ) (r : Outcome) → SoFar bytes told n rest → length rest ≡ 0
     → Closes told.sessions told.under (r ≡ Err (n, number_of (missing told.draft))) r → Says bytes r
 at-end bytes told n rest r so none closes =
-    so.says r (subst (λ (left : List ℕ). SaysFrom told n (cuts_of left) r) (sym (nothing-left rest none)) closes)
+    so.says r (subst (λ (left : List ℕ). SaysFrom told n (cuts_of left) r) (sym (nil_from_length rest none)) closes)
 
 pub end_unclosed : (bytes : List ℕ) (told : Told) (n : ℕ) (rest : List ℕ) (e : WorldError) → SoFar bytes told n rest → length rest ≡ 0 → ClosesBad told e → SaysBad bytes e
 end_unclosed bytes told n rest error.Memory so none bad = tt

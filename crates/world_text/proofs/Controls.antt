@@ -12,6 +12,7 @@ use Rattle.net_base.specs.declared.names.Ctl.{Ctl}
 use Rattle.net_base.specs.declared.names.Ctl.TheVariants as ctl
 use Rattle.net_base.specs.ControlWords.{dotted, place, spelling, short_spelling, is_port, is_place, in_range, IsSpelled, Reads, newline, blank, first_word, is_word, without_newline, address_of, place_of, parts_of_place, connect_of, control_of, is_spelled, checked, said, read, bad_word, bad_argument}
 use Rattle.net_base.proofs.Shared.{IsWithout, decimal_without, one_part, cut_at, without_one, four_parts, dotted_without, value_of}
+use Rattle.net_base.proofs.Tests.{or_true, same_text, equal_texts}
 
 abbrev octet : ℕ → ℕ → ℕ
 octet ip k = ip / 2 ^ k % 256
@@ -102,16 +103,9 @@ short_back port is =
 
 -- Lines.
 
-same_bytes : (xs : List ℕ) → bytes_eq xs xs ≡ true
-same_bytes xs = (bytes_eq-Decides xs xs).1 refl
-
-or_true : (b : Bool) → (b || true) ≡ true
-or_true true = refl
-or_true false = refl
-
 is_spelled_so : (c : Ctl) (line : List ℕ) → IsSpelled c line → is_spelled c line ≡ true
-is_spelled_so c line (fits, inl is) = rw fits (rw is (rw (same_bytes (spelling c)) refl))
-is_spelled_so c line (fits, inr is) = rw fits (rw is (rw (same_bytes line) (or_true _)))
+is_spelled_so c line (fits, inl is) = rw fits (rw is (rw (same_text (spelling c)) refl))
+is_spelled_so c line (fits, inr is) = rw fits (rw is (rw (same_text line) (or_true _)))
 
 said_back : (c : Ctl) (line : List ℕ) → IsSpelled c line → said line ≡ Some c
 said_back c line (fits, inl is) = rw is (rw (control_back c fits) (rw (is_spelled_so c (spelling c) (fits, inl refl)) refl))
@@ -126,19 +120,16 @@ said_back ctl.Hangup line (fits, inr is) = absurd (none-some line is)
 said_back (ctl.Ttl n) line (fits, inr is) = absurd (none-some line is)
 said_back (ctl.Tos n) line (fits, inr is) = absurd (none-some line is)
 
-true_equal : (xs ys : List ℕ) → bytes_eq xs ys ≡ true → xs ≡ ys
-true_equal xs ys = (bytes_eq-Decides xs ys).0
-
 spelled_by : (c : Ctl) (line : List ℕ) (short : Option (List ℕ)) → in_range c ≡ true → short_spelling c ≡ short
     → (bytes_eq line (spelling c) || option_map_or (λ (text : List ℕ). bytes_eq line text) short false) ≡ true → IsSpelled c line
 spelled_by c line short fits is_short is = by (bytes_eq line (spelling c)) refl is
   where
     by_short : (s : Option (List ℕ)) → short_spelling c ≡ s → option_map_or (λ (text : List ℕ). bytes_eq line text) s false ≡ true → IsSpelled c line
     by_short None is_none no_text = absurd (false≢true no_text)
-    by_short (Some text) is_some same = (fits, inr (is_some ∙ ap (λ (t : List ℕ). Some t) (sym (true_equal line text same))))
+    by_short (Some text) is_some same = (fits, inr (is_some ∙ ap (λ (t : List ℕ). Some t) (sym (equal_texts line text same))))
 
     by : (b : Bool) → bytes_eq line (spelling c) ≡ b → (b || option_map_or (λ (text : List ℕ). bytes_eq line text) short false) ≡ true → IsSpelled c line
-    by true same any = (fits, inl (true_equal line (spelling c) same))
+    by true same any = (fits, inl (equal_texts line (spelling c) same))
     by false same rest = by_short short is_short rest
 
 checked_is : (line : List ℕ) (o : Option Ctl) (c : Ctl) → checked line o ≡ Some c → IsSpelled c line

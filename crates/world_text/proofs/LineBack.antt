@@ -3,7 +3,7 @@ use Rattle.std.proofs.Common.{◌≡◌, ℕ, ◌<◌, ◌≤◌, ◌^◌, ◌==
 use Rattle.std.specs.Prelude.{⊤, codes, decimal, nat_le, nat_lt, option_map, if◌then◌else◌}
 use Rattle.std.specs.List.{list_all}
 use Rattle.std.specs.Option.{option_and_then}
-use Rattle.std.proofs.lemmas.Bool.{and_parts, false≢true, ltb-true, ne_eqb}
+use Rattle.std.proofs.lemmas.Bool.{and_parts, false≢true, ltb-true, ne_eqb, leb-true}
 use Rattle.std.proofs.lemmas.List.Elements.{All-append, All-nil}
 use Rattle.std.proofs.lemmas.List.Folds.{list_any_none}
 use Rattle.std.proofs.lemmas.List.Splits.{join_with_byte-slice_split, length-slice_split}
@@ -25,7 +25,7 @@ use Rattle.net_base.specs.Paths.{proto_name}
 use Rattle.net_base.specs.Transcript.{mode_word}
 use Rattle.net_base.specs.Remotes.{is_remote_path}
 use Rattle.net_base.specs.World.{is_address, is_byte, is_letter, is_name, is_name_byte, is_nets, is_step, is_text, is_within, is_word}
-use Rattle.net_base.proofs.Shared.{IsWithout, cut_at, decimal_without, one_part, without_one, hex-back, hex-without, address-back, le-true, number-back}
+use Rattle.net_base.proofs.Shared.{IsWithout, cut_at, decimal_without, one_part, without_one, hex-back, hex-without, address-back, number-back}
 use Rattle.world_text.specs.declared.line.Frames.{Frames}
 use Rattle.world_text.specs.declared.line.Frames.TheVariants as frames
 use Rattle.world_text.specs.declared.line.HostLine.TheVariants as host
@@ -76,7 +76,7 @@ decimal-free : (s : ℕ) → Apart s → (n : ℕ) → n < 2 ^ 64 → IsWithout 
 decimal-free s p n small = let low = p.low in decimal_without n s small (omega (arith, low))
 
 within-high : (least most n : ℕ) → is_within least most n ≡ true → n ≤ most
-within-high least most n e = le-true n most ((and_parts (nat_le least n) (nat_le n most) e).1)
+within-high least most n e = leb-true n most ((and_parts (nat_le least n) (nat_le n most) e).1)
 
 number-free : (s : ℕ) → Apart s → (least most n : ℕ) → most < 2 ^ 64 → is_within least most n ≡ true → IsWithout s (decimal n)
 number-free s p least most n bound e = let high = within-high least most n e in decimal-free s p n (omega (arith, high, bound))

@@ -3,7 +3,7 @@ use Rattle.std.proofs.Common.{◌≡◌, ℕ, ◌<◌, ◌^◌, Bool, true, fals
 use Rattle.std.specs.Prelude.{⊤, codes, decimal, bytes_eq, nat_le, option_map, if◌then◌else◌}
 use Rattle.std.specs.List.{join_with_byte}
 use Rattle.std.specs.Option.{option_and_then, option_to_list}
-use Rattle.std.proofs.lemmas.Bool.{and_parts, false≢true}
+use Rattle.std.proofs.lemmas.Bool.{and_parts, false≢true, and_from, lt-ltb}
 use Rattle.std.proofs.lemmas.List.Splits.{join_with_byte-slice_split}
 use Rattle.std.proofs.lemmas.Option.{none-some, same_Some}
 use Rattle.net_base.specs.declared.address.Proto.{Proto}
@@ -32,9 +32,8 @@ use Rattle.world_text.specs.WorldWords.{Four, Three, Two, address_in, both_nets,
 use Rattle.world_text.specs.LineReading.{argued, cs_of, dns_of, end_of, fate_from, fate_named, fate_of, frame_in, frames_in, frames_of, host_of, hread_of, hwrite_of, if_from, if_of, import_of, kept, medium_of, named, ndb_of, networld_of, of_one, of_two, open_of, other_of, range_from, rate_in, rates_from, rates_of, read_line, read_of, refresh_of, route_from, route_of, ropen_of, rread_of, rwrite_of, script_of, seed_of, start_of, step_of, step_read, timers_named, until_of, words_line, write_of, writex_of}
 use Rattle.world_text.specs.WorldSpelling.{fate_word, frames_spelled, spelling, timers_word, words_of_line}
 use Rattle.world_text.specs.LineFit.{fit_frames, is_fit, is_frame, is_rate}
-use Rattle.net_base.proofs.Shared.{hex-spelled, address-dotted, lt-is, number_in-spelled}
-use Rattle.world_text.proofs.WorldMedia.{equal}
-use Rattle.world_text.proofs.WorldMediums.{both}
+use Rattle.net_base.proofs.Shared.{hex-spelled, address-dotted, number_in-spelled}
+use Rattle.net_base.proofs.Tests.{equal_texts}
 
 -- What words say.
 
@@ -136,8 +135,8 @@ timers-is word kind e = by (bytes_eq word (codes "1")) refl (bytes_eq word (code
   where
     by : (a : Bool) → bytes_eq word (codes "1") ≡ a → (b : Bool) → bytes_eq word (codes "2") ≡ b
         → (if a then Some timers.Fixed else (if b then Some timers.Measured else None)) ≡ Some kind → word ≡ timers_word kind
-    by true ea b eb f = equal word (codes "1") ea ∙ ap timers_word (same_Some timers.Fixed kind f)
-    by false ea true eb f = equal word (codes "2") eb ∙ ap timers_word (same_Some timers.Measured kind f)
+    by true ea b eb f = equal_texts word (codes "1") ea ∙ ap timers_word (same_Some timers.Fixed kind f)
+    by false ea true eb f = equal_texts word (codes "2") eb ∙ ap timers_word (same_Some timers.Measured kind f)
     by false ea false eb f = absurd (none-some kind f)
 
 said-networld : (args : List (List ℕ)) → Said (codes "networld" ∷ args) (networld_of args)
@@ -159,7 +158,7 @@ said-medium args = said-then (codes "medium" ∷ args) (λ (w : Two). named w.fi
     said-map (codes "medium" ∷ args) (λ mtu. line.OfMedium (medium.Medium w.first mtu)) (number_in 576 16384 w.second) (λ mtu f.
     spells (codes "medium" ∷ args) (line.OfMedium (medium.Medium w.first mtu))
     (ap (λ (vs : List (List ℕ)). codes "medium" ∷ vs) (two-is args w e ∙ ap (λ (x : List ℕ). w.first ∷ x ∷ []) (number-is 576 16384 w.second mtu (omega arith) f)))
-    (both (is_name w.first) (is_within 576 16384 mtu) name (number-within 576 16384 w.second mtu f)))))
+    (and_from (is_name w.first) (is_within 576 16384 mtu) name (number-within 576 16384 w.second mtu f)))))
 
 said-rates : (args : List (List ℕ)) → Said (codes "rates" ∷ args) (rates_of args)
 said-rates args = said-then (codes "rates" ∷ args) (λ (w : Four). named w.first (rates_from w.first (rate_in w.second) (rate_in w.third) (rate_in w.fourth))) (four args) (λ w e.
@@ -174,9 +173,9 @@ said-rates args = said-then (codes "rates" ∷ args) (λ (w : Four). named w.fir
         ∙ (ap (λ (x : List ℕ). codes "rates" ∷ w.first ∷ x ∷ w.third ∷ w.fourth ∷ []) (number-is 0 4294967295 w.second a (omega arith) ea)
         ∙ (ap (λ (x : List ℕ). codes "rates" ∷ w.first ∷ decimal a ∷ x ∷ w.fourth ∷ []) (number-is 0 4294967295 w.third b (omega arith) eb)
         ∙ ap (λ (x : List ℕ). codes "rates" ∷ w.first ∷ decimal a ∷ decimal b ∷ x ∷ []) (number-is 0 4294967295 w.fourth c (omega arith) ec))))
-        (both (is_name w.first) (is_rate a && (is_rate b && is_rate c)) name
-        (both (is_rate a) (is_rate b && is_rate c) (number-within 0 4294967295 w.second a ea)
-        (both (is_rate b) (is_rate c) (number-within 0 4294967295 w.third b eb) (number-within 0 4294967295 w.fourth c ec))))
+        (and_from (is_name w.first) (is_rate a && (is_rate b && is_rate c)) name
+        (and_from (is_rate a) (is_rate b && is_rate c) (number-within 0 4294967295 w.second a ea)
+        (and_from (is_rate b) (is_rate c) (number-within 0 4294967295 w.third b eb) (number-within 0 4294967295 w.fourth c ec))))
     by w e name (Some a) ea (Some b) eb None ec = tt
     by w e name (Some a) ea None eb q ec = tt
     by w e name None ea p eb q ec = tt
@@ -208,8 +207,8 @@ frames-are word f (k ∷ l ∷ []) parts e = by (frame_in k) refl (frame_in l) r
         (record {
           is = same ∙ (ap (λ (x : List ℕ). x ++ (45 ∷ l)) (number-is 1 18446744073709551615 k m (omega arith) ek)
               ∙ ap (λ (x : List ℕ). decimal m ++ (45 ∷ x)) (number-is 1 18446744073709551615 l n (omega arith) el));
-          fit = both (is_frame m) (is_frame n && nat_le m n) (number-within 1 18446744073709551615 k m ek)
-              (both (is_frame n) (nat_le m n) (number-within 1 18446744073709551615 l n el) low);
+          fit = and_from (is_frame m) (is_frame n && nat_le m n) (number-within 1 18446744073709551615 k m ek)
+              (and_from (is_frame n) (nat_le m n) (number-within 1 18446744073709551615 l n el) low);
         })
     last m n ek el false low g = absurd (none-some f g)
 
@@ -227,7 +226,7 @@ pub fate-is : (word : List ℕ) (x : Fate) → fate_named word ≡ Some x → wo
 fate-is word x e = by (bytes_eq word (codes "deliver")) refl (bytes_eq word (codes "lose")) refl (bytes_eq word (codes "twice")) refl (bytes_eq word (codes "later")) refl e
   where
     put : (w : List ℕ) (y : Fate) → bytes_eq word w ≡ true → w ≡ fate_word y → y ≡ x → word ≡ fate_word x
-    put w y is named_so same = equal word w is ∙ (named_so ∙ ap fate_word same)
+    put w y is named_so same = equal_texts word w is ∙ (named_so ∙ ap fate_word same)
 
     by : (a : Bool) → bytes_eq word (codes "deliver") ≡ a → (b : Bool) → bytes_eq word (codes "lose") ≡ b → (c : Bool) → bytes_eq word (codes "twice") ≡ c → (d : Bool) → bytes_eq word (codes "later") ≡ d
         → (if a then Some fate.Deliver else (if b then Some fate.Lose else (if c then Some fate.Twice else (if d then Some fate.Later else None)))) ≡ Some x → word ≡ fate_word x
@@ -248,7 +247,7 @@ said-fate args = said-then (codes "fate" ∷ args) (λ (w : Three). named w.firs
         spells (codes "fate" ∷ args) (line.OfMedium (medium.Fate w.first f x))
         (ap (λ (vs : List (List ℕ)). codes "fate" ∷ vs) (three-is args w e)
         ∙ (ap (λ (y : List ℕ). codes "fate" ∷ w.first ∷ y ∷ w.third ∷ []) s.is ∙ ap (λ (y : List ℕ). codes "fate" ∷ w.first ∷ frames_spelled f ∷ y ∷ []) (fate-is w.third x ex)))
-        (both (is_name w.first) (fit_frames f) name s.fit)
+        (and_from (is_name w.first) (fit_frames f) name s.fit)
     by w e name (Some f) ef None ex = tt
     by w e name None ef p ex = tt
 
@@ -258,8 +257,8 @@ pub proto-is : (word : List ℕ) (p : Proto) → proto_named word ≡ Some p →
 proto-is word p e = by (bytes_eq word (codes "il")) refl (bytes_eq word (codes "udp")) refl e
   where
     by : (a : Bool) → bytes_eq word (codes "il") ≡ a → (b : Bool) → bytes_eq word (codes "udp") ≡ b → (if a then Some proto.Il else (if b then Some proto.Udp else None)) ≡ Some p → word ≡ proto_name p
-    by true ea b eb f = equal word (codes "il") ea ∙ ap proto_name (same_Some proto.Il p f)
-    by false ea true eb f = equal word (codes "udp") eb ∙ ap proto_name (same_Some proto.Udp p f)
+    by true ea b eb f = equal_texts word (codes "il") ea ∙ ap proto_name (same_Some proto.Il p f)
+    by false ea true eb f = equal_texts word (codes "udp") eb ∙ ap proto_name (same_Some proto.Udp p f)
     by false ea false eb f = absurd (none-some p f)
 
 nets-are : (nets : List (List ℕ)) → is_nets (nets_named nets) ≡ true → nets ≡ map proto_name (nets_named nets)
@@ -288,7 +287,7 @@ said-host (called ∷ nets) = by (is_name called && is_nets (nets_named nets)) r
     by false is = tt
 
 address-fits : (word : List ℕ) (ip : ℕ) → address_in word ≡ Some ip → is_address ip ≡ true
-address-fits word ip e = lt-is ip (2 ^ 32) ((address-dotted word ip e).fits)
+address-fits word ip e = lt-ltb ip (2 ^ 32) ((address-dotted word ip e).fits)
 
 said-if : (args : List (List ℕ)) → Said (codes "if" ∷ args) (if_of args)
 said-if args = said-then (codes "if" ∷ args) (λ (w : Three). named w.first (if_from w.first (address_in w.second) (address_in w.third))) (three args) (λ w e.
@@ -301,7 +300,7 @@ said-if args = said-then (codes "if" ∷ args) (λ (w : Three). named w.first (i
         (ap (λ (vs : List (List ℕ)). codes "if" ∷ vs) (three-is args w e)
         ∙ (ap (λ (y : List ℕ). codes "if" ∷ w.first ∷ y ∷ w.third ∷ []) ((address-dotted w.second ip ei).is)
         ∙ ap (λ (y : List ℕ). codes "if" ∷ w.first ∷ dotted ip ∷ y ∷ []) ((address-dotted w.third mask em).is)))
-        (both (is_name w.first) (is_address ip && is_address mask) name (both (is_address ip) (is_address mask) (address-fits w.second ip ei) (address-fits w.third mask em)))
+        (and_from (is_name w.first) (is_address ip && is_address mask) name (and_from (is_address ip) (is_address mask) (address-fits w.second ip ei) (address-fits w.third mask em)))
     by w e name (Some ip) ei None em = tt
     by w e name None ei p em = tt
 
@@ -316,8 +315,8 @@ said-route args = said-then (codes "route" ∷ args) (λ (w : Three). route_from
         ∙ (ap (λ (y : List ℕ). codes "route" ∷ y ∷ w.second ∷ w.third ∷ []) ((address-dotted w.first net en).is)
         ∙ (ap (λ (y : List ℕ). codes "route" ∷ dotted net ∷ y ∷ w.third ∷ []) ((address-dotted w.second mask em).is)
         ∙ ap (λ (y : List ℕ). codes "route" ∷ dotted net ∷ dotted mask ∷ y ∷ []) ((address-dotted w.third gateway eg).is))))
-        (both (is_address net) (is_address mask && is_address gateway) (address-fits w.first net en)
-        (both (is_address mask) (is_address gateway) (address-fits w.second mask em) (address-fits w.third gateway eg)))
+        (and_from (is_address net) (is_address mask && is_address gateway) (address-fits w.first net en)
+        (and_from (is_address mask) (is_address gateway) (address-fits w.second mask em) (address-fits w.third gateway eg)))
     by w e (Some net) en (Some mask) em None eg = tt
     by w e (Some net) en None em q eg = tt
     by w e None en p em q eg = tt
@@ -351,9 +350,9 @@ mode-is word m e = by (bytes_eq word (codes "r")) refl (bytes_eq word (codes "w"
   where
     by : (a : Bool) → bytes_eq word (codes "r") ≡ a → (b : Bool) → bytes_eq word (codes "w") ≡ b → (c : Bool) → bytes_eq word (codes "rw") ≡ c
         → (if a then Some mode.Read else (if b then Some mode.Write else (if c then Some mode.Both else None))) ≡ Some m → word ≡ mode_word m
-    by true ea b eb c ec f = equal word (codes "r") ea ∙ ap mode_word (same_Some mode.Read m f)
-    by false ea true eb c ec f = equal word (codes "w") eb ∙ ap mode_word (same_Some mode.Write m f)
-    by false ea false eb true ec f = equal word (codes "rw") ec ∙ ap mode_word (same_Some mode.Both m f)
+    by true ea b eb c ec f = equal_texts word (codes "r") ea ∙ ap mode_word (same_Some mode.Read m f)
+    by false ea true eb c ec f = equal_texts word (codes "w") eb ∙ ap mode_word (same_Some mode.Write m f)
+    by false ea false eb true ec f = equal_texts word (codes "rw") ec ∙ ap mode_word (same_Some mode.Both m f)
     by false ea false eb false ec f = absurd (none-some m f)
 
 said-open : (args : List (List ℕ)) → SaidStep (codes "open" ∷ args) (open_of args)
@@ -433,7 +432,7 @@ own-if : (word : List ℕ) (args : List (List ℕ)) (called : List ℕ) (o : Opt
 own-if word args called o p here later = by (bytes_eq word called) refl
   where
     by : (b : Bool) → bytes_eq word called ≡ b → SaidOwn (word ∷ args) (if b then Some o else p)
-    by true is = subst (λ (w : List ℕ). SaidStep (w ∷ args) o) (sym (equal word called is)) here
+    by true is = subst (λ (w : List ℕ). SaidStep (w ∷ args) o) (sym (equal_texts word called is)) here
     by false is = later
 
 said-ropen : (args : List (List ℕ)) → SaidStep (codes "ropen" ∷ args) (ropen_of args)
@@ -501,7 +500,7 @@ line-if : (word : List ℕ) (args : List (List ℕ)) (called : List ℕ) (o : Op
 line-if word args called o r here later = by (bytes_eq word called) refl
   where
     by : (b : Bool) → bytes_eq word called ≡ b → SaidLine (word ∷ args) (if b then argued o else r)
-    by true is = subst (λ (w : List ℕ). SaidLine (w ∷ args) (argued o)) (sym (equal word called is)) (said-argued (called ∷ args) o here)
+    by true is = subst (λ (w : List ℕ). SaidLine (w ∷ args) (argued o)) (sym (equal_texts word called is)) (said-argued (called ∷ args) o here)
     by false is = later
 
 said-read_step : (words : List (List ℕ)) (o : Option (Option Step)) → SaidOwn words o → SaidLine words (step_read o)

@@ -13,6 +13,7 @@ use Rattle.net_base.specs.declared.names.Node.{Node}
 use Rattle.net_base.specs.declared.names.Node.TheVariants as node
 use Rattle.net_base.specs.Paths.{proto_name, file_name, path_of, in_range, Names, proto_named, file_named, node_of, is_named, checked, walk}
 use Rattle.net_base.proofs.Shared.{IsWithout, decimal_without, decimal_without_letter, one_part, cut_at, value_of}
+use Rattle.net_base.proofs.Tests.{same_text}
 
 abbrev parts : List ℕ → List (List ℕ)
 parts path = slice_split (λ b. b == 47) path
@@ -65,11 +66,8 @@ node_back (node.File proto.Udp n f) is =
     let nested : path_of (node.File proto.Udp n f) ≡ codes "/net/udp/" ++ (decimal n ++ (47 ∷ file_name f)) = simp append_assoc refl in
     subst (λ (path : List ℕ). node_of (parts path) ≡ Some (node.File proto.Udp n f)) (sym nested) (rw (file_parts n f low) (file_node_back proto.Udp n f low))
 
-same_bytes : (xs : List ℕ) → bytes_eq xs xs ≡ true
-same_bytes xs = (bytes_eq-Decides xs xs).1 refl
-
 named : (path : List ℕ) (n : Node) → Names path n → walk path ≡ Some n
-named path n (fits, is) = rw is (rw (node_back n fits) (rw fits (rw (same_bytes (path_of n)) refl)))
+named path n (fits, is) = rw is (rw (node_back n fits) (rw fits (rw (same_text (path_of n)) refl)))
 
 checked_is : (path : List ℕ) (o : Option Node) (n : Node) → checked path o ≡ Some n → Names path n
 checked_is path None n is = absurd (none-some n is)

@@ -5,9 +5,9 @@ pub use Rattle.world_text.proofs.VersionCuts.{AreGood, Free, any-free, before-al
 -- a text without a bad line says its versions, which a world may have; and a text that says versions is read as them
 pub use Rattle.world_text.proofs.VersionTexts.{all-good, versions-back, versions-databases, versions-timed}
 -- lists whose elements are apart, elements behind one another, and words without a byte
-pub use Rattle.world_text.proofs.WorldLists.{apart-map, apart-push, at_last-push, false-of-not, last-push, or-parts, same-numbers, without-none}
+pub use Rattle.world_text.proofs.WorldLists.{apart-map, apart-push, at_last-push, false-of-not, last-push, same-numbers, without-none}
 -- the lines of the media behind one another: the world so far is what they say, and each line fits exactly where all of them do
-pub use Rattle.world_text.proofs.WorldMedia.{equal, unrefused}
+pub use Rattle.world_text.proofs.WorldMedia.{unrefused}
 -- a world so far is small
 pub use Rattle.world_text.proofs.WorldSmall.{led-next, small-led}
 -- what is read spells the world

@@ -4,7 +4,7 @@ use Rattle.std.specs.Prelude.{⊤, bytes_eq, codes, filter_map, flat_map, nat_le
 use Rattle.std.specs.List.{before_first, cons_option, last_or, list_any, prefix_len, suffix_len}
 use Rattle.std.proofs.Math.Seq.{drop-append-le, drop-length}
 use Rattle.std.proofs.Math.ListN.{take-append-drop}
-use Rattle.std.proofs.lemmas.Bool.{and_from, and_parts, false≢true}
+use Rattle.std.proofs.lemmas.Bool.{and_from, and_parts, false≢true, or_parts, le-leb}
 use Rattle.std.proofs.lemmas.Bool.Decides.{nat_tests}
 use Rattle.std.proofs.lemmas.List.{reverse-append}
 use Rattle.std.proofs.lemmas.List.Elements.{filter_map-append}
@@ -19,7 +19,6 @@ use Rattle.world_text.specs.declared.line.LineCause.TheVariants as line_cause
 use Rattle.world_text.specs.LineCauses.{number_of}
 use Rattle.world_text.specs.VersionLines.{at_causes, begins_at, first_bad_version, is_at_line, last_moment, later_versions, moment_of, own_lines, version_causes, versions_in, with_version}
 use Rattle.world_text.specs.WorldSpelling.{IsGoodBundle, LaterText, line_of_moment, lines_of_later, version_said}
-use Rattle.world_text.proofs.WorldLists.{or-parts}
 use Rattle.net_base.proofs.Shared.{number-back, number_in-spelled}
 
 -- Causes.
@@ -198,9 +197,6 @@ lt-is m n e = grind (arith, nat_tests)
 le-not : (m n : ℕ) → nat_lt n m ≡ true → nat_le m n ≡ false
 le-not m n e = grind (arith, nat_tests)
 
-le-is : (m n : ℕ) → m ≤ n → nat_le m n ≡ true
-le-is m n e = grind (arith, nat_tests)
-
 some-is : (last moment : ℕ) → nat_lt last moment ≡ true → nat_le 1 moment ≡ true
 some-is last moment e = grind (arith, nat_tests)
 
@@ -236,7 +232,7 @@ split-at before line lines moment at is late s =
       first_good = refl;
       later_good = (subst (λ (own : List (List ℕ)). first_bad causes_of own s.first ≡ None) (own-at before line at) s.first_good, s.later_good);
       rising = and_from _ _ (lt-is moment (last_moment before) late)
-          (and_from _ _ (le-is moment 1000000000 within) (subst (λ (last : ℕ). are_later last (saids s.later) ≡ true) (last-at before line moment at is) s.rising));
+          (and_from _ _ (le-leb moment 1000000000 within) (subst (λ (last : ℕ). are_later last (saids s.later) ≡ true) (last-at before line moment at is) s.rising));
       bundle_is = first-stop line lines at;
       later_are = ap (λ (o : Option ℕ). with_version o lines (later_versions lines)) (begins-some line moment at is)
           ∙ (ap (λ (ls : List (List ℕ)). version_said moment ls ∷ later_versions lines) s.bundle_is
@@ -397,7 +393,7 @@ bundle-told d before own (line ∷ bundle) is len free =
 
 pub any-free : (lines : List (List ℕ)) → list_any is_at_line lines ≡ false → Free lines
 any-free [] none = tt
-any-free (line ∷ lines) none = let parts = or-parts (is_at_line line) (list_any is_at_line lines) none in (parts.0, any-free lines parts.1)
+any-free (line ∷ lines) none = let parts = or_parts (is_at_line line) (list_any is_at_line lines) none in (parts.0, any-free lines parts.1)
 
 -- the bundle up to a line that begins a version, or to the end
 pub before-at : (bundle : List (List ℕ)) (line : List ℕ) (tail : List (List ℕ)) → Free bundle → is_at_line line ≡ true → before_first is_at_line (bundle ++ line ∷ tail) ≡ bundle

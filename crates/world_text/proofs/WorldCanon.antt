@@ -2,7 +2,7 @@
 use Rattle.std.proofs.Common.{◌≡◌, ℕ, ◌+◌, ◌==◌, Bool, true, false, not, ◌&&◌, ◌||◌, List, [], ◌∷◌, ◌++◌, map, get_or, refl, sym, ap, subst, ◌∙◌, Some, None, append-nil, append_assoc}
 use Rattle.std.specs.Prelude.{bytes_eq, codes, decimal, filter_map, flat_map, if◌then◌else◌}
 use Rattle.std.specs.List.{cons_option, list_any}
-use Rattle.std.proofs.lemmas.Bool.{and_parts, eqb-true}
+use Rattle.std.proofs.lemmas.Bool.{and_parts, eqb-true, or_parts}
 use Rattle.std.proofs.lemmas.Grind.{flat_map-append}
 use Rattle.std.proofs.lemmas.List.{map-append}
 use Rattle.std.proofs.lemmas.List.Elements.{filter_map-append}
@@ -17,9 +17,10 @@ use Rattle.world_text.specs.declared.line.MediumLine.TheVariants as medium
 use Rattle.world_text.specs.declared.line.WorldLine.TheVariants as line
 use Rattle.world_text.specs.WorldLines.{range_of}
 use Rattle.world_text.specs.WorldSpelling.{EachBehind, IsBehindMedium, Rates, SaysMedium, fate_on, fate_word, line_of_fate, lines_of_medium, lines_of_rates, media_named, media_said, medium_names, medium_said, name_said, no_rates, rated_name, rates_on, rates_said, spaced, spelling}
-use Rattle.world_text.proofs.WorldLists.{any-insert, apart-insert, each-none, each-push, false-of-not, or-parts, own-bytes, same-bytes}
+use Rattle.world_text.proofs.WorldLists.{any-insert, apart-insert, each-none, each-push, false-of-not, same-bytes}
 use Rattle.world_text.proofs.WorldMedia.{named-front, names}
 use Rattle.world_text.proofs.WorldLed.{of_media}
+use Rattle.net_base.proofs.Tests.{same_text}
 
 -- Media.
 
@@ -142,14 +143,14 @@ own-rates s rest =
     by : (b : Bool) → filter_map (rates_on s.name) (if b then [] else medium.Rates s.name s.loss s.twice s.later ∷ []) ++ rest
         ≡ (if b then rest else record { loss = s.loss; twice = s.twice; later = s.later } ∷ rest)
     by true = refl
-    by false = ap (λ v. cons_option (if v then Some (record { loss = s.loss; twice = s.twice; later = s.later }) else None) [] ++ rest) (own-bytes s.name)
+    by false = ap (λ v. cons_option (if v then Some (record { loss = s.loss; twice = s.twice; later = s.later }) else None) [] ++ rest) (same_text s.name)
 
 -- lines of media with other names
 none-named : (called : List ℕ) (ms : List MediumSpec) → list_any (bytes_eq called) (medium_names ms) ≡ false
     → (filter_map (fate_on called) (media_lines ms) ≡ []) × (filter_map (rates_on called) (media_lines ms) ≡ [])
 none-named called [] none = (refl, refl)
 none-named called (s ∷ ms) none =
-    let parts = or-parts (bytes_eq called s.name) (list_any (bytes_eq called) (medium_names ms)) none in
+    let parts = or_parts (bytes_eq called s.name) (list_any (bytes_eq called) (medium_names ms)) none in
     let later = none-named called ms parts.1 in (
       filter_map-append (fate_on called) (medium_lines s) (media_lines ms)
           ∙ (ap (λ fs. fs ++ filter_map (fate_on called) (media_lines ms)) (fates-of-medium called s ∙ ap (λ v. if v then s.fates else []) parts.0) ∙ later.0),
@@ -168,7 +169,7 @@ said-there before s rest front back =
           ∙ (filter_map-append (fate_on s.name) (media_lines before) (medium_lines s ++ media_lines rest)
           ∙ (ap (λ fs. fs ++ filter_map (fate_on s.name) (medium_lines s ++ media_lines rest)) f.0
           ∙ (filter_map-append (fate_on s.name) (medium_lines s) (media_lines rest)
-          ∙ (ap (λ fs. fs ++ filter_map (fate_on s.name) (media_lines rest)) (fates-of-medium s.name s ∙ ap (λ v. if v then s.fates else []) (own-bytes s.name))
+          ∙ (ap (λ fs. fs ++ filter_map (fate_on s.name) (media_lines rest)) (fates-of-medium s.name s ∙ ap (λ v. if v then s.fates else []) (same_text s.name))
           ∙ (ap (λ fs. s.fates ++ fs) b.0 ∙ append-nil s.fates))))),
       ap (filter_map (rates_on s.name)) split
           ∙ (filter_map-append (rates_on s.name) (media_lines before) (medium_lines s ++ media_lines rest)
@@ -224,7 +225,7 @@ media-same all n before (s ∷ rest) e fit apart =
     let number = eqb-true s.number n (and_parts (s.number == n) _ parts.0).0 in
     let split : all_apart bytes_eq (medium_names before ++ s.name ∷ medium_names rest) ≡ true = ap (all_apart bytes_eq) (sym (map-append (λ (m : MediumSpec). m.name) before (s ∷ rest))) ∙ apart in
     let others = and_parts (not (list_any (bytes_eq s.name) (medium_names before ++ medium_names rest))) _ (sym (apart-insert bytes_eq same-bytes (medium_names before) s.name (medium_names rest)) ∙ split) in
-    let none = or-parts (list_any (bytes_eq s.name) (medium_names before)) (list_any (bytes_eq s.name) (medium_names rest))
+    let none = or_parts (list_any (bytes_eq s.name) (medium_names before)) (list_any (bytes_eq s.name) (medium_names rest))
     (sym (list_any-append (bytes_eq s.name) (medium_names before) (medium_names rest)) ∙ false-of-not _ others.0) in
     let said = said-there before s rest none.0 none.1 in
     let same : (before ++ s ∷ []) ++ rest ≡ before ++ s ∷ rest = append_assoc before (s ∷ []) rest in
@@ -261,7 +262,7 @@ rates-behind s lines each says once = by (is_still s)
 rated-named : (called : List ℕ) (ms : List MediumSpec) → list_any (bytes_eq called) (medium_names ms) ≡ false → list_any (bytes_eq called) (filter_map rated_name (media_lines ms)) ≡ false
 rated-named called [] none = refl
 rated-named called (s ∷ ms) none =
-    let parts = or-parts (bytes_eq called s.name) (list_any (bytes_eq called) (medium_names ms)) none in
+    let parts = or_parts (bytes_eq called s.name) (list_any (bytes_eq called) (medium_names ms)) none in
     ap (list_any (bytes_eq called)) (filter_map-append rated_name (medium_lines s) (media_lines ms))
     ∙ (list_any-append (bytes_eq called) (filter_map rated_name (medium_lines s)) (filter_map rated_name (media_lines ms))
     ∙ (ap (λ b. b || list_any (bytes_eq called) (filter_map rated_name (media_lines ms))) (own s parts.0) ∙ rated-named called ms parts.1))
@@ -288,13 +289,13 @@ media-behind before [] each apart = subst (λ (ms : List MediumSpec). EachBehind
 media-behind before (s ∷ rest) each apart =
     let split : all_apart bytes_eq (medium_names before ++ s.name ∷ medium_names rest) ≡ true = ap (all_apart bytes_eq) (sym (map-append (λ (m : MediumSpec). m.name) before (s ∷ rest))) ∙ apart in
     let others = and_parts (not (list_any (bytes_eq s.name) (medium_names before ++ medium_names rest))) _ (sym (apart-insert bytes_eq same-bytes (medium_names before) s.name (medium_names rest)) ∙ split) in
-    let none = (or-parts (list_any (bytes_eq s.name) (medium_names before)) (list_any (bytes_eq s.name) (medium_names rest))
+    let none = (or_parts (list_any (bytes_eq s.name) (medium_names before)) (list_any (bytes_eq s.name) (medium_names rest))
     (sym (list_any-append (bytes_eq s.name) (medium_names before) (medium_names rest)) ∙ false-of-not _ others.0)).0 in
     let head : MediumLine = medium.Medium s.name s.mtu in
     let first = each-push IsBehindMedium (media_lines before) head each tt in
     let says : SaysMedium s.name (media_lines before ++ head ∷ []) =
     ap (list_any (bytes_eq s.name)) (filter_map-append name_said (media_lines before) (head ∷ []))
-    ∙ (any-insert (bytes_eq s.name) (names (media_lines before)) s.name [] ∙ ap (λ b. b || list_any (bytes_eq s.name) (names (media_lines before) ++ [])) (own-bytes s.name)) in
+    ∙ (any-insert (bytes_eq s.name) (names (media_lines before)) s.name [] ∙ ap (λ b. b || list_any (bytes_eq s.name) (names (media_lines before) ++ [])) (same_text s.name)) in
     let once : list_any (bytes_eq s.name) (filter_map rated_name (media_lines before ++ head ∷ [])) ≡ false =
     ap (list_any (bytes_eq s.name)) (filter_map-append rated_name (media_lines before) (head ∷ []) ∙ append-nil (filter_map rated_name (media_lines before))) ∙ rated-named s.name before none in
     let second = rates-behind s (media_lines before ++ head ∷ []) first says once in

@@ -2,7 +2,7 @@
 use Rattle.std.proofs.Common.{◌≡◌, ℕ, ◌+◌, ◌-◌, ◌^◌, ◌<◌, ◌≤◌, ◌==◌, zero, suc, Bool, true, false, not, ◌&&◌, ◌||◌, cond, List, [], ◌∷◌, ◌++◌, length, map, refl, sym, ap, subst, ◌∙◌, arith, Option, Some, None}
 use Rattle.std.specs.Prelude.{bit_and, bytes_eq, filter_map, find, flat_map, is_some, nat_eq, nat_le, nat_lt, option_map}
 use Rattle.std.specs.List.{cons_option, filter, list_all, list_any, range_with_len}
-use Rattle.std.proofs.lemmas.Bool.{and_parts, eqb-true, false≢true}
+use Rattle.std.proofs.lemmas.Bool.{and_parts, eqb-true, false≢true, and_from, or_parts, le-leb}
 use Rattle.std.proofs.lemmas.Bool.Decides.{nat_tests}
 use Rattle.std.proofs.lemmas.List.{map-append}
 use Rattle.std.proofs.lemmas.List.Elements.{filter_map-append}
@@ -20,10 +20,10 @@ use Rattle.world_text.specs.declared.line.HostLine.TheVariants as host
 use Rattle.world_text.specs.WorldLines.{is_near, is_net}
 use Rattle.world_text.specs.WorldSpelling.{EachBehind, HostText, IsReached, host_said, iface_said, place_of, route_said, start_said}
 use Rattle.world_text.specs.LineFit.{fit_host_line}
-use Rattle.world_text.proofs.WorldLists.{all-at, all-if, apart-map, false-of-not, or-parts, place-there}
-use Rattle.world_text.proofs.WorldMedia.{equal}
-use Rattle.world_text.proofs.WorldMediums.{all-found, both}
+use Rattle.world_text.proofs.WorldLists.{all-at, all-if, apart-map, false-of-not, place-there}
+use Rattle.world_text.proofs.WorldMediums.{all-found}
 use Rattle.world_text.proofs.WorldHosts.{FineHost, FineHosts, bare_route, count-said, good_net, ifaces, names-said, networks, routes, saids, starts}
+use Rattle.net_base.proofs.Tests.{equal_texts}
 
 -- Lists.
 
@@ -34,11 +34,11 @@ all-filter q g (x ∷ xs) h = by (g x) (λ y e. h [] x xs y refl e) (all-filter 
   where
     by : (o : Option _) → ((y : _) → o ≡ Some y → q y ≡ true) → list_all q (filter_map g xs) ≡ true → list_all q (cons_option o (filter_map g xs)) ≡ true
     by None here later = later
-    by (Some y) here later = both (q y) (list_all q (filter_map g xs)) (here y refl) later
+    by (Some y) here later = and_from (q y) (list_all q (filter_map g xs)) (here y refl) later
 
 pub all-imply : {A : Type 0} (p q : A → Bool) → ((x : A) → p x ≡ true → q x ≡ true) → (xs : List A) → list_all p xs ≡ true → list_all q xs ≡ true
 all-imply p q f [] all = refl
-all-imply p q f (x ∷ xs) all = let parts = and_parts (p x) (list_all p xs) all in both (q x) (list_all q xs) (f x parts.0) (all-imply p q f xs parts.1)
+all-imply p q f (x ∷ xs) all = let parts = and_parts (p x) (list_all p xs) all in and_from (q x) (list_all q xs) (f x parts.0) (all-imply p q f xs parts.1)
 
 -- Numbers below a bound that are apart are no more than it.
 
@@ -55,12 +55,12 @@ without-below k (x ∷ xs) all =
 
     by : (b : Bool) → nat_eq k x ≡ b → nat_lt x (suc k) ≡ true → list_all (λ y. nat_lt y k) (without k xs) ≡ true → list_all (λ y. nat_lt y k) (cond (not b) (x ∷ without k xs) (without k xs)) ≡ true
     by true is lt later = later
-    by false is lt later = both (nat_lt x k) (list_all (λ y. nat_lt y k) (without k xs)) (below k x is lt) later
+    by false is lt later = and_from (nat_lt x k) (list_all (λ y. nat_lt y k) (without k xs)) (below k x is lt) later
 
 without-any : (k y : ℕ) (xs : List ℕ) → list_any (nat_eq y) xs ≡ false → list_any (nat_eq y) (without k xs) ≡ false
 without-any k y [] none = refl
 without-any k y (x ∷ xs) none =
-    let parts = or-parts (nat_eq y x) (list_any (nat_eq y) xs) none in by (not (nat_eq k x)) parts.0 (without-any k y xs parts.1)
+    let parts = or_parts (nat_eq y x) (list_any (nat_eq y) xs) none in by (not (nat_eq k x)) parts.0 (without-any k y xs parts.1)
   where
     by : (b : Bool) → nat_eq y x ≡ false → list_any (nat_eq y) (without k xs) ≡ false → list_any (nat_eq y) (cond b (x ∷ without k xs) (without k xs)) ≡ false
     by true here later = ap (λ v. v || list_any (nat_eq y) (without k xs)) here ∙ later
@@ -73,13 +73,13 @@ without-apart k (x ∷ xs) apart =
     by (not (nat_eq k x)) (without-any k x xs (false-of-not (list_any (nat_eq x) xs) parts.0)) (without-apart k xs parts.1)
   where
     by : (b : Bool) → list_any (nat_eq x) (without k xs) ≡ false → all_apart nat_eq (without k xs) ≡ true → all_apart nat_eq (cond b (x ∷ without k xs) (without k xs)) ≡ true
-    by true none later = both (not (list_any (nat_eq x) (without k xs))) (all_apart nat_eq (without k xs)) (ap not none) later
+    by true none later = and_from (not (list_any (nat_eq x) (without k xs))) (all_apart nat_eq (without k xs)) (ap not none) later
     by false none later = later
 
 without-none : (k : ℕ) (xs : List ℕ) → list_any (nat_eq k) xs ≡ false → length (without k xs) ≡ length xs
 without-none k [] none = refl
 without-none k (x ∷ xs) none =
-    let parts = or-parts (nat_eq k x) (list_any (nat_eq k) xs) none in
+    let parts = or_parts (nat_eq k x) (list_any (nat_eq k) xs) none in
     ap (λ b. length (cond (not b) (x ∷ without k xs) (without k xs))) parts.0 ∙ ap (λ n. suc n) (without-none k xs parts.1)
 
 without-length : (k : ℕ) (xs : List ℕ) → all_apart nat_eq xs ≡ true → length xs ≤ suc (length (without k xs))
@@ -172,7 +172,7 @@ route-parts nets l net fit near =
     let a = and_parts (is_mask l.mask) (bit_and l.net l.mask == l.net) net in
     let b = and_parts (is_address l.net) (is_address l.mask && is_address l.gateway) fit in
     let c = and_parts (is_address l.mask) (is_address l.gateway) b.1 in
-    both (is_mask l.mask) _ a.0 (both (is_address l.net) _ b.0 (both (bit_and l.net l.mask == l.net) _ a.1 (both (is_address l.gateway) (reached_by nets l) c.1 near)))
+    and_from (is_mask l.mask) _ a.0 (and_from (is_address l.net) _ b.0 (and_from (bit_and l.net l.mask == l.net) _ a.1 (and_from (is_address l.gateway) (reached_by nets l) c.1 near)))
 
 routes-fit : (ns : List (List ℕ)) (h : HostText) → FineHost ns h → list_all (is_route (iface_routes 0 (ifaces ns h.under))) (routes h.under) ≡ true
 routes-fit ns h k = all-filter (is_route nets) route_said h.under at
@@ -198,9 +198,6 @@ starts-fit lines fit = all-filter is_start start_said lines at
     at before (host.Route m) rest n e is = absurd (none-some n is)
     at before (host.Start start) rest n e is = ap is_start (sym (same_Some start n is)) ∙ all-at fit_host_line lines before (host.Start start) rest e fit
 
-le-is : (m n : ℕ) → m ≤ n → nat_le m n ≡ true
-le-is m n h = grind (arith, nat_tests)
-
 length-map : {A B : Type 0} (f : A → B) (xs : List A) → length (map f xs) ≡ length xs
 length-map f [] = refl
 length-map f (x ∷ xs) = ap (λ n. suc n) (length-map f xs)
@@ -213,18 +210,18 @@ ifaces-few ns h small on apart =
     ∙ all-imply (is_iface (length ns)) (λ (i : Iface). nat_lt i.medium (length ns)) (λ i e. (and_parts (nat_lt i.medium (length ns)) (is_address i.ip && is_mask i.mask) e).0) (ifaces ns h.under) on in
     let few = few-below (length ns) numbers below (apart-map nat_eq (λ (i : Iface). i.medium) (ifaces ns h.under) ∙ apart) in
     let len = length-map (λ (i : Iface). i.medium) (ifaces ns h.under) in
-    le-is (length (ifaces ns h.under)) 4 (omega (arith, few, len, small))
+    le-leb (length (ifaces ns h.under)) 4 (omega (arith, few, len, small))
 
 pub host-of-lines : (ns : List (List ℕ)) (h : HostText) → length ns ≤ 4 → FineHost ns h → is_host (length ns) (host_said ns h) ≡ true
 host-of-lines ns h small k =
     let head = and_parts (is_name h.name) (is_nets h.nets) k.head in
-    both (is_name h.name) _ head.0
-    (both (is_nets h.nets) _ head.1
-    (both (nat_le (length (ifaces ns h.under)) 4) _ (ifaces-few ns h small k.on k.apart)
-    (both (list_all (is_iface (length ns)) (ifaces ns h.under)) _ k.on
-    (both (all_apart same_medium (ifaces ns h.under)) _ k.apart
-    (both (list_all (is_route (iface_routes 0 (ifaces ns h.under))) (routes h.under)) _ (routes-fit ns h k)
-    (both (all_apart same_network (host_routes (host_said ns h))) (list_all is_start (starts h.under)) (routes-apart ns h (reached-all ns h.under k.reached) ∙ k.once) (starts-fit h.under k.fit)))))))
+    and_from (is_name h.name) _ head.0
+    (and_from (is_nets h.nets) _ head.1
+    (and_from (nat_le (length (ifaces ns h.under)) 4) _ (ifaces-few ns h small k.on k.apart)
+    (and_from (list_all (is_iface (length ns)) (ifaces ns h.under)) _ k.on
+    (and_from (all_apart same_medium (ifaces ns h.under)) _ k.apart
+    (and_from (list_all (is_route (iface_routes 0 (ifaces ns h.under))) (routes h.under)) _ (routes-fit ns h k)
+    (and_from (all_apart same_network (host_routes (host_said ns h))) (list_all is_start (starts h.under)) (routes-apart ns h (reached-all ns h.under k.reached) ∙ k.once) (starts-fit h.under k.fit)))))))
 
 -- what a world's hosts are
 pub record AreHosts (k : ℕ) (hosts : List HostSpec) : Type 0 where
@@ -266,7 +263,7 @@ name-known called [] fit says = absurd (false≢true says)
 name-known called (n ∷ ns) fit says = by (bytes_eq called n) refl says (name-known called ns (and_parts (is_name n) (list_all is_name ns) fit).1)
   where
     by : (b : Bool) → bytes_eq called n ≡ b → (b || list_any (bytes_eq called) ns) ≡ true → (list_any (bytes_eq called) ns ≡ true → is_name called ≡ true) → is_name called ≡ true
-    by true is f later = ap is_name (equal called n is) ∙ (and_parts (is_name n) (list_all is_name ns) fit).0
+    by true is f later = ap is_name (equal_texts called n is) ∙ (and_parts (is_name n) (list_all is_name ns) fit).0
     by false is f later = later f
 
 -- the parts of a host that fits
@@ -302,8 +299,8 @@ route-is nets l e =
     let c = and_parts (bit_and l.net l.mask == l.net) _ b.1 in
     let d = and_parts (is_address l.gateway) (reached_by nets l) c.1 in
     record {
-      net = both (is_mask l.mask) (bit_and l.net l.mask == l.net) a.0 c.0;
-      fit = both (is_address l.net) _ b.0 (both (is_address l.mask) (is_address l.gateway) (mask-small l.mask a.0) d.0);
+      net = and_from (is_mask l.mask) (bit_and l.net l.mask == l.net) a.0 c.0;
+      fit = and_from (is_address l.net) _ b.0 (and_from (is_address l.mask) (is_address l.gateway) (mask-small l.mask a.0) d.0);
       near = d.1;
     }
 
@@ -311,7 +308,7 @@ pub lines-of-host : (ns : List (List ℕ)) (h : HostText) → list_all is_name n
 lines-of-host ns h names_fit reached is_so =
     let p = host-parts (length ns) (host_said ns h) is_so in
     record {
-      head = both (is_name h.name) (is_nets h.nets) p.name p.nets;
+      head = and_from (is_name h.name) (is_nets h.nets) p.name p.nets;
       fit = all-if fit_host_line h.under (at p);
       on = p.on;
       apart = p.apart;
@@ -328,8 +325,8 @@ lines-of-host ns h names_fit reached is_so =
         let a = and_parts (nat_lt (place_of ns called) (length ns)) (is_address ip && is_mask mask)
         (all-found (is_iface (length ns)) (iface_said ns) h.under before (host.If called ip mask) rest (record { medium = place_of ns called; ip = ip; mask = mask }) e refl p.on) in
         let b = and_parts (is_address ip) (is_mask mask) a.1 in
-        both (is_name called) (is_address ip && is_address mask) (name-known called ns names_fit (sym (place-there (bytes_eq called) ns) ∙ a.0))
-        (both (is_address ip) (is_address mask) b.0 (mask-small mask b.1))
+        and_from (is_name called) (is_address ip && is_address mask) (name-known called ns names_fit (sym (place-there (bytes_eq called) ns) ∙ a.0))
+        (and_from (is_address ip) (is_address mask) b.0 (mask-small mask b.1))
 
 pub lines-of-hosts : (ns : List (List ℕ)) (texts : List HostText) → list_all is_name ns ≡ true → EachBehind (λ (before : List HostText) (h : HostText). EachBehind (IsReached ns) h.under) texts
     → AreHosts (length ns) (saids ns texts) → FineHosts ns texts

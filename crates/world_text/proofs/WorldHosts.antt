@@ -3,7 +3,7 @@ use Rattle.std.proofs.Common.{◌≡◌, ℕ, ◌+◌, ◌<◌, ◌≤◌, ◌==
 use Rattle.std.specs.Prelude.{bit_and, bytes_eq, filter_map, flat_map, is_none, nat_eq, nat_le, nat_lt, if◌then◌else◌}
 use Rattle.std.specs.List.{cons_option, last_or, list_all, list_any, position_or_len}
 use Rattle.std.specs.Option.{option_map_or}
-use Rattle.std.proofs.lemmas.Bool.{and_parts}
+use Rattle.std.proofs.lemmas.Bool.{and_parts, and_from, not-false, lt-leb}
 use Rattle.std.proofs.lemmas.Grind.{flat_map-append}
 use Rattle.std.proofs.lemmas.List.{map-append}
 use Rattle.std.proofs.lemmas.List.Elements.{filter_map-append}
@@ -22,9 +22,8 @@ use Rattle.world_text.specs.declared.line.LineCause.TheVariants as cause
 use Rattle.world_text.specs.WorldLines.{Draft, after_host_line, at_last, bare_host, has_host, has_iface_on, has_medium, host_cause, host_line_cause, host_under, is_before, is_host_named, is_medium_named, is_near, is_net, is_network, is_past, is_under, knows_network, leads_to, medium_number, reaches, with_host_line}
 use Rattle.world_text.specs.WorldSpelling.{EachBehind, HostText, IsReached, host_said, iface_said, medium_names, place_of, route_said, start_said}
 use Rattle.world_text.specs.LineFit.{fit_host_line}
-use Rattle.world_text.proofs.WorldLists.{all-parts, all-push, any-cong, any-map, apart-front, apart-insert, apart-push, at_last-push, each-front, each-last, each-none, each-push, false-of-not, last-push, place-map, place-there, same-bytes, same-numbers, true-of-not}
-use Rattle.world_text.proofs.WorldMedia.{passes, room-from, room-is, unrefused}
-use Rattle.world_text.proofs.WorldMediums.{both}
+use Rattle.world_text.proofs.WorldLists.{all-parts, all-push, any-cong, any-map, apart-front, apart-insert, apart-push, at_last-push, each-front, each-last, each-none, each-push, false-of-not, last-push, place-map, place-there, same-bytes, same-numbers}
+use Rattle.world_text.proofs.WorldMedia.{passes, room-from, unrefused}
 
 -- What lines under a host say.
 
@@ -328,7 +327,7 @@ line_fits_if kind e s media rated front h called ip mask k fit good =
     let mine = each-last (EachFine ns) front h k.each in
     let parts = and_parts (is_name called) (is_address ip && is_address mask) fit in
     let small = and_parts (is_address ip) (is_address mask) parts.1 in
-    let there : nat_lt (place_of ns called) (length ns) ≡ true = sym (knows-medium media called) ∙ true-of-not (has_medium called d) unknown.0 in
+    let there : nat_lt (place_of ns called) (length ns) ≡ true = sym (knows-medium media called) ∙ not-false (has_medium called d) unknown.0 in
     let fresh : list_any (same_medium i) (ifaces ns h.under) ≡ false =
     any-cong (same_medium i) (λ (j : Iface). j.medium == place_of ns called) (λ j. same-numbers (place_of ns called) j.medium) (ifaces ns h.under)
     ∙ (ap (λ n. has_iface_on n (host_said ns h)) (sym (same-number media called))
@@ -343,7 +342,7 @@ line_fits_if kind e s media rated front h called ip mask k fit good =
       fit = all-push fit_host_line h.under x mine.fit fit;
       on = ap (list_all (is_iface (length ns))) (more-ifaces ns h.under x i refl)
           ∙ all-push (is_iface (length ns)) (ifaces ns h.under) i mine.on
-          (both (nat_lt (place_of ns called) (length ns)) (is_address ip && is_mask mask) there (both (is_address ip) (is_mask mask) small.0 (true-of-not (is_mask mask) holes.0)));
+          (and_from (nat_lt (place_of ns called) (length ns)) (is_address ip && is_mask mask) there (and_from (is_address ip) (is_mask mask) small.0 (not-false (is_mask mask) holes.0)));
       apart = ap (all_apart same_medium) (more-ifaces ns h.under x i refl)
           ∙ (apart-push same_medium same-media (ifaces ns h.under) i ∙ (ap (λ b. not b && all_apart same_medium (ifaces ns h.under)) fresh ∙ mine.apart));
       nets_good = ap (list_all good_net) (same-routes h.under x refl) ∙ mine.nets_good;
@@ -365,7 +364,7 @@ line_fits_route kind e s media rated front h l k fit good =
     let route = unrefused cause.RouteTwice (is_under (knows_network l.net l.mask) d) _ holes.1 in
     let far = unrefused cause.FarGateway (not (is_under (reaches l.gateway) d)) None route.1 in
     let mine = each-last (EachFine ns) front h k.each in
-    let near : list_any (is_near l.gateway) (ifaces ns h.under) ≡ true = sym (holds-under (reaches l.gateway) kind e s media rated front h) ∙ true-of-not (is_under (reaches l.gateway) d) far.0 in
+    let near : list_any (is_near l.gateway) (ifaces ns h.under) ≡ true = sym (holds-under (reaches l.gateway) kind e s media rated front h) ∙ not-false (is_under (reaches l.gateway) d) far.0 in
     let new_net : list_any (same_network (bare_route l)) (networks ns h.under) ≡ false =
     any-networks ns h (bare_route l) ∙ (sym (holds-under (knows_network l.net l.mask) kind e s media rated front h) ∙ route.0) in
     pushed-line ns front h x k
@@ -374,7 +373,7 @@ line_fits_route kind e s media rated front h l k fit good =
       fit = all-push fit_host_line h.under x mine.fit fit;
       on = ap (list_all (is_iface (length ns))) (same-ifaces ns h.under x refl) ∙ mine.on;
       apart = ap (all_apart same_medium) (same-ifaces ns h.under x refl) ∙ mine.apart;
-      nets_good = ap (list_all good_net) (more-routes h.under l) ∙ all-push good_net (routes h.under) l mine.nets_good (true-of-not (is_net l.net l.mask) holes.0);
+      nets_good = ap (list_all good_net) (more-routes h.under l) ∙ all-push good_net (routes h.under) l mine.nets_good (not-false (is_net l.net l.mask) holes.0);
       once = route-networks ns h.under l ∙ (ap (λ b. not b && all_apart same_network (networks ns h.under)) new_net ∙ mine.once);
       reached = each-push (IsReached ns) h.under x mine.reached near;
     })
@@ -583,6 +582,6 @@ host-good kind e s media rated texts called nets k =
     let room : length (saids ns texts) < 8 =
     let len = length-append texts (bare_text called nets ∷ []) in let count = count-said ns texts in let few = k.few in omega (arith, len, count, few) in
     passes cause.NameTwice (has_host called (host_draft kind e s media rated texts)) _ (knows-host ns texts called ∙ false-of-not _ apart.0)
-    (passes cause.OverLimit (nat_le 8 (length (saids ns texts))) _ (room-is 8 (length (saids ns texts)) room)
+    (passes cause.OverLimit (nat_le 8 (length (saids ns texts))) _ (lt-leb 8 (length (saids ns texts)) room)
     (passes cause.OutOfOrder (is_past 5 (host_draft kind e s media rated texts)) _ (not-past texts)
     (passes cause.MissingPart (is_before 4 (host_draft kind e s media rated texts)) None (not-before texts) refl)))

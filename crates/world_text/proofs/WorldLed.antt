@@ -2,7 +2,7 @@
 use Rattle.std.proofs.Common.{◌≡◌, ℕ, ◌≤◌, true, List, [], ◌∷◌, ◌++◌, length, map, refl, sym, ap, subst, arith, None, append-nil, append_assoc}
 use Rattle.std.specs.Prelude.{filter_map, flat_map}
 use Rattle.std.specs.List.{list_all}
-use Rattle.std.proofs.lemmas.Bool.{and_parts}
+use Rattle.std.proofs.lemmas.Bool.{and_parts, and_from}
 use Rattle.net_base.specs.declared.timer.Timers.{Timers}
 use Rattle.net_base.specs.declared.timer.Timers.TheVariants.{Fixed}
 use Rattle.net_base.specs.declared.world.HostSpec.{HostSpec}
@@ -18,7 +18,6 @@ use Rattle.world_text.specs.WorldSpelling.{HostText, ScriptText, host_names, lin
 use Rattle.world_text.specs.LineFit.{fit_host_line, fit_medium_line, is_fit}
 use Rattle.world_text.proofs.WorldLists.{all-at, each-last}
 use Rattle.world_text.proofs.WorldMedia.{FineMedia, media-after, media-front, media-good, media_draft}
-use Rattle.world_text.proofs.WorldMediums.{both}
 use Rattle.world_text.proofs.WorldHosts.{EachFine, FineHosts, bare_text, host-after, host-good, host_draft, hosts-front, line-after, line-good, saids}
 use Rattle.world_text.proofs.WorldHostForms.{name-known}
 use Rattle.world_text.proofs.WorldScripts.{host-known, FineScripts, empty_text, script-after, script-good, script_draft, scripts-front, step-after, step-good, step-own, steps-front}
@@ -129,7 +128,7 @@ pub names-fit : (k : ℕ) (hosts : List HostSpec) → list_all (is_host k) hosts
 names-fit k [] all = refl
 names-fit k (h ∷ hosts) all =
     let parts = and_parts (is_host k h) (list_all (is_host k) hosts) all in
-    both (is_name h.name) (list_all is_name (host_names hosts)) (and_parts (is_name h.name) _ parts.0).0 (names-fit k hosts parts.1)
+    and_from (is_name h.name) (list_all is_name (host_names hosts)) (and_parts (is_name h.name) _ parts.0).0 (names-fit k hosts parts.1)
 
 -- a script's host has a name
 script-named : (ns : List (List ℕ)) (front : List ScriptText) (called : List ℕ) → list_all is_name ns ≡ true → FineScripts ns (front ++ empty_text called ∷ []) → is_name called ≡ true

@@ -2,7 +2,7 @@
 use Rattle.std.proofs.Common.{◌≡◌, ℕ, ◌+◌, ◌==◌, suc, Bool, true, false, not, ◌&&◌, ◌||◌, cond, List, [], ◌∷◌, ◌++◌, length, map, refl, sym, ap, subst, ◌∙◌, arith, Option, Some, None, append_assoc, append-nil}
 use Rattle.std.specs.Prelude.{bytes_eq, filter_map, nat_eq, nat_lt}
 use Rattle.std.specs.List.{list_any, list_all, cons_option, last_or, position_or_len}
-use Rattle.std.proofs.lemmas.Bool.{and_parts, eqb-true, false≢true}
+use Rattle.std.proofs.lemmas.Bool.{and_parts, eqb-true, false≢true, or_parts}
 use Rattle.std.proofs.lemmas.Bool.Decides.{nat_tests}
 use Rattle.std.proofs.lemmas.List.Folds.{list_any-append, list_all-append}
 use Rattle.std.proofs.lemmas.Slice.Eq.{bytes_eq-Decides}
@@ -12,14 +12,6 @@ use Rattle.world_text.specs.WorldSpelling.{EachBehind}
 use Rattle.net_base.proofs.Shared.{IsWithout, without_one}
 
 -- Tests.
-
-pub or-parts : (a b : Bool) → (a || b) ≡ false → (a ≡ false) × (b ≡ false)
-or-parts false b e = (refl, e)
-or-parts true b e = absurd (false≢true (sym e))
-
-pub true-of-not : (b : Bool) → not b ≡ false → b ≡ true
-true-of-not true e = refl
-true-of-not false e = absurd (false≢true (sym e))
 
 pub false-of-not : (b : Bool) → not b ≡ true → b ≡ false
 false-of-not false e = refl
@@ -33,9 +25,6 @@ same-bytes xs ys = by (bytes_eq xs ys) (bytes_eq ys xs) refl refl
     by false false e f = refl
     by true false e f = absurd (false≢true (sym f ∙ (bytes_eq-Decides ys xs).1 (sym ((bytes_eq-Decides xs ys).0 e))))
     by false true e f = absurd (false≢true (sym e ∙ (bytes_eq-Decides xs ys).1 (sym ((bytes_eq-Decides ys xs).0 f))))
-
-pub own-bytes : (xs : List ℕ) → bytes_eq xs xs ≡ true
-own-bytes xs = (bytes_eq-Decides xs xs).1 refl
 
 pub same-numbers : (m n : ℕ) → nat_eq m n ≡ nat_eq n m
 same-numbers m n = grind (arith, nat_tests)
@@ -86,16 +75,12 @@ pub apart-map : {A B : Type 0} (alike : B → B → Bool) (f : A → B) (xs : Li
 apart-map alike f [] = refl
 apart-map alike f (x ∷ xs) = ap (λ b. not b && all_apart alike (map f xs)) (any-map (alike (f x)) f xs) ∙ ap (λ b. not (list_any (λ y. alike (f x) (f y)) xs) && b) (apart-map alike f xs)
 
-pub and-false : (b : Bool) → (b && false) ≡ false
-and-false true = refl
-and-false false = refl
-
 -- the first ones are apart where all are
 pub apart-front : {A : Type 0} (alike : A → A → Bool) (xs ys : List A) → all_apart alike (xs ++ ys) ≡ true → all_apart alike xs ≡ true
 apart-front alike [] ys e = refl
 apart-front alike (x ∷ xs) ys e =
     let both = and_parts (not (list_any (alike x) (xs ++ ys))) (all_apart alike (xs ++ ys)) e in
-    let none = or-parts (list_any (alike x) xs) (list_any (alike x) ys) (sym (list_any-append (alike x) xs ys) ∙ false-of-not (list_any (alike x) (xs ++ ys)) both.0) in
+    let none = or_parts (list_any (alike x) xs) (list_any (alike x) ys) (sym (list_any-append (alike x) xs ys) ∙ false-of-not (list_any (alike x) (xs ++ ys)) both.0) in
     ap (λ b. not b && all_apart alike xs) none.0 ∙ apart-front alike xs ys both.1
 
 pub all-push : {A : Type 0} (p : A → Bool) (xs : List A) (z : A) → list_all p xs ≡ true → p z ≡ true → list_all p (xs ++ z ∷ []) ≡ true
@@ -235,7 +220,7 @@ list-without p b (c ∷ word) none all =
 pub without-none : (b : ℕ) (word : List ℕ) → list_any (λ (x : ℕ). x == b) word ≡ false → IsWithout b word
 without-none b [] none = λ k d lt. absurd (omega (arith, lt))
 without-none b (c ∷ word) none =
-    let both = or-parts (c == b) (list_any (λ (x : ℕ). x == b) word) none in
+    let both = or_parts (c == b) (list_any (λ (x : ℕ). x == b) word) none in
     without_one b c word both.0 (without-none b word both.1)
 
 -- a name has only the bytes of names

@@ -2,7 +2,7 @@
 use Rattle.std.proofs.Common.{◌≡◌, ℕ, ◌+◌, ◌<◌, ◌≤◌, suc, Bool, true, false, not, ◌&&◌, ◌||◌, List, [], ◌∷◌, ◌++◌, length, refl, sym, ap, ◌∙◌, arith, Option, Some, None, append-nil, length-append}
 use Rattle.std.specs.Prelude.{⊤, bytes_eq, filter_map, get_or, nat_le, nat_lt, if◌then◌else◌}
 use Rattle.std.specs.List.{cons_option, list_all, list_any}
-use Rattle.std.proofs.lemmas.Bool.{and_parts, false≢true}
+use Rattle.std.proofs.lemmas.Bool.{and_parts, false≢true, or_parts, not-false, lt-leb}
 use Rattle.std.proofs.lemmas.Bool.Decides.{nat_tests}
 use Rattle.std.proofs.lemmas.List.Elements.{filter_map-append}
 use Rattle.std.proofs.lemmas.List.Folds.{list_all-append, list_any-append}
@@ -21,7 +21,8 @@ use Rattle.world_text.specs.declared.line.MediumLine.TheVariants as medium
 use Rattle.world_text.specs.WorldLines.{Draft, after_medium_line, has_fate, has_medium, is_before, is_fated, is_medium_named, is_past, is_rated, medium_line_cause, on_medium, plain_medium, range_of, refuse, with_fate, with_rates}
 use Rattle.world_text.specs.WorldSpelling.{EachBehind, IsBehindMedium, Rates, SaysMedium, fate_on, media_named, media_said, medium_names, medium_said, name_said, no_rates, rated_name, rates_on}
 use Rattle.world_text.specs.LineFit.{fit_medium_line}
-use Rattle.world_text.proofs.WorldLists.{all-parts, all-push, and-false, any-map, apart-front, apart-push, each-front, each-last, each-none, each-push, false-of-not, none-if, or-parts, own-bytes, same-bytes, true-of-not}
+use Rattle.world_text.proofs.WorldLists.{all-parts, all-push, any-map, apart-front, apart-push, each-front, each-last, each-none, each-push, false-of-not, none-if, same-bytes}
+use Rattle.net_base.proofs.Tests.{and_none, same_text, equal_texts}
 
 -- Causes.
 
@@ -54,9 +55,6 @@ count-named all n (medium.Medium called mtu ∷ lines) = ap (λ k. suc k) (count
 count-named all n (medium.Rates called loss twice later ∷ lines) = count-named all n lines
 count-named all n (medium.Fate called f x ∷ lines) = count-named all n lines
 
-pub equal : (xs ys : List ℕ) → bytes_eq xs ys ≡ true → xs ≡ ys
-equal xs ys = (bytes_eq-Decides xs ys).0
-
 -- a name that stands before stands among all
 pub named-front : (called : List ℕ) (lines before rest : List MediumLine) → lines ≡ before ++ rest → SaysMedium called before → SaysMedium called lines
 named-front called lines before rest e says =
@@ -71,7 +69,7 @@ unfated called lines behind none = none-if (fate_on called) lines at
     by : (other : List ℕ) (f : FateRange) (before rest : List MediumLine) → lines ≡ before ++ rest → SaysMedium other before → (b : Bool) → bytes_eq called other ≡ b → (if b then Some f else None) ≡ None
     by other f before rest e says false is = refl
     by other f before rest e says true is =
-        absurd (false≢true (sym none ∙ named-front called lines before rest e (ap (λ c. list_any (bytes_eq c) (names before)) (equal called other is) ∙ says)))
+        absurd (false≢true (sym none ∙ named-front called lines before rest e (ap (λ c. list_any (bytes_eq c) (names before)) (equal_texts called other is) ∙ says)))
 
     at : (before : List MediumLine) (x : MediumLine) (rest : List MediumLine) → lines ≡ before ++ x ∷ rest → fate_on called x ≡ None
     at before (medium.Medium other mtu) rest e = refl
@@ -85,7 +83,7 @@ unrated called [] none = refl
 unrated called (medium.Medium other mtu ∷ lines) none = unrated called lines none
 unrated called (medium.Fate other f x ∷ lines) none = unrated called lines none
 unrated called (medium.Rates other loss twice later ∷ lines) none =
-    let parts = or-parts (bytes_eq called other) (list_any (bytes_eq called) (filter_map rated_name lines)) none in
+    let parts = or_parts (bytes_eq called other) (list_any (bytes_eq called) (filter_map rated_name lines)) none in
     ap (λ b. cons_option (if b then Some (record { loss = loss; twice = twice; later = later }) else None) (filter_map (rates_on called) lines)) parts.0
     ∙ unrated called lines parts.1
 
@@ -95,7 +93,7 @@ rates-unnamed called lines behind none = none-if (rates_on called) lines at
     by : (other : List ℕ) (r : Rates) (before rest : List MediumLine) → lines ≡ before ++ rest → SaysMedium other before → (b : Bool) → bytes_eq called other ≡ b → (if b then Some r else None) ≡ None
     by other r before rest e says false is = refl
     by other r before rest e says true is =
-        absurd (false≢true (sym none ∙ named-front called lines before rest e (ap (λ c. list_any (bytes_eq c) (names before)) (equal called other is) ∙ says)))
+        absurd (false≢true (sym none ∙ named-front called lines before rest e (ap (λ c. list_any (bytes_eq c) (names before)) (equal_texts called other is) ∙ says)))
 
     at : (before : List MediumLine) (x : MediumLine) (rest : List MediumLine) → lines ≡ before ++ x ∷ rest → rates_on called x ≡ None
     at before (medium.Medium other mtu) rest e = refl
@@ -167,7 +165,7 @@ said-rates all other loss twice later n called mtu none = said-push all (medium.
         ≡ (if b then with_rates loss twice later (medium_said all n called mtu) else medium_said all n called mtu)
     by true is =
         ap (λ v. medium_with n called mtu (filter_map (rates_on called) all ++ cons_option (if v then Some r else None) []) (filter_map (fate_on called) all ++ [])) (same-bytes called other ∙ is)
-        ∙ (ap (λ rs. medium_with n called mtu (rs ++ r ∷ []) (filter_map (fate_on called) all ++ [])) (ap (λ c. filter_map (rates_on c) all) (sym (equal other called is)) ∙ none)
+        ∙ (ap (λ rs. medium_with n called mtu (rs ++ r ∷ []) (filter_map (fate_on called) all ++ [])) (ap (λ c. filter_map (rates_on c) all) (sym (equal_texts other called is)) ∙ none)
         ∙ ap (medium_with n called mtu (r ∷ [])) (append-nil (filter_map (fate_on called) all)))
     by false is =
         ap (λ v. medium_with n called mtu (filter_map (rates_on called) all ++ cons_option (if v then Some r else None) []) (filter_map (fate_on called) all ++ [])) (same-bytes called other ∙ is)
@@ -319,9 +317,6 @@ lt-from-le n e = grind (arith, nat_tests)
 pub room-from : (m n : ℕ) → nat_le m n ≡ false → n < m
 room-from m n e = grind (arith, nat_tests)
 
-pub room-is : (m n : ℕ) → n < m → nat_le m n ≡ false
-room-is m n h = grind (arith, nat_tests)
-
 pub upto-is : (m n : ℕ) → n ≤ m → nat_lt m n ≡ false
 upto-is m n h = grind (arith, nat_tests)
 
@@ -358,7 +353,7 @@ any-fated called f all n (medium.Medium other mtu ∷ lines) =
         ≡ ((v || list_any (bytes_eq called) (names lines)) && list_any (overlap f) (filter_map (fate_on called) all))
     by false is = refl
     by true is =
-        ap (λ c. (true && list_any (overlap f) (filter_map (fate_on c) all)) || (list_any (bytes_eq called) (names lines) && list_any (overlap f) (filter_map (fate_on called) all))) (sym (equal called other is))
+        ap (λ c. (true && list_any (overlap f) (filter_map (fate_on c) all)) || (list_any (bytes_eq called) (names lines) && list_any (overlap f) (filter_map (fate_on called) all))) (sym (equal_texts called other is))
         ∙ same (list_any (overlap f) (filter_map (fate_on called) all)) (list_any (bytes_eq called) (names lines))
 any-fated called f all n (medium.Rates other a b c ∷ lines) = any-fated called f all n lines
 any-fated called f all n (medium.Fate other g y ∷ lines) = any-fated called f all n lines
@@ -411,8 +406,8 @@ fits-rates kind e s lines called loss twice later k fit good =
     let name = unrefused cause.UnknownName (not (has_medium called (media_draft kind e s lines))) _ good in
     let order = unrefused cause.OutOfOrder (is_past 4 (media_draft kind e s lines) || is_rated called (media_draft kind e s lines)) _ name.1 in
     let total = unrefused cause.FateClash (nat_lt 1000 (loss + twice + later)) _ order.1 in
-    let says : SaysMedium called lines = sym (knows kind e s called lines) ∙ true-of-not (has_medium called (media_draft kind e s lines)) name.0 in
-    let once = (or-parts (is_past 4 (media_draft kind e s lines)) (is_rated called (media_draft kind e s lines)) order.0).1 in
+    let says : SaysMedium called lines = sym (knows kind e s called lines) ∙ not-false (has_medium called (media_draft kind e s lines)) name.0 in
+    let once = (or_parts (is_past 4 (media_draft kind e s lines)) (is_rated called (media_draft kind e s lines)) order.0).1 in
     record {
       fine = record {
         fit = all-push fit_medium_line lines x k.fit fit;
@@ -438,7 +433,7 @@ fated-pushed called f x lines other before free = by (bytes_eq other called) ref
     by true is =
         ap (all_apart overlap) (more-fates other lines (medium.Fate called f x) r (ap (λ v. if v then Some (range_of f x) else None) is))
         ∙ (apart-push overlap same-overlap (filter_map (fate_on other) lines) r
-        ∙ (ap (λ c. not (list_any (overlap r) (filter_map (fate_on c) lines)) && all_apart overlap (filter_map (fate_on other) lines)) (equal other called is)
+        ∙ (ap (λ c. not (list_any (overlap r) (filter_map (fate_on c) lines)) && all_apart overlap (filter_map (fate_on other) lines)) (equal_texts other called is)
         ∙ (ap (λ b. not b && all_apart overlap (filter_map (fate_on other) lines)) free ∙ before)))
 
 fits-fate : (kind : Timers) (e s : ℕ) (lines : List MediumLine) (called : List ℕ) (f : Frames) (x : Fate) → FineMedia lines → fit_medium_line (medium.Fate called f x) ≡ true
@@ -448,7 +443,7 @@ fits-fate kind e s lines called f x k fit good =
     let name = unrefused cause.UnknownName (not (has_medium called (media_draft kind e s lines))) _ good in
     let order = unrefused cause.OutOfOrder (is_past 4 (media_draft kind e s lines)) _ name.1 in
     let clash = unrefused cause.FateClash (has_fate called (range_of f x) (media_draft kind e s lines)) _ order.1 in
-    let says : SaysMedium called lines = sym (knows kind e s called lines) ∙ true-of-not (has_medium called (media_draft kind e s lines)) name.0 in
+    let says : SaysMedium called lines = sym (knows kind e s called lines) ∙ not-false (has_medium called (media_draft kind e s lines)) name.0 in
     let free : list_any (overlap (range_of f x)) (filter_map (fate_on called) lines) ≡ false =
     sym (any-fated called (range_of f x) lines 0 lines ∙ ap (λ b. b && list_any (overlap (range_of f x)) (filter_map (fate_on called) lines)) says) ∙ clash.0 in
     record {
@@ -505,7 +500,7 @@ good-medium kind e s lines called mtu k =
     record {
       fine = media-front lines (medium.Medium called mtu ∷ []) k;
       good = passes cause.NameTwice (has_medium called (media_draft kind e s lines)) _ (knows kind e s called lines ∙ new)
-          (passes cause.OverLimit (nat_le 4 (length (media_said lines))) _ (room-is 4 (length (media_said lines)) room)
+          (passes cause.OverLimit (nat_le 4 (length (media_said lines))) _ (lt-leb 4 (length (media_said lines)) room)
           (passes cause.OutOfOrder (is_past 4 (media_draft kind e s lines)) _ (not-past lines)
           (passes cause.MissingPart (is_before 3 (media_draft kind e s lines)) None (not-before lines) refl)));
       new = new;
@@ -530,7 +525,7 @@ good-fate kind e s lines called f x k =
     let l : MediumLine = medium.Fate called f x in
     let r : FateRange = range_of f x in
     let says = each-last IsBehindMedium lines l k.behind in
-    let own : bytes_eq called called ≡ true = own-bytes called in
+    let own : bytes_eq called called ≡ true = same_text called in
     let apart = and_parts (not (list_any (overlap r) (filter_map (fate_on called) lines))) (all_apart overlap (filter_map (fate_on called) lines))
     (sym (ap (all_apart overlap) (more-fates called lines l r (ap (λ v. if v then Some r else None) own)) ∙ apart-push overlap same-overlap (filter_map (fate_on called) lines) r) ∙ k.fated called) in
     record {
@@ -539,7 +534,7 @@ good-fate kind e s lines called f x k =
           (passes cause.OutOfOrder (is_past 4 (media_draft kind e s lines)) _ (not-past lines)
           (passes cause.FateClash (has_fate called r (media_draft kind e s lines)) None
           (any-fated called r lines 0 lines
-          ∙ (ap (λ b. list_any (bytes_eq called) (names lines) && b) (false-of-not (list_any (overlap r) (filter_map (fate_on called) lines)) apart.0) ∙ and-false (list_any (bytes_eq called) (names lines)))) refl));
+          ∙ (ap (λ b. list_any (bytes_eq called) (names lines) && b) (false-of-not (list_any (overlap r) (filter_map (fate_on called) lines)) apart.0) ∙ and_none (list_any (bytes_eq called) (names lines)))) refl));
       new = tt;
       behind = says;
     }

@@ -2,7 +2,7 @@
 use Rattle.std.proofs.Common.{◌≡◌, ℕ, ◌+◌, ◌^◌, ◌≤◌, ◌==◌, Bool, true, false, ◌&&◌, ◌||◌, List, [], ◌∷◌, ◌++◌, length, refl, sym, ap, ◌∙◌, arith, Option, Some, None}
 use Rattle.std.specs.Prelude.{bytes_eq, filter_map, get_or, nat_le, nat_lt, if◌then◌else◌}
 use Rattle.std.specs.List.{cons_option, list_all, list_any}
-use Rattle.std.proofs.lemmas.Bool.{and_parts, false≢true}
+use Rattle.std.proofs.lemmas.Bool.{and_parts, false≢true, and_from}
 use Rattle.std.proofs.lemmas.Bool.Decides.{nat_tests}
 use Rattle.std.proofs.lemmas.List.Elements.{filter_map-append}
 use Rattle.std.proofs.lemmas.List.Folds.{list_all-append}
@@ -16,18 +16,16 @@ use Rattle.world_text.specs.declared.line.MediumLine.TheVariants as medium
 use Rattle.world_text.specs.WorldLines.{range_of}
 use Rattle.world_text.specs.WorldSpelling.{EachBehind, IsBehindMedium, Rates, SaysMedium, fate_on, media_named, media_said, medium_names, medium_said, no_rates, rated_name, rates_on, rates_said}
 use Rattle.world_text.specs.LineFit.{fit_frames, fit_medium_line, is_frame, is_rate}
-use Rattle.world_text.proofs.WorldLists.{all-if, own-bytes}
-use Rattle.world_text.proofs.WorldMedia.{FineMedia, count-named, equal, has_sum, named-front, names, names-media, unfated, unrated}
+use Rattle.world_text.proofs.WorldLists.{all-if}
+use Rattle.world_text.proofs.WorldMedia.{FineMedia, count-named, has_sum, named-front, names, names-media, unfated, unrated}
+use Rattle.net_base.proofs.Tests.{number_itself, same_text, equal_texts}
 
 -- From lines to media.
-
-pub both : (a b : Bool) → a ≡ true → b ≡ true → (a && b) ≡ true
-both a b e f = ap (λ v. v && b) e ∙ f
 
 frame-range : (n : ℕ) → is_frame n ≡ true → (nat_le 1 n && (nat_le n n && nat_lt n (2 ^ 64))) ≡ true
 frame-range n e =
     let parts = and_parts (nat_le 1 n) (nat_le n 18446744073709551615) e in
-    both (nat_le 1 n) (nat_le n n && nat_lt n (2 ^ 64)) parts.0 (both (nat_le n n) (nat_lt n (2 ^ 64)) (itself n) (below n parts.1))
+    and_from (nat_le 1 n) (nat_le n n && nat_lt n (2 ^ 64)) parts.0 (and_from (nat_le n n) (nat_lt n (2 ^ 64)) (itself n) (below n parts.1))
   where
     itself : (m : ℕ) → nat_le m m ≡ true
     itself m = grind (arith, nat_tests)
@@ -41,7 +39,7 @@ range-range m n e =
     let last = and_parts (is_frame n) (nat_le m n) first.1 in
     let low = and_parts (nat_le 1 m) (nat_le m 18446744073709551615) first.0 in
     let high = and_parts (nat_le 1 n) (nat_le n 18446744073709551615) last.0 in
-    both (nat_le 1 m) (nat_le m n && nat_lt n (2 ^ 64)) low.0 (both (nat_le m n) (nat_lt n (2 ^ 64)) last.1 (below n high.1))
+    and_from (nat_le 1 m) (nat_le m n && nat_lt n (2 ^ 64)) low.0 (and_from (nat_le m n) (nat_lt n (2 ^ 64)) last.1 (below n high.1))
   where
     below : (k : ℕ) → nat_le k 18446744073709551615 ≡ true → nat_lt k (2 ^ 64) ≡ true
     below k h = grind (arith, nat_tests)
@@ -62,7 +60,7 @@ ranges-fit called (medium.Fate other f x ∷ lines) fit =
   where
     by : (b : Bool) → is_range (range_of f x) ≡ true → list_all is_range (filter_map (fate_on called) lines) ≡ true
         → list_all is_range (cons_option (if b then Some (range_of f x) else None) (filter_map (fate_on called) lines)) ≡ true
-    by true here later = both (is_range (range_of f x)) (list_all is_range (filter_map (fate_on called) lines)) here later
+    by true here later = and_from (is_range (range_of f x)) (list_all is_range (filter_map (fate_on called) lines)) here later
     by false here later = later
 
 abbrev fits_sum : Rates → Bool
@@ -80,26 +78,23 @@ sum-fits called (medium.Rates other loss twice later ∷ lines) sums =
     by true here rest = here
     by false here rest = rest
 
-same_number : (n : ℕ) → (n == n) ≡ true
-same_number n = grind (arith, nat_tests)
-
 medium-fits : (all : List MediumLine) (n : ℕ) (called : List ℕ) (mtu : ℕ) → FineMedia all → fit_medium_line (medium.Medium called mtu) ≡ true → is_medium n (medium_said all n called mtu) ≡ true
 medium-fits all n called mtu k fit =
     let own = and_parts (is_name called) (is_within 576 16384 mtu) fit in
     let m : MediumSpec = medium_said all n called mtu in
     let fates : Bool = list_all is_range m.fates && all_apart overlap m.fates in
     let sum : Bool = nat_le (m.loss + m.twice + m.later) 1000 in
-    both (n == n) (is_name called && (is_within 576 16384 mtu && (sum && fates))) (same_number n)
-    (both (is_name called) (is_within 576 16384 mtu && (sum && fates)) own.0
-    (both (is_within 576 16384 mtu) (sum && fates) own.1
-    (both sum fates (sum-fits called all k.sums)
-    (both (list_all is_range m.fates) (all_apart overlap m.fates) (ranges-fit called all k.fit) (k.fated called)))))
+    and_from (n == n) (is_name called && (is_within 576 16384 mtu && (sum && fates))) (number_itself n)
+    (and_from (is_name called) (is_within 576 16384 mtu && (sum && fates)) own.0
+    (and_from (is_within 576 16384 mtu) (sum && fates) own.1
+    (and_from sum fates (sum-fits called all k.sums)
+    (and_from (list_all is_range m.fates) (all_apart overlap m.fates) (ranges-fit called all k.fit) (k.fated called)))))
 
 media-fit : (all : List MediumLine) (n : ℕ) (lines : List MediumLine) → FineMedia all → list_all fit_medium_line lines ≡ true → are_media n (media_named all n lines) ≡ true
 media-fit all n [] k fit = refl
 media-fit all n (medium.Medium called mtu ∷ lines) k fit =
     let parts = and_parts (fit_medium_line (medium.Medium called mtu)) (list_all fit_medium_line lines) fit in
-    both (is_medium n (medium_said all n called mtu)) (are_media (n + 1) (media_named all (n + 1) lines)) (medium-fits all n called mtu k parts.0) (media-fit all (n + 1) lines k parts.1)
+    and_from (is_medium n (medium_said all n called mtu)) (are_media (n + 1) (media_named all (n + 1) lines)) (medium-fits all n called mtu k parts.0) (media-fit all (n + 1) lines k parts.1)
 media-fit all n (medium.Rates called loss twice later ∷ lines) k fit = media-fit all n lines k ((and_parts (fit_medium_line (medium.Rates called loss twice later)) (list_all fit_medium_line lines) fit).1)
 media-fit all n (medium.Fate called f x ∷ lines) k fit = media-fit all n lines k ((and_parts (fit_medium_line (medium.Fate called f x)) (list_all fit_medium_line lines) fit).1)
 
@@ -134,7 +129,7 @@ there all called n (medium.Medium other mtu ∷ lines) says fit =
   where
     by : (b : Bool) → bytes_eq called other ≡ b → (b || list_any (bytes_eq called) (names lines)) ≡ true → is_medium n (medium_said all n other mtu) ≡ true
         → (SaysMedium called lines → There all called) → There all called
-    by true is says_so here later = record { number = n; mtu = mtu; fits = ap (λ c. is_medium n (medium_said all n c mtu)) (equal called other is) ∙ here }
+    by true is says_so here later = record { number = n; mtu = mtu; fits = ap (λ c. is_medium n (medium_said all n c mtu)) (equal_texts called other is) ∙ here }
     by false is says_so here later = later says_so
 
 -- the parts of a medium that fits
@@ -170,15 +165,15 @@ range-frames : (f : Frames) (x : Fate) → is_range (range_of f x) ≡ true → 
 range-frames (frames.One n) x e =
     let a = and_parts (nat_le 1 n) (nat_le n n && nat_lt n (2 ^ 64)) e in
     let b = and_parts (nat_le n n) (nat_lt n (2 ^ 64)) a.1 in
-    both (nat_le 1 n) (nat_le n 18446744073709551615) a.0 (upto n b.1)
+    and_from (nat_le 1 n) (nat_le n 18446744073709551615) a.0 (upto n b.1)
   where
     upto : (m : ℕ) → nat_lt m (2 ^ 64) ≡ true → nat_le m 18446744073709551615 ≡ true
     upto m h = grind (arith, nat_tests)
 range-frames (frames.Range m n) x e =
     let a = and_parts (nat_le 1 m) (nat_le m n && nat_lt n (2 ^ 64)) e in
     let b = and_parts (nat_le m n) (nat_lt n (2 ^ 64)) a.1 in
-    both (is_frame m) (is_frame n && nat_le m n) (both (nat_le 1 m) (nat_le m 18446744073709551615) a.0 (below m n b.0 b.1))
-    (both (is_frame n) (nat_le m n) (both (nat_le 1 n) (nat_le n 18446744073709551615) (above m n a.0 b.0) (upto n b.1)) b.0)
+    and_from (is_frame m) (is_frame n && nat_le m n) (and_from (nat_le 1 m) (nat_le m 18446744073709551615) a.0 (below m n b.0 b.1))
+    (and_from (is_frame n) (nat_le m n) (and_from (nat_le 1 n) (nat_le n 18446744073709551615) (above m n a.0 b.0) (upto n b.1)) b.0)
   where
     upto : (k : ℕ) → nat_lt k (2 ^ 64) ≡ true → nat_le k 18446744073709551615 ≡ true
     upto k h = grind (arith, nat_tests)
@@ -192,8 +187,8 @@ range-frames (frames.Range m n) x e =
 -- rates whose sum fits are below 2^32
 rates-small : (a b c : ℕ) → nat_le (a + b + c) 1000 ≡ true → (is_rate a && (is_rate b && is_rate c)) ≡ true
 rates-small a b c e =
-    both (is_rate a) (is_rate b && is_rate c) (both (nat_le 0 a) (nat_le a 4294967295) (zero a) (first a b c e))
-    (both (is_rate b) (is_rate c) (both (nat_le 0 b) (nat_le b 4294967295) (zero b) (second a b c e)) (both (nat_le 0 c) (nat_le c 4294967295) (zero c) (third a b c e)))
+    and_from (is_rate a) (is_rate b && is_rate c) (and_from (nat_le 0 a) (nat_le a 4294967295) (zero a) (first a b c e))
+    (and_from (is_rate b) (is_rate c) (and_from (nat_le 0 b) (nat_le b 4294967295) (zero b) (second a b c e)) (and_from (nat_le 0 c) (nat_le c 4294967295) (zero c) (third a b c e)))
   where
     zero : (n : ℕ) → nat_le 0 n ≡ true
     zero n = grind (arith, nat_tests)
@@ -215,7 +210,7 @@ own-rates called loss twice later lines before rest e once =
     (ap (filter_map (rates_on called)) e
     ∙ (filter_map-append (rates_on called) before (medium.Rates called loss twice later ∷ rest)
     ∙ (ap (λ rs. rs ++ filter_map (rates_on called) (medium.Rates called loss twice later ∷ rest)) (unrated called before once)
-    ∙ ap (λ b. cons_option (if b then Some (record { loss = loss; twice = twice; later = later }) else None) (filter_map (rates_on called) rest)) (own-bytes called))))
+    ∙ ap (λ b. cons_option (if b then Some (record { loss = loss; twice = twice; later = later }) else None) (filter_map (rates_on called) rest)) (same_text called))))
 
 module _ (lines : List MediumLine) (behind : EachBehind IsBehindMedium lines) (are : AreMedia (media_said lines)) where
   at : (called : List ℕ) → SaysMedium called lines → (t : There lines called) × Parts lines called t.mtu
@@ -228,7 +223,7 @@ module _ (lines : List MediumLine) (behind : EachBehind IsBehindMedium lines) (a
       whole ls n [] f fit =
           let first = and_parts (is_medium n (medium_said lines n called mtu)) (are_media (n + 1) (media_named lines (n + 1) rest)) (ap (λ xs. are_media n (media_named lines n xs)) (sym f) ∙ fit) in
           let p = parts-of lines called (record { number = n; mtu = mtu; fits = first.0 }) in
-          both (is_name called) (is_within 576 16384 mtu) p.name p.size
+          and_from (is_name called) (is_within 576 16384 mtu) p.name p.size
       whole ls n (medium.Medium other size ∷ front) f fit =
           whole (front ++ medium.Medium called mtu ∷ rest) (n + 1) front refl
           ((and_parts (is_medium n (medium_said lines n other size)) (are_media (n + 1) (media_named lines (n + 1) (front ++ medium.Medium called mtu ∷ rest))) (ap (λ xs. are_media n (media_named lines n xs)) (sym f) ∙ fit)).1)
@@ -240,13 +235,13 @@ module _ (lines : List MediumLine) (behind : EachBehind IsBehindMedium lines) (a
   line-fits before (medium.Rates called loss twice later) rest e =
       let here = behind before (medium.Rates called loss twice later) rest e in
       let p = at called (named-front called lines before (medium.Rates called loss twice later ∷ rest) e here.0) in
-      both (is_name called) (is_rate loss && (is_rate twice && is_rate later)) p.1.name
+      and_from (is_name called) (is_rate loss && (is_rate twice && is_rate later)) p.1.name
       (rates-small loss twice later (ap fits_sum (sym (own-rates called loss twice later lines before rest e here.1)) ∙ p.1.sum))
   line-fits before (medium.Fate called f x) rest e =
       let here = behind before (medium.Fate called f x) rest e in
       let p = at called (named-front called lines before (medium.Fate called f x ∷ rest) e here) in
-      both (is_name called) (fit_frames f) p.1.name
-      (range-frames f x (all-found is_range (fate_on called) lines before (medium.Fate called f x) rest (range_of f x) e (ap (λ v. if v then Some (range_of f x) else None) (own-bytes called)) p.1.ranges))
+      and_from (is_name called) (fit_frames f) p.1.name
+      (range-frames f x (all-found is_range (fate_on called) lines before (medium.Fate called f x) rest (range_of f x) e (ap (λ v. if v then Some (range_of f x) else None) (same_text called)) p.1.ranges))
 
   sum-there : (before : List MediumLine) (x : MediumLine) (rest : List MediumLine) → lines ≡ before ++ x ∷ rest → has_sum x ≡ true
   sum-there before (medium.Medium called mtu) rest e = refl

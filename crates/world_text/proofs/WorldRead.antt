@@ -2,7 +2,7 @@
 use Rattle.std.proofs.Common.{◌≡◌, ℕ, ◌+◌, ◌^◌, ◌≤◌, ◌==◌, inl, inr, suc, true, false, List, [], ◌∷◌, ◌++◌, length, map, refl, sym, ap, subst, ◌∙◌, arith, Some, None, Ok}
 use Rattle.std.specs.Prelude.{bytes_eq, codes, flat_map, nat_eq, nat_le, nat_lt, if◌then◌else◌}
 use Rattle.std.specs.List.{All, list_all}
-use Rattle.std.proofs.lemmas.Bool.{and_parts, false≢true}
+use Rattle.std.proofs.lemmas.Bool.{and_parts, false≢true, and_from, leb-true}
 use Rattle.std.proofs.lemmas.Bool.Decides.{nat_tests}
 use Rattle.std.proofs.lemmas.List.Folds.{list_all-append}
 use Rattle.net_base.specs.declared.timer.Timers.{Timers}
@@ -31,7 +31,7 @@ use Rattle.world_text.specs.LineFit.{is_fit}
 use Rattle.world_text.proofs.LineBack.{back, loud}
 use Rattle.world_text.proofs.WorldLists.{false-of-not}
 use Rattle.world_text.proofs.WorldMedia.{names, count-named}
-use Rattle.world_text.proofs.WorldMediums.{AreMedia, both, lines-of-media}
+use Rattle.world_text.proofs.WorldMediums.{AreMedia, lines-of-media}
 use Rattle.world_text.proofs.WorldHosts.{count-said, saids}
 use Rattle.world_text.proofs.WorldHostForms.{AreHosts, lines-of-hosts}
 use Rattle.world_text.proofs.WorldLed.{FineWorld, Led, begun, names-fit, of_host, of_media, of_script, whole_draft, world-lead}
@@ -85,7 +85,7 @@ under-going (x ∷ under) = under-going under
 hosts-going : (hosts : List HostText) → list_all going (flat_map lines_of_text hosts) ≡ true
 hosts-going [] = refl
 hosts-going (h ∷ hosts) =
-    list_all-append going (of_host h.under) (flat_map lines_of_text hosts) ∙ both (list_all going (of_host h.under)) (list_all going (flat_map lines_of_text hosts)) (under-going h.under) (hosts-going hosts)
+    list_all-append going (of_host h.under) (flat_map lines_of_text hosts) ∙ and_from (list_all going (of_host h.under)) (list_all going (flat_map lines_of_text hosts)) (under-going h.under) (hosts-going hosts)
 
 steps-going : (t : ScriptText) (steps : List Step) → list_all going (of_script steps) ≡ true
 steps-going t [] = refl
@@ -95,15 +95,15 @@ scripts-going : (scripts : List ScriptText) → list_all going (flat_map lines_o
 scripts-going [] = refl
 scripts-going (t ∷ scripts) =
     list_all-append going (of_script t.steps) (flat_map lines_of_steps scripts)
-    ∙ both (list_all going (of_script t.steps)) (list_all going (flat_map lines_of_steps scripts)) (steps-going t t.steps) (scripts-going scripts)
+    ∙ and_from (list_all going (of_script t.steps)) (list_all going (flat_map lines_of_steps scripts)) (steps-going t t.steps) (scripts-going scripts)
 
 all-going : (media : List MediumLine) (hosts : List HostText) (scripts : List ScriptText)
     → list_all going (of_media media ++ (flat_map lines_of_text hosts ++ flat_map lines_of_steps scripts)) ≡ true
 all-going media hosts scripts =
     list_all-append going (of_media media) (flat_map lines_of_text hosts ++ flat_map lines_of_steps scripts)
-    ∙ both (list_all going (of_media media)) _ (media-going media)
+    ∙ and_from (list_all going (of_media media)) _ (media-going media)
     (list_all-append going (flat_map lines_of_text hosts) (flat_map lines_of_steps scripts)
-    ∙ both (list_all going (flat_map lines_of_text hosts)) (list_all going (flat_map lines_of_steps scripts)) (hosts-going hosts) (scripts-going scripts))
+    ∙ and_from (list_all going (flat_map lines_of_text hosts)) (list_all going (flat_map lines_of_steps scripts)) (hosts-going hosts) (scripts-going scripts))
 
 -- its first line names its timers
 first-goes : (kind : Timers) → line_verdict opening_draft (spelling (line.Networld kind)) ≡ Goes (begun kind)
@@ -128,17 +128,14 @@ media-names n [] e = refl
 media-names n (s ∷ media) e =
     let parts = and_parts (is_medium n s) (are_media (n + 1) media) e in
     let number = and_parts (s.number == n) _ parts.0 in
-    both (is_name s.name) (list_all is_name (medium_names media)) (and_parts (is_name s.name) _ number.1).0 (media-names (n + 1) media parts.1)
+    and_from (is_name s.name) (list_all is_name (medium_names media)) (and_parts (is_name s.name) _ number.1).0 (media-names (n + 1) media parts.1)
 
 length-map : {A B : Type 0} (f : A → B) (xs : List A) → length (map f xs) ≡ length xs
 length-map f [] = refl
 length-map f (x ∷ xs) = ap (λ n. suc n) (length-map f xs)
 
-le-true : (m n : ℕ) → nat_le m n ≡ true → m ≤ n
-le-true m n e = grind (arith, nat_tests)
-
 seed-fits : (s : ℕ) → nat_lt s (2 ^ 64) ≡ true → is_within 0 18446744073709551615 s ≡ true
-seed-fits s e = both (nat_le 0 s) (nat_le s 18446744073709551615) (zero_le s) (upto s e)
+seed-fits s e = and_from (nat_le 0 s) (nat_le s 18446744073709551615) (zero_le s) (upto s e)
   where
     zero_le : (n : ℕ) → nat_le 0 n ≡ true
     zero_le n = grind (arith, nat_tests)
@@ -189,10 +186,10 @@ fine-world w media hosts scripts t =
     let hosts_length = ap (λ (xs : List HostSpec). length xs) hosts_are in
     let texts_length = count-said ns hosts in
     let lines_length = count-named media 0 media in
-    let some_media = le-true 1 (length w.media) media_ends.0 in
-    let few_media = le-true (length w.media) 4 media_ends.1 in
-    let some_hosts = le-true 1 (length w.hosts) hosts_ends.0 in
-    let few_hosts = le-true (length w.hosts) 8 hosts_ends.1 in
+    let some_media = leb-true 1 (length w.media) media_ends.0 in
+    let few_media = leb-true (length w.media) 4 media_ends.1 in
+    let some_hosts = leb-true 1 (length w.hosts) hosts_ends.0 in
+    let few_hosts = leb-true (length w.hosts) 8 hosts_ends.1 in
     let media_fit : are_media 0 ms ≡ true = ap (are_media 0) (sym t.media_are) ∙ is.media in
     let hosts_fit : list_all (is_host (length ns)) (saids ns hosts) ≡ true =
     ap (λ n. list_all (is_host n) (saids ns hosts)) (names_length ∙ sym media_length) ∙ (ap (list_all (is_host (length w.media))) (sym hosts_are) ∙ is.hosts) in
@@ -223,7 +220,7 @@ fine-world w media hosts scripts t =
             ∙ (ap (list_all (is_script (length w.hosts))) (sym scripts_are) ∙ is.scripts);
         few = let n = length-map (script_said (host_names (saids ns hosts))) scripts in
             let same = ap (λ (xs : List Script). length xs) scripts_are in
-            let few = le-true (length w.scripts) 32 is.few_scripts in omega (arith, n, same, few);
+            let few = leb-true (length w.scripts) 32 is.few_scripts in omega (arith, n, same, few);
       };
     }
 

@@ -2,7 +2,7 @@
 use Rattle.std.proofs.Common.{◌≡◌, ℕ, ◌+◌, ◌⊎◌, inl, inr, Bool, true, false, not, ◌&&◌, ◌||◌, cond, List, [], ◌∷◌, ◌++◌, length, refl, sym, ap, subst, ◌∙◌, arith, Option, Some, None, Ok, Err, Result, append-nil, append_assoc, length-append}
 use Rattle.std.specs.Prelude.{◌↔◌, codes, bytes_eq, if◌then◌else◌}
 use Rattle.std.specs.List.{filter, list_all, list_any}
-use Rattle.std.proofs.lemmas.Bool.{and_parts, false≢true}
+use Rattle.std.proofs.lemmas.Bool.{and_parts, false≢true, or_parts}
 use Rattle.std.proofs.lemmas.List.Folds.{list_all-append}
 use Rattle.std.proofs.lemmas.Slice.Eq.{bytes_eq-Decides}
 use Rattle.net_base.specs.declared.world.World.{World}
@@ -15,7 +15,7 @@ use Rattle.world_text.specs.WorldLines.{Draft, opening_draft, Verdict, Goes, Beg
 use Rattle.world_text.specs.WorldRefusal.{Leads, EndsLine, IsBadLine, IsBadBundle, IsUnended, IsRefused}
 use Rattle.world_text.specs.WorldSpelling.{laid, is_line, speaks, IsHeaded, IsWorldText}
 use Rattle.world_text.specs.WorldText.{Cut, with_first, cuts_of, with_versions, judged, missing, reading_from, world_reading}
-use Rattle.world_text.proofs.WorldLists.{false-of-not, or-parts}
+use Rattle.world_text.proofs.WorldLists.{false-of-not}
 use Rattle.world_text.proofs.WorldRead.{spelled-read}
 use Rattle.world_text.proofs.LineSpelled.{spelled}
 use Rattle.world_text.proofs.WorldSound.{err-ok, same-ok}
@@ -181,10 +181,10 @@ refused d first (x ∷ xs) text n c cut e = by (line_verdict d x.line) refl e (s
 cuts-last : (line : List ℕ) → is_empty line ≡ false → is_line line ≡ true → cuts_of line ≡ record { line = line; behind = [] } ∷ []
 cuts-last [] some whole = absurd (false≢true (sym some))
 cuts-last (b ∷ []) some whole =
-    let none = or-parts (is_newline b) false (false-of-not (is_newline b || false) whole) in
+    let none = or_parts (is_newline b) false (false-of-not (is_newline b || false) whole) in
     ap (λ v. if v then record { line = []; behind = [] } ∷ [] else record { line = b ∷ []; behind = [] } ∷ []) none.0
 cuts-last (b ∷ c ∷ line) some whole =
-    let none = or-parts (is_newline b) (list_any is_newline (c ∷ line)) (false-of-not (list_any is_newline (b ∷ c ∷ line)) whole) in
+    let none = or_parts (is_newline b) (list_any is_newline (c ∷ line)) (false-of-not (list_any is_newline (b ∷ c ∷ line)) whole) in
     ap (λ v. if v then record { line = []; behind = c ∷ line } ∷ cuts_of (c ∷ line) else with_first b (cuts_of (c ∷ line))) none.0
     ∙ ap (with_first b) (cuts-last (c ∷ line) refl (ap not none.1))
 
@@ -321,7 +321,7 @@ led : (d : Draft) (n : ℕ) (lines : List (List ℕ)) (tail : List ℕ) (w : Wor
 led d n [] tail w all none e = record { so_far = d; number = n; leads = refl; reads = e }
 led d n (line ∷ lines) tail w all none e =
     let both = and_parts (is_line line) (list_all is_line lines) all in
-    let parts = or-parts (bytes_eq (codes "ndb") line) (list_any (bytes_eq (codes "ndb")) lines) none in
+    let parts = or_parts (bytes_eq (codes "ndb") line) (list_any (bytes_eq (codes "ndb")) lines) none in
     let cut = ap cuts_of (append_assoc line (10 ∷ laid lines) tail) ∙ cuts-line line (laid lines ++ tail) both.0 in
     by (line_verdict d line) refl parts.0 (sym (ap (reading_from d n) cut) ∙ e) (λ next f. led next (n + 1) lines tail w both.1 parts.1 f)
   where

@@ -2,7 +2,7 @@
 use Rattle.std.proofs.Common.{◌≡◌, ℕ, ◌<◌, ◌≤◌, suc, true, not, ◌&&◌, List, [], ◌∷◌, ◌++◌, length, map, refl, sym, ap, ◌∙◌, arith, None, length-append}
 use Rattle.std.specs.Prelude.{bytes_eq, nat_le, nat_lt}
 use Rattle.std.specs.List.{list_all, list_any, position_or_len}
-use Rattle.std.proofs.lemmas.Bool.{and_parts}
+use Rattle.std.proofs.lemmas.Bool.{and_parts, and_from, not-false, lt-leb}
 use Rattle.std.proofs.lemmas.List.{map-append}
 use Rattle.std.proofs.lemmas.List.Folds.{list_all-append}
 use Rattle.net_base.specs.declared.timer.Timers.{Timers}
@@ -14,9 +14,8 @@ use Rattle.net_base.specs.World.{is_script, is_step}
 use Rattle.world_text.specs.declared.line.LineCause.TheVariants as cause
 use Rattle.world_text.specs.WorldLines.{Draft, at_last, empty_script, has_host, is_before, is_host_named, script_cause, step_cause, with_step}
 use Rattle.world_text.specs.WorldSpelling.{ScriptText, host_names, place_of, script_said}
-use Rattle.world_text.proofs.WorldLists.{all-parts, any-map, at_last-push, place-map, place-there, true-of-not}
-use Rattle.world_text.proofs.WorldMedia.{passes, room-from, room-is, unrefused}
-use Rattle.world_text.proofs.WorldMediums.{both}
+use Rattle.world_text.proofs.WorldLists.{all-parts, any-map, at_last-push, place-map, place-there}
+use Rattle.world_text.proofs.WorldMedia.{passes, room-from, unrefused}
 
 abbrev pub scripts_said : List (List ℕ) → List ScriptText → List Script
 scripts_said ns texts = map (script_said ns) texts
@@ -105,7 +104,7 @@ pushed-fit : (ns : List (List ℕ)) (texts : List ScriptText) (t : ScriptText) �
 pushed-fit ns texts t all here =
     ap (list_all (is_script (length ns))) (map-append (script_said ns) texts (t ∷ []))
     ∙ (list_all-append (is_script (length ns)) (scripts_said ns texts) (script_said ns t ∷ [])
-    ∙ both (list_all (is_script (length ns)) (scripts_said ns texts)) _ all (both (is_script (length ns) (script_said ns t)) true here refl))
+    ∙ and_from (list_all (is_script (length ns)) (scripts_said ns texts)) _ all (and_from (is_script (length ns) (script_said ns t)) true here refl))
 
 fit-parts : (ns : List (List ℕ)) (texts : List ScriptText) (t : ScriptText) → list_all (is_script (length ns)) (scripts_said ns (texts ++ t ∷ [])) ≡ true
     → (list_all (is_script (length ns)) (scripts_said ns texts) ≡ true) × (is_script (length ns) (script_said ns t) ≡ true)
@@ -118,9 +117,9 @@ script-fits d texts called is k good =
     let ns : List (List ℕ) = host_names d.hosts in
     let name = unrefused cause.UnknownName (not (has_host called d)) _ good in
     let limit = unrefused cause.OverLimit (nat_le 32 (length d.scripts)) None name.1 in
-    let there : nat_lt (place_of ns called) (length ns) ≡ true = sym (knows-host d.hosts called) ∙ true-of-not (has_host called d) name.0 in
+    let there : nat_lt (place_of ns called) (length ns) ≡ true = sym (knows-host d.hosts called) ∙ not-false (has_host called d) name.0 in
     record {
-      fit = pushed-fit ns texts (empty_text called) k.fit (both (nat_lt (place_of ns called) (length ns)) true there refl);
+      fit = pushed-fit ns texts (empty_text called) k.fit (and_from (nat_lt (place_of ns called) (length ns)) true there refl);
       few = let len = length-append texts (empty_text called ∷ []) in
           let count = count-said ns texts in
           let room = room-from 32 (length d.scripts) limit.0 in
@@ -139,7 +138,7 @@ script-good d texts called is k =
     let few = k.few in
     let same = ap (λ (ss : List Script). length ss) is in omega (arith, len, count, few, same) in
     passes cause.UnknownName (not (has_host called d)) _ (ap not (knows-host d.hosts called ∙ there.0))
-    (passes cause.OverLimit (nat_le 32 (length d.scripts)) None (room-is 32 (length d.scripts) room) refl)
+    (passes cause.OverLimit (nat_le 32 (length d.scripts)) None (lt-leb 32 (length d.scripts) room) refl)
 
 pub step-fits : (ns : List (List ℕ)) (front : List ScriptText) (t : ScriptText) (x : Step) → FineScripts ns (front ++ t ∷ []) → is_step x ≡ true → FineScripts ns (front ++ with_one t x ∷ [])
 step-fits ns front t x k fit =
@@ -147,8 +146,8 @@ step-fits ns front t x k fit =
     let own = and_parts (nat_lt (place_of ns t.host) (length ns)) (list_all is_step t.steps) parts.1 in
     record {
       fit = pushed-fit ns front (with_one t x) parts.0
-          (both (nat_lt (place_of ns t.host) (length ns)) (list_all is_step (t.steps ++ x ∷ [])) own.0
-          (list_all-append is_step t.steps (x ∷ []) ∙ both (list_all is_step t.steps) _ own.1 (both (is_step x) true fit refl)));
+          (and_from (nat_lt (place_of ns t.host) (length ns)) (list_all is_step (t.steps ++ x ∷ [])) own.0
+          (list_all-append is_step t.steps (x ∷ []) ∙ and_from (list_all is_step t.steps) _ own.1 (and_from (is_step x) true fit refl)));
       few = let a = length-append front (t ∷ []) in let b = length-append front (with_one t x ∷ []) in let few = k.few in omega (arith, a, b, few);
     }
 
@@ -162,7 +161,7 @@ steps-front ns front called xs ys k =
     let own = and_parts (nat_lt (place_of ns called) (length ns)) (list_all is_step (xs ++ ys)) parts.1 in
     let first = and_parts (list_all is_step xs) (list_all is_step ys) (sym (list_all-append is_step xs ys) ∙ own.1) in
     record {
-      fit = pushed-fit ns front t parts.0 (both (nat_lt (place_of ns called) (length ns)) (list_all is_step xs) own.0 first.0);
+      fit = pushed-fit ns front t parts.0 (and_from (nat_lt (place_of ns called) (length ns)) (list_all is_step xs) own.0 first.0);
       few = let a = length-append front (t ∷ []) in let b = length-append front (whole ∷ []) in let few = k.few in omega (arith, a, b, few);
     }
 

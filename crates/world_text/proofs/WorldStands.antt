@@ -2,7 +2,7 @@
 use Rattle.std.proofs.Common.{◌≡◌, ℕ, ◌^◌, ◌≤◌, suc, Bool, true, false, not, ◌||◌, List, [], ◌∷◌, ◌++◌, length, map, refl, sym, ap, subst, ◌∙◌, arith, Some, None, append-nil, append_assoc, length-append}
 use Rattle.std.specs.Prelude.{filter_map, flat_map, is_none, nat_le, nat_lt}
 use Rattle.std.specs.List.{All, list_all, list_any}
-use Rattle.std.proofs.lemmas.Bool.{and_parts, false≢true}
+use Rattle.std.proofs.lemmas.Bool.{and_parts, false≢true, and_from, or_parts, not-false}
 use Rattle.std.proofs.lemmas.Bool.Decides.{nat_tests}
 use Rattle.std.proofs.lemmas.Grind.{flat_map-append}
 use Rattle.std.proofs.lemmas.List.{map-append}
@@ -28,9 +28,9 @@ use Rattle.world_text.specs.declared.line.WorldLine.TheVariants as line
 use Rattle.world_text.specs.WorldLines.{Draft, after, has_host, has_iface_on, has_medium, host_cause, host_line_cause, host_under, is_before, is_host_named, is_past, is_rated, is_under, line_cause, medium_line_cause, medium_number, ndb_cause, script_cause, world_of}
 use Rattle.world_text.specs.WorldSpelling.{HostText, ScriptText, host_names, lines_of_steps, lines_of_text, lines_said, media_said, medium_names, rated_name, script_said}
 use Rattle.world_text.specs.LineFit.{is_fit}
-use Rattle.world_text.proofs.WorldLists.{Ending, Empty, Pushed, ending, or-parts, true-of-not}
+use Rattle.world_text.proofs.WorldLists.{Ending, Empty, Pushed, ending}
 use Rattle.world_text.proofs.WorldMedia.{FineMedia, count-named, fine-none, media-after, media-fits, media_draft, media_group, names, unrefused}
-use Rattle.world_text.proofs.WorldMediums.{both, media-of-lines}
+use Rattle.world_text.proofs.WorldMediums.{media-of-lines}
 use Rattle.world_text.proofs.WorldHosts.{FineHosts, bare_text, count-said, host-after, host-fits, host_draft, hosts-none, line-after, line-fits, saids, with_line}
 use Rattle.world_text.proofs.WorldHostForms.{hosts-of-lines}
 use Rattle.world_text.proofs.WorldScripts.{FineScripts, empty_text, script-after, script-fits, script_draft, scripts-none, scripts_said, step-after, step-fits, with_one}
@@ -86,7 +86,7 @@ media-early d (medium.Medium called mtu) e =
     (unrefused cause.OutOfOrder (is_past 4 d) _ b.1).0
 media-early d (medium.Rates called loss twice later) e =
     let a = unrefused cause.UnknownName (not (has_medium called d)) _ e in
-    (or-parts (is_past 4 d) (is_rated called d) (unrefused cause.OutOfOrder (is_past 4 d || is_rated called d) _ a.1).0).0
+    (or_parts (is_past 4 d) (is_rated called d) (unrefused cause.OutOfOrder (is_past 4 d || is_rated called d) _ a.1).0).0
 media-early d (medium.Fate called f x) e =
     let a = unrefused cause.UnknownName (not (has_medium called d)) _ e in
     (unrefused cause.OutOfOrder (is_past 4 d) _ a.1).0
@@ -351,7 +351,7 @@ with-script ls d called k fit good =
     let ms : List MediumSpec = media_said k.media in
     let rated : List (List ℕ) = filter_map rated_name k.media in
     let hs : List HostSpec = hosts_of k.media k.hosts in
-    let known = true-of-not (has_host called d) (unrefused cause.UnknownName (not (has_host called d)) _ good).0 in
+    let known = not-false (has_host called d) (unrefused cause.UnknownName (not (has_host called d)) _ good).0 in
     let some : 1 ≤ length k.hosts =
     let there = some-any (is_host_named called) d.hosts known in
     let same = ap (λ (xs : List HostSpec). length xs) (ap (λ (f : Draft). f.hosts) k.draft ∙ hosts-are k.kind_at k.end_at k.seed_at k.media k.hosts k.scripts) in
@@ -478,7 +478,7 @@ some-named (medium.Rates called loss twice later ∷ media) k some = absurd (fal
 some-named (medium.Fate called f x ∷ media) k some = absurd (false≢true (k.behind [] (medium.Fate called f x) media refl))
 
 within-is : (least most n : ℕ) → least ≤ n → n ≤ most → is_within least most n ≡ true
-within-is least most n low high = both (nat_le least n) (nat_le n most) (le-is least n low) (le-is n most high)
+within-is least most n low high = and_from (nat_le least n) (nat_le n most) (le-is least n low) (le-is n most high)
   where
     le-is : (a b : ℕ) → a ≤ b → nat_le a b ≡ true
     le-is a b h = grind (arith, nat_tests)

@@ -2,7 +2,7 @@
 use Rattle.std.proofs.Common.{◌≡◌, ℕ, ◌+◌, ◌==◌, ◌⊎◌, inl, inr, Bool, true, false, not, ◌||◌, cond, List, [], ◌∷◌, ◌++◌, length, refl, sym, ap, subst, ◌∙◌, arith, Option, Some, None, Result, Ok, Err, append_assoc}
 use Rattle.std.specs.Prelude.{bytes_eq, codes, get_or, if◌then◌else◌}
 use Rattle.std.specs.List.{filter, list_all, list_any}
-use Rattle.std.proofs.lemmas.Bool.{and_parts, eqb-true, false≢true}
+use Rattle.std.proofs.lemmas.Bool.{and_parts, eqb-true, false≢true, or_parts, not-false}
 use Rattle.std.proofs.lemmas.List.Folds.{list_all-append}
 use Rattle.net_base.specs.declared.timer.Timers.{Timers}
 use Rattle.net_base.specs.declared.timer.Timers.TheVariants.{Fixed, Measured}
@@ -18,8 +18,8 @@ use Rattle.world_text.specs.WorldLines.{Bad, Begins, Draft, Goes, Verdict, after
 use Rattle.world_text.specs.WorldRefusal.{Leads}
 use Rattle.world_text.specs.WorldSpelling.{IsHeaded, is_line, laid, line_of_timers, speaks}
 use Rattle.world_text.specs.WorldText.{Cut, cuts_of, judged, reading_from, with_first}
-use Rattle.world_text.proofs.WorldLists.{false-of-not, or-parts, true-of-not}
-use Rattle.world_text.proofs.WorldMedia.{equal}
+use Rattle.world_text.proofs.WorldLists.{false-of-not}
+use Rattle.net_base.proofs.Tests.{equal_texts}
 
 -- Lines of a text.
 
@@ -98,7 +98,7 @@ leads-more d e f (x ∷ xs) ys first rest = (first.0, first.1, leads-more first.
 
 passed-is : (line : List ℕ) → speaks line ≡ false → is_passed line ≡ true
 passed-is [] e = refl
-passed-is (b ∷ line) e = true-of-not (is_hash b) e
+passed-is (b ∷ line) e = not-false (is_hash b) e
 
 pub passed-goes : (d : Draft) (line : List ℕ) → speaks line ≡ false → line_verdict d line ≡ Goes d
 passed-goes d line e = ap (λ v. if v then Goes d else (if d.group == 0 then first_line d line else judged_line d (read_line line))) (passed-is line e)
@@ -117,7 +117,7 @@ leads-all d e (line ∷ lines) h = by (speaks line) refl h (λ next. leads-all n
 pub cuts-line : (line rest : List ℕ) → is_line line ≡ true → cuts_of (line ++ (10 ∷ rest)) ≡ record { line = line; behind = rest } ∷ cuts_of rest
 cuts-line [] rest e = refl
 cuts-line (b ∷ line) rest e =
-    let none = or-parts (is_newline b) (list_any is_newline line) (false-of-not (list_any is_newline (b ∷ line)) e) in
+    let none = or_parts (is_newline b) (list_any is_newline line) (false-of-not (list_any is_newline (b ∷ line)) e) in
     ap (λ v. if v then record { line = []; behind = line ++ (10 ∷ rest) } ∷ cuts_of (line ++ (10 ∷ rest)) else with_first b (cuts_of (line ++ (10 ∷ rest)))) none.0
     ∙ ap (with_first b) (cuts-line line rest (ap not none.1))
 
@@ -164,12 +164,12 @@ view d text = by (is_passed text) refl
     read (Err c) late is = Refused c refl
 
     second : (b : Bool) → (d.group == 0) ≡ true → bytes_eq text (codes "networld 2") ≡ b → View d text (if b then Goes (after d (line.Networld Measured)) else Bad cause.FirstLine)
-    second true none is = First Measured none (equal text (codes "networld 2") is) refl
+    second true none is = First Measured none (equal_texts text (codes "networld 2") is) refl
     second false none is = Refused cause.FirstLine refl
 
     first : (b : Bool) → (d.group == 0) ≡ true → bytes_eq text (codes "networld 1") ≡ b
         → View d text (if b then Goes (after d (line.Networld Fixed)) else (if bytes_eq text (codes "networld 2") then Goes (after d (line.Networld Measured)) else Bad cause.FirstLine))
-    first true none is = First Fixed none (equal text (codes "networld 1") is) refl
+    first true none is = First Fixed none (equal_texts text (codes "networld 1") is) refl
     first false none is = second (bytes_eq text (codes "networld 2")) none refl
 
     loud : (b : Bool) → (d.group == 0) ≡ b → View d text (if b then first_line d text else judged_line d (read_line text))

@@ -2,7 +2,7 @@
 use Rattle.std.proofs.Common.{◌≡◌, ℕ, ◌+◌, ◌<◌, ◌==◌, inl, suc, zero, Bool, true, false, not, ◌&&◌, cond, List, [], ◌∷◌, ◌++◌, length, map, get_or, refl, sym, ap, subst, ◌∙◌, arith, Option, None, append-nil, append_assoc}
 use Rattle.std.specs.Prelude.{bit_and, bytes_eq, codes, filter_map, flat_map, nat_le, nat_lt}
 use Rattle.std.specs.List.{All, filter, list_all, list_any, position_or_len}
-use Rattle.std.proofs.lemmas.Bool.{and_parts, ltb-true}
+use Rattle.std.proofs.lemmas.Bool.{and_parts, ltb-true, and_from, or_parts}
 use Rattle.std.proofs.lemmas.List.{map-append}
 use Rattle.std.proofs.lemmas.List.Elements.{filter_map-append}
 use Rattle.net_base.specs.declared.timer.Timers.{Timers}
@@ -26,26 +26,26 @@ use Rattle.world_text.specs.VersionLines.{bad_version_line, versions_in}
 use Rattle.world_text.specs.WorldLines.{Draft, after, is_near}
 use Rattle.world_text.specs.WorldSpelling.{EachBehind, HostText, IsReached, IsWorldText, SaysVersions, ScriptText, host_names, host_said, iface_said, is_line, laid, line_of_iface, line_of_route, line_of_start, line_of_step, line_of_timers, lines_of_host, lines_of_medium, lines_of_script, lines_of_steps, lines_of_text, lines_of_world, lines_said, medium_names, name_at, place_of, route_said, script_said, speaks, spelling, start_said}
 use Rattle.world_text.proofs.LineBack.{loud, one_line}
-use Rattle.world_text.proofs.WorldLists.{each-none, each-push, false-of-not, own-bytes, same-bytes, or-parts}
+use Rattle.world_text.proofs.WorldLists.{each-none, each-push, false-of-not, same-bytes}
 use Rattle.world_text.proofs.VersionTexts.{versions-say}
-use Rattle.world_text.proofs.WorldMediums.{both}
 use Rattle.world_text.proofs.WorldHosts.{ifaces, routes, starts}
 use Rattle.world_text.proofs.WorldHostForms.{near-matches}
 use Rattle.world_text.proofs.WorldLed.{Led, begun, of_host, of_media, of_script, whole_draft, world-lead}
 use Rattle.world_text.proofs.WorldRead.{SaidBy, fine-world}
 use Rattle.world_text.proofs.WorldCanon.{canon-media, media_lines}
+use Rattle.net_base.proofs.Tests.{same_text}
 
 -- Places by name.
 
 none-at : (p : List ℕ → Bool) (xs : List (List ℕ)) (n : ℕ) → list_any p xs ≡ false → n < length xs → p (get_or xs n []) ≡ false
 none-at p [] n none lt = absurd (omega (arith, lt))
-none-at p (x ∷ xs) zero none lt = (or-parts (p x) (list_any p xs) none).0
-none-at p (x ∷ xs) (suc n) none lt = none-at p xs n ((or-parts (p x) (list_any p xs) none).1) (omega (arith, lt))
+none-at p (x ∷ xs) zero none lt = (or_parts (p x) (list_any p xs) none).0
+none-at p (x ∷ xs) (suc n) none lt = none-at p xs n ((or_parts (p x) (list_any p xs) none).1) (omega (arith, lt))
 
 -- a name stands in the first place of itself, where names are apart
 place-named : (ns : List (List ℕ)) (n : ℕ) → n < length ns → all_apart bytes_eq ns ≡ true → place_of ns (name_at ns n) ≡ n
 place-named [] n lt apart = absurd (omega (arith, lt))
-place-named (x ∷ ns) zero lt apart = ap (λ b. cond (not b) (1 + position_or_len (bytes_eq x) ns) 0) (own-bytes x)
+place-named (x ∷ ns) zero lt apart = ap (λ b. cond (not b) (1 + position_or_len (bytes_eq x) ns) 0) (same_text x)
 place-named (x ∷ ns) (suc n) lt apart =
     let parts = and_parts (not (list_any (bytes_eq x) ns)) (all_apart bytes_eq ns) apart in
     let other = none-at (bytes_eq x) ns n (false-of-not (list_any (bytes_eq x) ns) parts.0) (omega (arith, lt)) in
@@ -297,7 +297,7 @@ canon-spelled w is =
 -- lines that fit stand on one line each and aren't passed over
 whole-lines : (d e : Draft) (ls : List WorldLine) → Led d ls e → list_all is_line (map spelling ls) ≡ true
 whole-lines d e [] led = refl
-whole-lines d e (l ∷ ls) led = both (is_line (spelling l)) (list_all is_line (map spelling ls)) (one_line l led.0) (whole-lines (after d l) e ls led.2)
+whole-lines d e (l ∷ ls) led = and_from (is_line (spelling l)) (list_all is_line (map spelling ls)) (one_line l led.0) (whole-lines (after d l) e ls led.2)
 
 first-whole : (kind : Timers) → is_line (spelling (line.Networld kind)) ≡ true
 first-whole Fixed = refl
@@ -319,7 +319,7 @@ written w bundle is fine read =
     let same = canon-spelled w is in
     let rest : List WorldLine = line.End w.end ∷ line.Seed w.seed ∷ (of_media media ++ (flat_map lines_of_text hosts ++ flat_map lines_of_steps scripts)) in
     let whole : list_all is_line (map spelling ls) ≡ true =
-    both (is_line (spelling (line.Networld w.timers))) (list_all is_line (map spelling rest)) (first-whole w.timers)
+    and_from (is_line (spelling (line.Networld w.timers))) (list_all is_line (map spelling rest)) (first-whole w.timers)
     (whole-lines (begun w.timers) (whole_draft w.timers w.end w.seed media hosts scripts) rest led) in
     record {
       head = lines_of_world w;

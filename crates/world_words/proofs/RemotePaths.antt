@@ -5,16 +5,13 @@ use Rattle.std.specs.List.{list_all}
 use Rattle.std.proofs.lemmas.Bool.Decides.{nat_tests}
 use Rattle.net_base.specs.Addresses.{parts_at}
 use Rattle.net_base.specs.Remotes.{are_net, is_remote_name, is_remote_path}
+use Rattle.net_base.proofs.Tests.{and_none}
 
 -- so many names and these are few, and these have the length of names
 abbrev pub are_few : ℕ → List (List ℕ) → Bool
 are_few n names = nat_le (n + length names) 16 && list_all is_remote_name names
 
 -- ---- names
-
-and_none : (b : Bool) → (b && false) ≡ false
-and_none true = refl
-and_none false = refl
 
 pub bad_name : (n : ℕ) (name : List ℕ) (names : List (List ℕ)) → is_remote_name name ≡ false → are_few n (name ∷ names) ≡ false
 bad_name n name names bad = rw bad (and_none (nat_le (n + length (name ∷ names)) 16))

@@ -1,8 +1,8 @@
 use Rattle.std.proofs.Common.{option_map, ap}
 use Rattle.net_base.specs.Tasks.{asking_of}
 use Rattle.agenda.specs.Given.{tasks_of}
-use Rattle.agenda.proofs.Backing.{script_is}
 use Rattle.agenda.proofs.tasks.run_tasks.Goals as goal
+use Rattle.net_base.proofs.CallerNames.{script_is}
 
 pub returns-clause-asked : goal.returns-clause-asked
 returns-clause-asked g c = λ k s t there given.

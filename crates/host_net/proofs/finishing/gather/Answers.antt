@@ -1,5 +1,6 @@
 use Rattle.std.proofs.Common.{◌≡◌, [], arith}
-use Rattle.net_guests.proofs.Shared.{gathered, gathering, gathers_on, nil_of}
+use Rattle.std.proofs.lemmas.List.{nil_from_length}
+use Rattle.net_guests.proofs.Shared.{gathered, gathering, gathers_on}
 use Rattle.host_net.proofs.finishing.gather.Goals as goal
 
 pub loop-guest-init : goal.loop-guest-init
@@ -13,7 +14,7 @@ loop-guest-preserved g c =
 
 pub returns : goal.returns
 returns g c =
-    let none_left : c.loop-guest.guests.items ≡ [] = nil_of c.loop-guest.guests.items (omega (arith, c.in_default.ensures.cases.0, c.loop-guest.guests.ok.0)) in
+    let none_left : c.loop-guest.guests.items ≡ [] = nil_from_length c.loop-guest.guests.items (omega (arith, c.in_default.ensures.cases.0, c.loop-guest.guests.ok.0)) in
     record {
       kept = c.loop-guest.invariant.kept;
       taken = gathered g.J.Placing.world g.J.Naming.run.roster c.args.all.now c.args.guests.items c.loop-guest.all c.loop-guest.guests.items

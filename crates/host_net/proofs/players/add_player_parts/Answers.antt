@@ -1,9 +1,8 @@
 use Rattle.std.proofs.Common.{◌≡◌, ◌++◌, [], ◌∷◌, length, length-append, reverse, ap, sym, ◌∙◌, arith}
-use Rattle.std.proofs.lemmas.List.{append-nil, reverse-reverse}
+use Rattle.std.proofs.lemmas.List.{append-nil, reverse-reverse, nil_from_length}
 use Rattle.std.proofs.lemmas.Result.{err_from_is_err_and}
 use Rattle.host_net.specs.Groups.{visits}
 use Rattle.host_net.specs.Playing.{guests_of}
-use Rattle.net_guests.proofs.Shared.{nil_of}
 use Rattle.host_net.proofs.Parting.{goes_part, guests_push, plays_part}
 use Rattle.host_net.proofs.Seating.{players_on}
 use Rattle.host_net.proofs.players.add_player_parts.Goals as goal
@@ -36,7 +35,7 @@ loop-player-preserved g c =
 pub returns-clause-same : goal.returns-clause-same
 returns-clause-same g c =
     let none_left : c.loop-player.players.items ≡ [] =
-    nil_of c.loop-player.players.items (omega (arith, c.in_default.ensures.cases.0, c.loop-player.players.ok.0)) in
+    nil_from_length c.loop-player.players.items (omega (arith, c.in_default.ensures.cases.0, c.loop-player.players.ok.0)) in
     let parts = guests_of c.loop-player.parts.items in
     sym (append-nil parts) ∙ (ap (λ l. parts ++ visits (reverse l)) (sym none_left) ∙ c.loop-player.invariant.0)
 

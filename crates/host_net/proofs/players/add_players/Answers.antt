@@ -1,9 +1,8 @@
 use Rattle.std.proofs.Common.{◌≡◌, ◌++◌, List, [], ◌∷◌, length, length-append, reverse, ap, sym, subst, ◌∙◌, arith}
-use Rattle.std.proofs.lemmas.List.{append-nil, reverse-reverse}
+use Rattle.std.proofs.lemmas.List.{append-nil, reverse-reverse, nil_from_length}
 use Rattle.host_net.specs.Groups.{visits}
 use Rattle.host_net.specs.Playing.{ArePlayed}
 use Rattle.net_guests.specs.Visits.{Visit}
-use Rattle.net_guests.proofs.Shared.{nil_of}
 use Rattle.host_net.proofs.Seating.{players_on, plays_more}
 use Rattle.host_net.proofs.players.add_players.Goals as goal
 
@@ -28,5 +27,5 @@ loop-player-preserved g c = (
 pub returns-clause-same : goal.returns-clause-same
 returns-clause-same g c =
     let none_left : c.loop-player.players.items ≡ [] =
-    nil_of c.loop-player.players.items (omega (arith, c.in_default.ensures.cases.0, c.loop-player.players.ok.0)) in
+    nil_from_length c.loop-player.players.items (omega (arith, c.in_default.ensures.cases.0, c.loop-player.players.ok.0)) in
     sym (append-nil c.loop-player.guests.items) ∙ (ap (λ l. c.loop-player.guests.items ++ visits (reverse l)) (sym none_left) ∙ c.loop-player.invariant.0)

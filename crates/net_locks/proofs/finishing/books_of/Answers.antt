@@ -1,9 +1,9 @@
 use Rattle.std.proofs.Common.{◌≡◌, List, [], ◌∷◌, ◌++◌, map, reverse, length, ap, sym, subst, ◌∙◌, arith, length-append}
-use Rattle.std.proofs.lemmas.List.{reverse-reverse}
+use Rattle.std.proofs.lemmas.List.{reverse-reverse, nil_from_length}
 use Rattle.net_base.specs.Stamped.{In}
 use Rattle.journal.specs.declared.tokens.Volume.{Volume}
 use Rattle.net_locks.specs.Rosters.{AreReplayed}
-use Rattle.net_locks.proofs.Rows.{nil_of, replayed_on, taken_all, taken_on}
+use Rattle.net_locks.proofs.Rows.{replayed_on, taken_all, taken_on}
 use Rattle.net_locks.proofs.finishing.books_of.Goals as goal
 
 pub loop-lock-init : goal.loop-lock-init
@@ -27,5 +27,5 @@ loop-lock-preserved g c = (
 
 pub returns-clause-actors : goal.returns-clause-actors
 returns-clause-actors g c =
-    let none_left : c.loop-lock.locks.items ≡ [] = nil_of c.loop-lock.locks.items (omega (arith, c.in_default.ensures.cases.0, c.loop-lock.locks.ok.0)) in
+    let none_left : c.loop-lock.locks.items ≡ [] = nil_from_length c.loop-lock.locks.items (omega (arith, c.in_default.ensures.cases.0, c.loop-lock.locks.ok.0)) in
     taken_all (λ (b : Volume). b.actor) (λ q. q.actor) c.loop-lock.books.items c.loop-lock.locks.items (map (λ q. q.actor) c.args.locks.items) c.loop-lock.invariant.0 none_left

@@ -1,8 +1,8 @@
 use Rattle.std.proofs.Common.{◌≡◌, [], List, ◌∷◌, ◌++◌, map, reverse, length, length-append, ap, sym, subst, ◌∙◌, arith}
-use Rattle.std.proofs.lemmas.List.{reverse-reverse}
+use Rattle.std.proofs.lemmas.List.{reverse-reverse, nil_from_length}
 use Rattle.journal.specs.declared.tokens.Volume.{Volume}
 use Rattle.net_locks.specs.Rosters.{AreUnused}
-use Rattle.net_locks.proofs.Rows.{nil_of, taken_all, taken_in, taken_on, unused_parts, unused_reverse}
+use Rattle.net_locks.proofs.Rows.{taken_all, taken_in, taken_on, unused_parts, unused_reverse}
 use Rattle.net_locks.proofs.locks.locks_of.Goals as goal
 
 pub loop-book-init : goal.loop-book-init
@@ -34,5 +34,5 @@ loop-book-preserved g c = (
 
 pub returns : goal.returns
 returns g c =
-    let none_left : c.loop-book.books.items ≡ [] = nil_of c.loop-book.books.items (omega (arith, c.in_default.ensures.cases.0, c.loop-book.books.ok.0)) in
+    let none_left : c.loop-book.books.items ≡ [] = nil_from_length c.loop-book.books.items (omega (arith, c.in_default.ensures.cases.0, c.loop-book.books.ok.0)) in
     taken_all (λ q. q.actor) (λ (b : Volume). b.actor) c.loop-book.locks.items c.loop-book.books.items (map (λ (b : Volume). b.actor) c.args.books.items) c.loop-book.invariant.0 none_left

@@ -7,9 +7,10 @@ use Rattle.net_base.specs.Stamped.{same_actor, In}
 use Rattle.journal.specs.Rule.{Held, caller_numbers, same_number}
 use Rattle.journal.specs.declared.tokens.Volume.{Volume}
 use Rattle.journal.specs.Tokens.{Holds, AreBlank}
-use Rattle.journal.proofs.Shared.{in-left, in-right, same_actor_is}
 use Rattle.locked.proofs.Shared.{below_two, only_blank}
 use Rattle.thread_tests.proofs.one_lock.counted_by_two.Goals as goal
+use Rattle.net_base.proofs.Members.{in_front, in_back}
+use Rattle.net_base.proofs.SameNames.{same_actor_is}
 
 pub join-one-requires-after_bounds : goal.join-one-requires-after_bounds
 join-one-requires-after_bounds g c =
@@ -36,12 +37,12 @@ close-requires-clause-actors g c =
 pub room-requires : goal.room-requires
 room-requires g c =
     let f = c.join-one.ensures.first in
-    (f.0, subst (λ (hs : List Held). In (number.Caller 0, f.0) hs) (sym (c.look.ensures.held ∙ c.meet.ensures.held)) (in-left _ _ _ f.1))
+    (f.0, subst (λ (hs : List Held). In (number.Caller 0, f.0) hs) (sym (c.look.ensures.held ∙ c.meet.ensures.held)) (in_front _ _ _ f.1))
 
 pub room-requires-2 : goal.room-requires-2
 room-requires-2 g c =
     let f = c.join-one.ensures.second in
-    (f.0, subst (λ (hs : List Held). In (number.Caller 1, f.0) hs) (sym (c.look.ensures.held ∙ c.meet.ensures.held)) (in-right _ _ _ f.1))
+    (f.0, subst (λ (hs : List Held). In (number.Caller 1, f.0) hs) (sym (c.look.ensures.held ∙ c.meet.ensures.held)) (in_back _ _ _ f.1))
 
 pub close-requires-clause-callers : goal.close-requires-clause-callers
 close-requires-clause-callers g c k lt =
@@ -49,6 +50,6 @@ close-requires-clause-callers g c k lt =
     let s = c.join-one.ensures.second in
     let held = c.look.ensures.held ∙ c.meet.ensures.held in
     below_two (λ q. (es : List (ℕ × Noted)) × Holds c.look.new.pass q es)
-    (f.0, subst (λ (hs : List Held). In (number.Caller 0, f.0) hs) (sym held) (in-left _ _ _ f.1))
-    (s.0, subst (λ (hs : List Held). In (number.Caller 1, s.0) hs) (sym held) (in-right _ _ _ s.1))
+    (f.0, subst (λ (hs : List Held). In (number.Caller 0, f.0) hs) (sym held) (in_front _ _ _ f.1))
+    (s.0, subst (λ (hs : List Held). In (number.Caller 1, s.0) hs) (sym held) (in_back _ _ _ s.1))
     k (subst (λ (n : ℕ). k < n) c.requires.callers lt)

@@ -1,11 +1,11 @@
 use Rattle.std.proofs.Common.{◌≡◌, ◌==◌, ◌++◌, ◌∷◌, ◌+◌, ◌<◌, true, false, [], length, List, ap, sym, subst, ◌∙◌, arith}
+use Rattle.std.proofs.lemmas.List.{nil_from_length}
 use Rattle.net_base.specs.Callers.{caller_of}
 use Rattle.host_net.specs.declared.player.Player.TheInside.{Inside}
 use Rattle.host_net.proofs.Continuing.{own_stays}
 use Rattle.host_net.proofs.Counting.{counts_stay}
 use Rattle.host_net.proofs.Lending.{advances_at, all_stand, players_left}
 use Rattle.host_net.proofs.Outcomes.{player_stays}
-use Rattle.net_guests.proofs.Shared.{nil_of}
 use Rattle.host_net.proofs.Passing.{OthersStay, advances_here, are_back, group_lists, mine_caller, mine_names}
 use Rattle.host_net.proofs.Passing.{next_apart, next_lent, other, others_stay_here, player, still_with}
 use Rattle.host_net.specs.Advancing.{Advances, AreBack, AreLent, other_players}
@@ -144,8 +144,8 @@ decide-requires-clause-all g t c =
     let w = g.J.Placing.world in
     let r = g.J.Naming.run.roster in
     let none : c.args.players.now ++ other_players c.args.groups.now ≡ [] =
-    ap (λ (l : List (Playing g.row.T.Denot)). l ++ other_players c.args.groups.now) (nil_of c.args.players.now c.in-None.ensures.cases)
-    ∙ ap other_players (nil_of c.args.groups.now c.in-None-split_first_mut.ensures.cases) in
+    ap (λ (l : List (Playing g.row.T.Denot)). l ++ other_players c.args.groups.now) (nil_from_length c.args.players.now c.in-None.ensures.cases)
+    ∙ ap other_players (nil_from_length c.args.groups.now c.in-None-split_first_mut.ensures.cases) in
     all_stand g.J.Placing.tasks w r c.args.clock.now.sight c.args.standings.now
     (subst (λ (l : List (Playing g.row.T.Denot)). AreLent g.J.Placing.tasks w r (visits l) c.args.clock.now.sight c.args.standings.now) none c.requires.lent)
 
@@ -233,7 +233,7 @@ returns-in-Some-split_first_mut-clause-others g t c =
     let r = g.J.Naming.run.roster in
     let same =
     group_lists c.args.players.now c.args.groups.now c.in-Some-split_first_mut.group.now c.in-Some-split_first_mut.rest.now c.as_mut_slice-players.result.now
-    (nil_of c.args.players.now c.in-None.ensures.cases) c.in-Some-split_first_mut.ensures.cases.0
+    (nil_from_length c.args.players.now c.in-None.ensures.cases) c.in-Some-split_first_mut.ensures.cases.0
     (c.as_mut_slice-players.ensures.value ∙ ap (λ (x : Grouped g.row.T.Denot). x.players) c.group.view_is) in
     subst (λ (l : List (Playing g.row.T.Denot)). OthersStay w r (c.args.clock.now.caller ∷ callers_of l)
     c.args.clock.now.sight c.with_all.new.clock.sight) (sym same)
@@ -245,7 +245,7 @@ returns-in-Some-split_first_mut-clause-clock g t c =
     let r = g.J.Naming.run.roster in
     let same =
     group_lists c.args.players.now c.args.groups.now c.in-Some-split_first_mut.group.now c.in-Some-split_first_mut.rest.now c.as_mut_slice-players.result.now
-    (nil_of c.args.players.now c.in-None.ensures.cases) c.in-Some-split_first_mut.ensures.cases.0
+    (nil_from_length c.args.players.now c.in-None.ensures.cases) c.in-Some-split_first_mut.ensures.cases.0
     (c.as_mut_slice-players.ensures.value ∙ ap (λ (x : Grouped g.row.T.Denot). x.players) c.group.view_is) in
     subst (λ (l : List (Playing g.row.T.Denot)). Advances g.J.Placing.tasks w r (visits l) c.args.clock.now c.with_all.result c.with_all.new.clock) (sym same)
     c.with_all.ensures.clock
@@ -259,8 +259,8 @@ returns-in-None-split_first_mut-clause-clock g t c =
     let r = g.J.Naming.run.roster in
     let leaves = c.decide.ensures.leaves in
     let none : c.args.players.now ++ other_players c.args.groups.now ≡ [] =
-    ap (λ (l : List (Playing g.row.T.Denot)). l ++ other_players c.args.groups.now) (nil_of c.args.players.now c.in-None.ensures.cases)
-    ∙ ap other_players (nil_of c.args.groups.now c.in-None-split_first_mut.ensures.cases) in
+    ap (λ (l : List (Playing g.row.T.Denot)). l ++ other_players c.args.groups.now) (nil_from_length c.args.players.now c.in-None.ensures.cases)
+    ∙ ap other_players (nil_from_length c.args.groups.now c.in-None-split_first_mut.ensures.cases) in
     subst (λ (l : List (Playing g.row.T.Denot)). Advances g.J.Placing.tasks w r (visits l) c.args.clock.now c.decide.result c.decide.new.clock) (sym none)
     (advances_at g.J.Placing.tasks w r c.args.clock.now c.decide.result c.decide.new.clock c.decide.ensures.guests leaves.decided leaves.caller leaves.names
     leaves.nexts leaves.timely)
@@ -268,4 +268,4 @@ returns-in-None-split_first_mut-clause-clock g t c =
 pub returns-in-None-split_first_mut-clause-players : goal.returns-in-None-split_first_mut-clause-players
 returns-in-None-split_first_mut-clause-players g t c =
     subst (λ (l : List (Playing g.row.T.Denot)). AreBack g.J.Placing.world c.decide.new.clock.now l l)
-    (sym (nil_of c.args.players.now c.in-None.ensures.cases)) tt
+    (sym (nil_from_length c.args.players.now c.in-None.ensures.cases)) tt

@@ -1,6 +1,6 @@
 use Rattle.std.proofs.Common.{sym, subst}
+use Rattle.std.proofs.lemmas.List.{nil_from_length}
 use Rattle.host_net.specs.Groups.{AreWaiting, all_members, members}
-use Rattle.net_guests.proofs.Shared.{nil_of}
 use Rattle.host_net.proofs.Seating.{seats_on, some_short, waiting_parts}
 use Rattle.host_net.proofs.players.Net+J+WorldActor+J.+play_all.Goals as goal
 
@@ -23,4 +23,4 @@ returns-in-Some-clause-short g t c = λ memory.
 
 pub returns-in-None-clause-rest : goal.returns-in-None-clause-rest
 returns-in-None-clause-rest g t c = λ whole waits.
-    subst (λ l. AreWaiting g.J.Placing.tasks g.J.Placing.world (all_members l)) (sym (nil_of c.args.groups.now c.in-None.ensures.cases)) (λ p there. absurd there)
+    subst (λ l. AreWaiting g.J.Placing.tasks g.J.Placing.world (all_members l)) (sym (nil_from_length c.args.groups.now c.in-None.ensures.cases)) (λ p there. absurd there)

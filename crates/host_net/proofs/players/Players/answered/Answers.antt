@@ -1,14 +1,15 @@
 use Rattle.std.proofs.Common.{◌<◌, length, rules, ap, arith}
 use Rattle.net_base.specs.declared.world.World.{World}
 use Rattle.host_net.specs.Groups.{all_members}
-use Rattle.host_net.proofs.Answered.{answers_next, script_is}
+use Rattle.host_net.proofs.Answered.{answers_next}
 use Rattle.host_net.proofs.players.Players.answered.Goals as goal
+use Rattle.net_base.proofs.CallerNames.{script_at}
 
 pub answered_of-requires-clause-script : goal.answered_of-requires-clause-script
 answered_of-requires-clause-script g c =
     let many = ap (λ (w : World). length w.scripts) c.requires.world in
     let lt : c.loop-script.script < length g.J.Placing.world.scripts = omega (arith, many, c.loop-script-test.true, c.len-script-end.ensures) in
-    script_is g.J.Placing.world c.loop-script.script lt
+    script_at g.J.Placing.world c.loop-script.script lt
 
 pub loop-script-preserved : goal.loop-script-preserved
 loop-script-preserved g c =

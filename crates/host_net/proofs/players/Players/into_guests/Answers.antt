@@ -1,9 +1,8 @@
 use Rattle.std.proofs.Common.{◌≡◌, ◌++◌, List, [], ◌∷◌, length, length-append, reverse, ap, sym, subst, ◌∙◌, arith}
-use Rattle.std.proofs.lemmas.List.{append-nil, reverse-reverse}
+use Rattle.std.proofs.lemmas.List.{append-nil, reverse-reverse, nil_from_length}
 use Rattle.host_net.specs.Groups.{IsDealt, all_members, all_seats, visits}
 use Rattle.host_net.specs.Playing.{ArePlayed}
 use Rattle.net_guests.specs.Visits.{HasGuest, Visit}
-use Rattle.net_guests.proofs.Shared.{nil_of}
 use Rattle.host_net.proofs.Seating.{groups_on, has_guest}
 use Rattle.host_net.proofs.players.Players.into_guests.Goals as goal
 
@@ -27,7 +26,7 @@ loop-group-preserved g c = (
 
 pub returns-clause-same : goal.returns-clause-same
 returns-clause-same g c =
-    let none_left : c.loop-group.groups.items ≡ [] = nil_of c.loop-group.groups.items (omega (arith, c.in_default.ensures.cases.0, c.loop-group.groups.ok.0)) in
+    let none_left : c.loop-group.groups.items ≡ [] = nil_from_length c.loop-group.groups.items (omega (arith, c.in_default.ensures.cases.0, c.loop-group.groups.ok.0)) in
     sym (append-nil c.loop-group.guests.items)
     ∙ (ap (λ l. c.loop-group.guests.items ++ visits (all_members (reverse l))) (sym none_left) ∙ c.loop-group.invariant.0)
 

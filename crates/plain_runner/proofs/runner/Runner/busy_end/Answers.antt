@@ -1,9 +1,10 @@
 use Rattle.std.proofs.Common.{◌≡◌, ◌==◌, ◌&&◌, ℕ, false, length, refl, sym, ◌∙◌, arith}
+use Rattle.std.proofs.lemmas.Bool.{and_left, and_right}
 use Rattle.net_base.specs.Calm.{most_entries}
 use Rattle.net_base.specs.Next.{by}
 use Rattle.plain_runner.specs.Waiting.{could}
 use Rattle.plain_runner.proofs.Could.{limit_told, none_told}
-use Rattle.net_base.proofs.Shared.{and_left, and_right, none_more}
+use Rattle.net_base.proofs.Shared.{none_more}
 use Rattle.plain_runner.proofs.runner.Runner.busy_end.Goals as goal
 use Rattle.plain_runner.proofs.runner.Runner.busy_end.Goals.{else-is_full-via-then-is_full+else-could, else-is_full-via-else-is_full}
 
