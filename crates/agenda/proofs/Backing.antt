@@ -22,8 +22,7 @@ use Rattle.net_guests.specs.Visits.{HasGuest, Visit}
 use Rattle.whole_script.specs.declared.place.PlaceTask.{PlaceTask}
 use Rattle.whole_script.specs.declared.place.PlaceTask.TheVariants as place
 use Rattle.whole_script.specs.Places as places
-use Rattle.net_base.proofs.Members.{in_front}
-use Rattle.net_base.proofs.CallerNames.{script_is}
+use Rattle.net_base.proofs.Shared.{in_front, script_is}
 
 in_last : {A : Type 0} (x : A) (xs : List A) → In x (xs ++ x ∷ [])
 in_last x [] = inl refl

@@ -9,8 +9,7 @@ use Rattle.net_base.specs.Next.{by}
 use Rattle.net_base.specs.Tasks.{Tasks}
 use Rattle.calm_laws.specs.Could.{could, is_full}
 use Rattle.calm_laws.proofs.Calming.{Kind, OfScript, OfCourier, OfClock, clock_is, clock_only_owes, courier_is, kind_of}
-use Rattle.net_base.proofs.Shared.{none_range}
-use Rattle.net_base.proofs.CallerNames.{script_is}
+use Rattle.net_base.proofs.Shared.{none_range, script_is}
 
 -- a caller that is no clock could record where the definition of limits says so
 could_is : (ts : Tasks) (w : World) (net : Net) (c : ℕ) → (c ≡ clock_number w → ⊥) → Kind w c → could_record_by ts w net (caller_of w c) c ≡ could ts w net c

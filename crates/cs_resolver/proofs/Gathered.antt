@@ -25,7 +25,7 @@ use Rattle.cs_resolver.specs.Gathering.{Gathers, AreAmong, TuplesRead, SpotsRead
 use Rattle.cs_resolver.specs.Probes.{numbers_at, word_found}
 use Rattle.cs_resolver.proofs.AtSpots.{at_spot_is, spots_numbers}
 use Rattle.cs_resolver.proofs.Once.{among, others, among_others, once_push, turned}
-use Rattle.net_base.proofs.Tests.{number_itself}
+use Rattle.net_base.proofs.Shared.{number_itself}
 
 abbrev pub Db : Type 0
 Db = List (List (List NdbPair))

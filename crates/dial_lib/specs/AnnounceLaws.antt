@@ -19,7 +19,7 @@ use Rattle.net_base.specs.declared.request.Request.TheVariants as request
 use Rattle.script_task.specs.Fitting.{is_opening}
 use Rattle.net_base.specs.Requests.{settled, settles, bound_after}
 use Rattle.script_task.specs.Task.{Heads, AsksSo, MovesSo, follow, fits_play}
-use Rattle.net_base.proofs.Tests.{same_text}
+use Rattle.net_base.proofs.Shared.{same_text}
 
 -- Its requests.
 

@@ -5,7 +5,7 @@ use Rattle.std.proofs.lemmas.Option.{none-some, same_Some}
 use Rattle.std.proofs.lemmas.Bool.{and_parts}
 use Rattle.net_base.specs.Steps.{Bound, Names, Fid, fid_among, fid_of, is_among, is_bound, bind, unbind, without, dotted_name}
 use Rattle.dial_lib.specs.Slots.{HaveSlots, in_slots}
-use Rattle.net_base.proofs.Tests.{and_none}
+use Rattle.net_base.proofs.Shared.{and_none}
 
 -- Spellings.
 

@@ -17,7 +17,7 @@ use Rattle.script_task.specs.Fitting.{is_granted, fits_grant}
 use Rattle.net_base.specs.Requests.{head}
 use Rattle.script_task.specs.Task.{follow, fits_play}
 use Rattle.dial_lib.specs.Openings.{written_free}
-use Rattle.net_base.proofs.Tests.{and_none}
+use Rattle.net_base.proofs.Shared.{and_none}
 
 -- The event doesn't depend on what follows it.
 

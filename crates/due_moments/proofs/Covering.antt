@@ -9,8 +9,7 @@ use Rattle.net_base.specs.declared.address.Proto.TheVariants as proto
 use Rattle.net_base.specs.declared.noted.Noted.{Noted}
 use Rattle.net_base.specs.Stamped.{In, same_actor, same_proto}
 use Rattle.due_moments.specs.Marks.{Covers, Marks, is_among, is_conversation}
-use Rattle.net_base.proofs.Tests.{number_itself}
-use Rattle.net_base.proofs.SameNames.{same_proto_itself}
+use Rattle.net_base.proofs.Shared.{number_itself, same_proto_itself}
 
 in_either : {A : Type 0} (xs ys : List A) (x : A) → In x (xs ++ ys) → In x xs ⊎ In x ys
 in_either [] ys x there = inr there

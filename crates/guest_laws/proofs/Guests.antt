@@ -33,8 +33,7 @@ use Rattle.guest_laws.specs.Own.{AreNext, AreTimely, AreTurns, IsAskedButOfScrip
 use Rattle.guest_laws.specs.Guests.{IsGuest, IsTurn, Records, StaysGuest, HasRecorded}
 use Rattle.guest_laws.proofs.Nets.{past_is}
 use Rattle.guest_laws.proofs.Apart.{LaterStands, stands_still, owed_push, gains}
-use Rattle.net_base.proofs.Tests.{number_itself}
-use Rattle.net_base.proofs.Members.{in_front, in_back}
+use Rattle.net_base.proofs.Shared.{number_itself, in_front, in_back}
 
 length_map : (f : Noted → Entry) (xs : List Noted) → length (map f xs) ≡ length xs
 length_map f [] = refl

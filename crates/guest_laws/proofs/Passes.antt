@@ -19,8 +19,7 @@ use Rattle.locked.specs.Acts.{made}
 use Rattle.guest_laws.specs.Guests.{IsGuest, Records, StaysGuest, HandsOver}
 use Rattle.guest_laws.proofs.Apart.{LaterStands}
 use Rattle.guest_laws.proofs.Guests.{stays}
-use Rattle.net_base.proofs.Tests.{number_itself}
-use Rattle.net_base.proofs.Members.{in_front, in_back, in_filter}
+use Rattle.net_base.proofs.Shared.{number_itself, in_front, in_back, in_filter}
 
 module _ (still : LaterStands) (w : World) (r : Roster) (c : ℕ) (p q p' q' : Sight) (h : HandsOver r c p q p' q') where
   -- the number that goes over

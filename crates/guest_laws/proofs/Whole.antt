@@ -28,7 +28,7 @@ use Rattle.guest_laws.specs.Own.{IsAskedButOfScripts, IsTurnOf, IsNextOf, IsTime
 use Rattle.guest_laws.proofs.Nets.{noted_push, past_is, moment_is}
 use Rattle.guest_laws.proofs.Apart.{own, by_from}
 use Rattle.guest_laws.proofs.Moves.{moment_same}
-use Rattle.net_base.proofs.Tests.{number_itself}
+use Rattle.net_base.proofs.Shared.{number_itself}
 
 -- each entry is so, after those before it
 abbrev Each : (List Entry → Entry → Type 0) → List Entry → Type 0

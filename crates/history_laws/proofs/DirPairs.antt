@@ -27,9 +27,7 @@ use Rattle.net_base.specs.Routes.{Way, way}
 use Rattle.net_base.specs.Same.{same_addr, same_pair}
 use Rattle.net_base.specs.Stamped.{In}
 use Rattle.history_laws.proofs.Takers.{taker_found}
-use Rattle.net_base.proofs.Tests.{number_itself}
-use Rattle.net_base.proofs.Members.{in_front}
-use Rattle.net_base.proofs.SameNames.{same_pair_itself}
+use Rattle.net_base.proofs.Shared.{number_itself, in_front, same_pair_itself}
 
 -- Membership.
 

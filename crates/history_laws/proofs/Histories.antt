@@ -15,7 +15,7 @@ use Rattle.net_base.specs.Legal.{MayFollow, MayFollowBy, IsLegal, IsLegalBy, IsI
 use Rattle.net_base.specs.Net.{Net, net_after, next_net, net_of, after, opening_net, state, step_of, work_of, works, works_from, stepped_to, play, played}
 use Rattle.net_base.specs.Stamped.{same_proto, same_actor}
 use Rattle.net_base.specs.Tasks.{Tasks}
-use Rattle.net_base.proofs.SameNames.{same_proto_is, same_actor_is}
+use Rattle.net_base.proofs.Shared.{same_proto_is, same_actor_is}
 
 -- Tests of actors.
 

@@ -31,9 +31,7 @@ use Rattle.net_base.specs.Tasks.{Tasks}
 use Rattle.net_base.specs.Written.{Given, gives, given_in, given_from}
 use Rattle.history_laws.proofs.DirPairs.{Moves, MovesIf, dir_moves}
 use Rattle.history_laws.proofs.Histories.{after_push, by_entries, next_same, next_other}
-use Rattle.net_base.proofs.Tests.{number_itself}
-use Rattle.net_base.proofs.Members.{in_parts, in_of_get}
-use Rattle.net_base.proofs.SameNames.{same_actor_is, same_itself}
+use Rattle.net_base.proofs.Shared.{number_itself, in_parts, in_of_get, same_actor_is, same_itself}
 
 abbrev pub pairs_of : Actor → List Pair
 pairs_of (IsDir d) = d.pairs

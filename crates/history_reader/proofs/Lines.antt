@@ -17,7 +17,7 @@ use Rattle.history_reader.proofs.EntryWords.{FitsEntry, entry_bare, entry_good, 
 use Rattle.history_reader.proofs.Exact.{AreBare, IsBare}
 use Rattle.history_reader.proofs.FieldWords.{number_exact, bare_numeral}
 use Rattle.history_reader.proofs.Values.{numeral_is, numeral_spelled, same_numeral, value}
-use Rattle.net_base.proofs.Tests.{number_itself}
+use Rattle.net_base.proofs.Shared.{number_itself}
 
 -- a line without its newline
 abbrev pub body_of : ℕ → Entry → List ℕ

@@ -20,7 +20,7 @@ use Rattle.history_reader.proofs.Exact.{AreBare, IsBare}
 use Rattle.history_reader.proofs.FieldWords.{bare, bare_numeral, no_word}
 use Rattle.history_reader.proofs.Lines.{joined_spaced, spaced_free, bare_free, words_back}
 use Rattle.history_reader.proofs.Values.{numeral_is, numeral_spelled, value}
-use Rattle.net_base.proofs.Tests.{same_text}
+use Rattle.net_base.proofs.Shared.{same_text}
 
 -- a test passes exactly the lines of this form
 pub record FormExact (test : List ℕ → Bool) (IsLine : List ℕ → Type 0) : Type 0 where

@@ -16,7 +16,7 @@ use Rattle.host_dir.specs.declared.slots.Ends.{Ends}
 use Rattle.host_dir.specs.Found.{found_at, slot_at}
 use Rattle.host_dir.specs.Tables.{IsIndexed, Tables, pair_of, pairs_of}
 use Rattle.host_dir.proofs.Firsts.{none_found, only_found}
-use Rattle.net_base.proofs.SameNames.{same_addr_is, same_addr_itself, same_pair_is, same_pair_itself}
+use Rattle.net_base.proofs.Shared.{same_addr_is, same_addr_itself, same_pair_is, same_pair_itself}
 
 -- Pairs that are the same.
 

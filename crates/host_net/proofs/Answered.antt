@@ -34,7 +34,7 @@ use Rattle.host_net.specs.Groups.{Follows, Grouped, IsDealt, NotIn, Seats, all_c
 use Rattle.host_net.specs.Groups.{members, seat_of, seats, visits, with_last}
 use Rattle.host_net.specs.Playing.{IsCounted, Playing, replies_of}
 use Rattle.net_guests.specs.Visits.{Visit}
-use Rattle.net_base.proofs.Members.{in_front, in_back, in_parts, there_at, drop_one, next_one, past_all}
+use Rattle.net_base.proofs.Shared.{in_front, in_back, in_parts, there_at, drop_one, next_one, past_all}
 
 -- One player.
 

@@ -25,7 +25,7 @@ use Rattle.locked.specs.Acts.{left_by, state, state_at}
 use Rattle.script_task.specs.Fitting.{fits}
 use Rattle.guest_laws.specs.Named.{Named, answer_in, named, named_step, opening}
 use Rattle.guest_laws.specs.Works.{entries, noted_net}
-use Rattle.net_base.proofs.Tests.{number_itself}
+use Rattle.net_base.proofs.Shared.{number_itself}
 
 -- The own entries.
 

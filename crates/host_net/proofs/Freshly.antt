@@ -14,8 +14,7 @@ use Rattle.net_base.specs.Versions.{Tuples, are_timed}
 use Rattle.net_base.specs.World.{IsWorld}
 use Rattle.journal.specs.Rule.{Held, caller_numbers, same_number}
 use Rattle.net_guests.specs.Visits.{AreFresh, IsFresh, Visit}
-use Rattle.net_base.proofs.Tests.{number_itself}
-use Rattle.net_base.proofs.Members.{in_filter}
+use Rattle.net_base.proofs.Shared.{number_itself, in_filter}
 
 apart : (c d : ℕ) → c < d → not (d == c) ≡ true
 apart c d lt = grind (arith, nat_tests)

@@ -40,7 +40,7 @@ use Rattle.host_net.specs.Playing.{GoesOn, HasRole, IsPlayed, IsPlayer, Playing}
 use Rattle.net_guests.specs.Visits.{HasGuest, IsWith, Visit}
 use Rattle.net_locks.specs.Turns.{Stays, bare, own}
 use Rattle.locked.specs.Acts.{made, without_copy}
-use Rattle.net_base.proofs.Tests.{number_itself}
+use Rattle.net_base.proofs.Shared.{number_itself}
 
 -- A player stays one where its caller recorded nothing.
 

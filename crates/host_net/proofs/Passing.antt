@@ -14,7 +14,7 @@ use Rattle.host_net.specs.declared.player.Role.{Role}
 use Rattle.host_net.specs.Advancing.{Advances, AreBack, AreLent, other_players}
 use Rattle.host_net.specs.Groups.{Apart, Grouped, NotIn, callers_of, visits}
 use Rattle.host_net.specs.Playing.{Playing}
-use Rattle.net_base.proofs.Tests.{apart_turned}
+use Rattle.net_base.proofs.Shared.{apart_turned}
 
 abbrev pub player : {T : Type 0} → Visit → Role → T → Bool → Bool → Playing T
 player v who task lost counts = record { visit = v; role = who; task = task; lost = lost; counts = counts }

@@ -20,8 +20,7 @@ use Rattle.host_net.specs.Groups.{all_seats, caller, callers_in, callers_of, joi
 use Rattle.host_net.specs.Groups.{with_last}
 use Rattle.host_net.specs.Playing.{ArePlayed, HasRole, IsPlayed, IsWaiting, Playing}
 use Rattle.net_guests.specs.Visits.{HasGuest, Visit}
-use Rattle.net_base.proofs.Tests.{apart_turned}
-use Rattle.net_base.proofs.Members.{in_front, in_back, in_parts, in_of_get}
+use Rattle.net_base.proofs.Shared.{apart_turned, in_front, in_back, in_parts, in_of_get}
 
 -- Members of lists.
 

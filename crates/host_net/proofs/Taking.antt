@@ -17,8 +17,7 @@ use Rattle.host_net.specs.Groups.{Apart, Grouped, NotIn, all_callers, all_member
 use Rattle.host_net.specs.Playing.{Playing}
 use Rattle.net_locks.specs.Turns.{Stays}
 use Rattle.net_guests.specs.Visits.{Visit}
-use Rattle.net_base.proofs.Tests.{number_itself}
-use Rattle.net_base.proofs.Members.{in_front, in_back}
+use Rattle.net_base.proofs.Shared.{number_itself, in_front, in_back}
 
 -- Numbers.
 

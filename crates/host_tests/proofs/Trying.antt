@@ -15,7 +15,7 @@ use Rattle.net_actors.specs.Small.{IsSmall}
 use Rattle.net_actors.specs.Together.{AreActors, CanStep, Numbered, Steps}
 use Rattle.host_tests.specs.Tried.{AreLedTo, IsLedTo, tried_world}
 use Rattle.net_actors.proofs.Shared.{few_works, among_is}
-use Rattle.net_base.proofs.SameNames.{same_actor_is}
+use Rattle.net_base.proofs.Shared.{same_actor_is}
 
 pub none_led : (w : World) (v : Numbered) → AreActors w v (opening_actor w.timers) → AreLedTo w v 0
 none_led w v are = record { states = opening_actor w.timers; are = are; led = λ a. record { works = []; led = refl; few = omega arith } }

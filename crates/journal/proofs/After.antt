@@ -15,8 +15,7 @@ use Rattle.journal.specs.Tokens.{Agrees, OnlyCallers, sight, stamped, volume, fi
 use Rattle.journal.proofs.Bounds.{whole_seen, lawful-before}
 use Rattle.journal.proofs.Lists.{at-length, in-gained}
 use Rattle.journal.proofs.Steps.{gained, in_has_caller, in-filter, filter_has_caller}
-use Rattle.net_base.proofs.Members.{in_front, in_back}
-use Rattle.net_base.proofs.SameNames.{same_itself}
+use Rattle.net_base.proofs.Shared.{in_front, in_back, same_itself}
 
 -- the number of an actor is told from those of callers
 pub kept_is : (hs : List Held) (a : ActorName) (l : List (ℕ × Noted)) → OnlyCallers hs → filter (λ (h : Held). not (same_number h.0 (number.Actor a))) (hs ++ (number.Actor a, l) ∷ []) ≡ hs

@@ -12,7 +12,7 @@ use Rattle.journal.specs.Rule.{Held, gain, same_number}
 use Rattle.journal.specs.Tokens.{Counted}
 use Rattle.journal.proofs.Lists.{in-gained, in-gain}
 use Rattle.journal.proofs.Steps.{in-filter, not_both}
-use Rattle.net_base.proofs.Members.{in_front, in_back, in_parts}
+use Rattle.net_base.proofs.Shared.{in_front, in_back, in_parts}
 
 -- what stands in the lists before stands in them, gained, after
 pub counts_gain : (counts : List ℕ) (hs : List Held) (n : ℕ) (x : Noted) (cs : List (ℕ × Noted)) → Counted counts hs → In (number.Caller x.entry.caller, cs) hs → length cs < 131072

@@ -17,7 +17,7 @@ use Rattle.journal.specs.declared.tokens.Volume.{Volume}
 use Rattle.journal.specs.Rule.{Held, IsSeat, IsCaller, caller_numbers, actor_numbers, same_number, without, only}
 use Rattle.journal.specs.Tokens.{IsPass, Distinct, IsBlank, AreBlank, Dealt}
 use Rattle.journal.proofs.After.{zeros_at}
-use Rattle.net_base.proofs.SameNames.{same_actor_is, same_itself}
+use Rattle.net_base.proofs.Shared.{same_actor_is, same_itself}
 
 abbrev keep : ActorName → Held → Bool
 keep a h = not (same_number h.0 (number.Actor a))

@@ -22,8 +22,7 @@ use Rattle.std.proofs.lemmas.List.{length-map}
 use Rattle.journal.proofs.After.{all_seen}
 use Rattle.journal.specs.Closing.{plain, Taken, Gathered, IsWhole, IsCover, IsLeft, AreOf, AreAllOf, AreAt}
 use Rattle.journal.proofs.Lists.{prefix_self, prefix_trans}
-use Rattle.net_base.proofs.Members.{in_front, in_back, in_parts}
-use Rattle.net_base.proofs.SameNames.{same_itself}
+use Rattle.net_base.proofs.Shared.{in_front, in_back, in_parts, same_itself}
 
 in-map : (l : List (ℕ × Noted)) (y : ℕ × Noted) → In y l → In (stamped y) (map stamped l)
 in-map [] y i = absurd i

@@ -7,5 +7,4 @@ use Rattle.net_base.specs.declared.actor.ActorName.TheVariants as name
 use Rattle.net_base.specs.declared.address.Proto.{Proto}
 use Rattle.net_base.specs.declared.address.Proto.TheVariants as proto
 use Rattle.net_base.specs.Stamped.{same_proto, same_actor}
-use Rattle.net_base.proofs.Tests.{number_itself}
-use Rattle.net_base.proofs.SameNames.{same_proto_is, same_proto_itself}
+use Rattle.net_base.proofs.Shared.{number_itself, same_proto_is, same_proto_itself}

@@ -2,6 +2,5 @@
 
 -- beginnings of one list, the lists of a number, and entries at the end
 pub use Rattle.journal.proofs.Lists.{at-append, at-snoc, in-gain, prefix_snoc, prefix_trans}
--- the test of two actors' names decides whether they are equal
 -- each kind of step keeps the rule
 pub use Rattle.journal.proofs.Steps.{in_has_caller}

@@ -19,8 +19,7 @@ use Rattle.journal.specs.Rule.{Held, Fits, Lawful, IsAll, Known, has_caller, is_
 use Rattle.journal.proofs.Lists.{prefix_self, prefix_trans, prefix_shorter, prefix_snoc, at-snoc, between, last_split, in-gained, in-gain, snoc_get, longer_is, longer_left, longer_right}
 use Rattle.journal.proofs.Seats.{someone_here, someone_set, someone_split, someone_join}
 use Rattle.journal.proofs.Bounds.{lawful-short}
-use Rattle.net_base.proofs.Members.{in_front, in_back, in_parts}
-use Rattle.net_base.proofs.SameNames.{same_actor_is}
+use Rattle.net_base.proofs.Shared.{in_front, in_back, in_parts, same_actor_is}
 
 -- the views after a step of the seat id
 views_set : (r : Roster) (log : List Noted) (views : List View) (id : ℕ) (w : View) → Knows r log w

@@ -13,7 +13,7 @@ use Rattle.ndb_tuple.specs.Places.{places_of}
 use Rattle.ndb_tuple.proofs.Shared.{same_truth, any_wider, any_gives}
 use Rattle.ndb_index.specs.Nets.{has_prefix, has_length, places_kept, HasPlaces, HasAllLengths, is_covered}
 use Rattle.ndb_index.proofs.Own.{Db, Kept}
-use Rattle.net_base.proofs.Tests.{number_itself}
+use Rattle.net_base.proofs.Shared.{number_itself}
 
 or_assoc : (a b c : Bool) → ((a || b) || c) ≡ (a || (b || c))
 or_assoc true b c = refl

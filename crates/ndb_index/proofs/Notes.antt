@@ -11,9 +11,8 @@ use Rattle.net_base.specs.Search.{is_pair, line_has}
 use Rattle.net_base.specs.Spots.{spot_at, lines_from, all_lines, spread, pair_spots}
 use Rattle.net_base.specs.Store.{all_pairs}
 use Rattle.net_base.specs.declared.ndb.spot.Spot.{Spot}
-use Rattle.net_base.proofs.Shared.{lines-length}
+use Rattle.net_base.proofs.Shared.{lines-length, number_itself}
 use Rattle.ndb_index.specs.Kept.{spot_in, spots_from, spots_with, ends_at, with_spot, noted, lines_noted}
-use Rattle.net_base.proofs.Tests.{number_itself}
 
 abbrev pub Placed : Type 0
 Placed = List (NdbPair × Spot)

@@ -17,7 +17,7 @@ use Rattle.ndb_tuple.specs.Prefixes.{first_bits, is_prefix}
 use Rattle.ndb_tuple.specs.Places.{places_of}
 use Rattle.ndb_tuple.proofs.Shared.{same_any, turned}
 use Rattle.ndb_index.specs.Nets.{prefix, has_prefix, has_length, places_kept, place_noted, HasPlaces, is_among, is_own, own_places}
-use Rattle.net_base.proofs.Tests.{number_itself, or_none}
+use Rattle.net_base.proofs.Shared.{number_itself, or_none}
 
 abbrev pub Db : Type 0
 Db = List (List (List NdbPair))

@@ -15,7 +15,7 @@ use Rattle.ndb_chains.proofs.Shared.{in_bucket, Met, met, none-met}
 use Rattle.ndb_reader.specs.Filed.{tuples_of}
 use Rattle.ndb_reader.specs.Names.{names_seen, bucket_in, AreByName}
 use Rattle.ndb_reader.proofs.Once.{turned}
-use Rattle.net_base.proofs.Tests.{same_text, equal_texts}
+use Rattle.net_base.proofs.Shared.{same_text, equal_texts}
 
 abbrev pub Tuples : Type 0
 Tuples = List (List (List NdbPair))

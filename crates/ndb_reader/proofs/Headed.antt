@@ -3,7 +3,7 @@ use Rattle.std.proofs.Common.{◌≡◌, ℕ, Bool, true, false, ◌||◌, cond,
 use Rattle.std.specs.List.{list_any, slice_split, onto_first}
 use Rattle.std.proofs.lemmas.Bool.Decides.{nat_tests}
 use Rattle.net_base.specs.NdbText.{is_percent, begins, begins_with}
-use Rattle.net_base.proofs.Tests.{or_true}
+use Rattle.net_base.proofs.Shared.{or_true}
 
 module _ (part found : ℕ → Bool) where
   any_onto : (x : ℕ) (parts : List (List ℕ)) → list_any (list_any found) (onto_first x parts) ≡ true → (found x || list_any (list_any found) parts) ≡ true

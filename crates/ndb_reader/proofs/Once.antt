@@ -7,7 +7,7 @@ use Rattle.std.proofs.lemmas.Slice.Eq.{bytes_eq-Decides}
 use Rattle.net_base.specs.NdbBundle.{each_once}
 use Rattle.ndb_text.proofs.Shared.{false_true}
 use Rattle.ndb_reader.specs.Names.{with_name, with_names}
-use Rattle.net_base.proofs.Tests.{equal_texts}
+use Rattle.net_base.proofs.Shared.{equal_texts}
 
 -- the names that are not this one
 others : List ℕ → List (List ℕ) → List (List ℕ)

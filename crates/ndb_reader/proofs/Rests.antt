@@ -13,7 +13,7 @@ use Rattle.ndb_reader.specs.declared.words.Words.{Words}
 use Rattle.ndb_reader.specs.Told.{IsRead, AreWords}
 use Rattle.net_base.specs.NdbBundle.{is_nameless}
 use Rattle.net_base.specs.Store.{Grown, with_pair, with_pairs}
-use Rattle.net_base.proofs.Tests.{or_none, or_true}
+use Rattle.net_base.proofs.Shared.{or_none, or_true}
 
 -- the words behind so many bytes are those of what is left then
 behind-dropped : (n : ℕ) (line : List ℕ) → words_behind n line ≡ words_behind 0 (drop n line)

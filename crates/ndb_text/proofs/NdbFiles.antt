@@ -14,7 +14,7 @@ use Rattle.ndb_text.proofs.NdbPlain.{or_false, or_false_first, or_false_rest}
 use Rattle.ndb_text.proofs.NdbLists.{after_last-none, some_none}
 use Rattle.ndb_text.proofs.NdbSound.{Faultless, sound, line_reads}
 use Rattle.ndb_text.proofs.NdbComplete.{complete, cons_none, false_true}
-use Rattle.net_base.proofs.Tests.{and_none}
+use Rattle.net_base.proofs.Shared.{and_none}
 
 -- Lines.
 

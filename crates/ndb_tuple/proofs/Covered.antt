@@ -9,7 +9,7 @@ use Rattle.net_base.specs.Networks.{Network, contains_address, is_on}
 use Rattle.ndb_tuple.specs.declared.network.Network.{Network as Kept}
 use Rattle.ndb_tuple.specs.declared.prefixes.Prefix.{Prefix}
 use Rattle.ndb_tuple.specs.Prefixes.{network_seen, first_bits, prefix_of, same_prefix, is_prefix, is_on_prefix, covers, HasLengths}
-use Rattle.net_base.proofs.Tests.{number_itself, or_none}
+use Rattle.net_base.proofs.Shared.{number_itself, or_none}
 
 pub same_truth : (a b : Bool) → (a ≡ true → b ≡ true) → (b ≡ true → a ≡ true) → a ≡ b
 same_truth true b f g = sym (f refl)

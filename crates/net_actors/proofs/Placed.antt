@@ -17,8 +17,7 @@ use Rattle.net_actors.specs.Stepping.{IsReady, ActorMayWant, Steps as StepsOne}
 use Rattle.net_actors.specs.Together.{AreActors, AreFirst, CanStep, IsAt, MayWantAt, Numbered, Steps, StepsIn, has_name, state_in}
 use Rattle.net_actors.specs.declared.actor.Actor.{Actor as Kept}
 use Rattle.net_actors.proofs.Numbering.{among_is, below, below_in, same_in}
-use Rattle.net_base.proofs.Members.{there_at, get_set, get_set_other}
-use Rattle.net_base.proofs.SameNames.{same_actor_is, same_itself}
+use Rattle.net_base.proofs.Shared.{there_at, get_set, get_set_other, same_actor_is, same_itself}
 
 -- what stands at a name's number is the actor of that name
 record Found (w : World) (states : ActorName → Actor) (a : ActorName) (x : Kept) : Type 0 where

@@ -15,6 +15,7 @@ pub mod Alike
 pub mod NumberTexts
 pub mod HexTexts
 pub mod Ranges
+pub mod PathNames
 pub mod SameNames
 pub mod CallerNames
 pub mod Leasts

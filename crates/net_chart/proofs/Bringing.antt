@@ -16,8 +16,7 @@ use Rattle.net_base.specs.Stamped.{same_actor, same_proto}
 use Rattle.net_chart.specs.Frames.{owner_of}
 use Rattle.net_chart.specs.TalkLaws.{EndsThere, brought_from, is_taken_at}
 use Rattle.net_chart.specs.Talks.{Talks, cited_by, column_number, column_of, columns_by, columns_with, end_at, ends_at, entered, is_conversation, no_talks, started, talks_by, talks_from, talks_with}
-use Rattle.net_base.proofs.Tests.{number_itself}
-use Rattle.net_base.proofs.SameNames.{same_proto_itself}
+use Rattle.net_base.proofs.Shared.{number_itself, same_proto_itself}
 
 -- Names.
 

@@ -8,7 +8,7 @@ use Rattle.net_chart.specs.Drawing.{drawing_of, drawn_text}
 use Rattle.net_chart.specs.Frames.{same_frame}
 use Rattle.net_chart.specs.Sights.{sight_of}
 use Rattle.net_chart.specs.Things.{Drawn, Past, arrives_in, drawn_of, is_copy, past_after, thing_at, things_from}
-use Rattle.net_base.proofs.Members.{past_all}
+use Rattle.net_base.proofs.Shared.{past_all}
 
 -- Lists.
 

@@ -21,8 +21,7 @@ use Rattle.history_laws.proofs.Shared.{after_push, by_entries, Each, each_append
 use Rattle.net_export.specs.Counted.{brought, count_after, follow_ups, puts, releases}
 use Rattle.net_export.proofs.FreeEvents.{IsFree, IsFreeDuty, duties_free, script_free}
 use Rattle.net_export.proofs.Lengths.{duties_length}
-use Rattle.net_base.proofs.Members.{there_at, next_one}
-use Rattle.net_base.proofs.CallerNames.{script_at}
+use Rattle.net_base.proofs.Shared.{there_at, next_one, script_at}
 
 -- The count of one entry more.
 

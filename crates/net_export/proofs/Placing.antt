@@ -16,7 +16,7 @@ use Rattle.sessions.specs.Worlds.{HaveHosts, HaveStreams, IsTranslated, Translat
 use Rattle.net_base.specs.declared.world.World.{World}
 use Rattle.net_export.specs.Answered.{ArePlayed}
 use Rattle.net_export.specs.Placed.{PlaysSession, PutsSession}
-use Rattle.net_base.proofs.Members.{there_at}
+use Rattle.net_base.proofs.Shared.{there_at}
 
 -- The sessions so far.
 

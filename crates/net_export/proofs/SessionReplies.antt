@@ -21,7 +21,7 @@ use Rattle.sessions.specs.InHistory.{IsSessionOf}
 use Rattle.session_answers.specs.Told.{AreTold, is_told}
 use Rattle.net_export.proofs.SessionEvents.{IsSessionEvent, next_of_session}
 use Rattle.net_export.proofs.ToldReplies.{entry_told}
-use Rattle.net_base.proofs.CallerNames.{script_is}
+use Rattle.net_base.proofs.Shared.{script_is}
 
 -- ---- one entry
 

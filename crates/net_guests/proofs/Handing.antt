@@ -17,8 +17,7 @@ use Rattle.journal.specs.Tokens.{Looked}
 use Rattle.guest_laws.specs.Guests.{HandsOver, IsGuest, StaysGuest}
 use Rattle.net_guests.proofs.Passes.{with_more}
 use Rattle.net_guests.specs.Visits.{IsWith, Visit}
-use Rattle.net_base.proofs.Tests.{number_itself}
-use Rattle.net_base.proofs.Members.{in_front, in_back, in_filter}
+use Rattle.net_base.proofs.Shared.{number_itself, in_front, in_back, in_filter}
 
 -- Lists of what a pass holds.
 

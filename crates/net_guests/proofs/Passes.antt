@@ -26,7 +26,7 @@ use Rattle.net_base.specs.Tasks.{Tasks}
 use Rattle.net_locks.specs.Rosters.{AreReplayed, IsReplayed}
 use Rattle.net_guests.specs.Visits.{Finished, Gathering, Gathers, HasBook, HasGuest, IsWith, Visit}
 use Rattle.net_locks.specs.Turns.{Stays, own}
-use Rattle.net_base.proofs.Members.{in_front, in_back}
+use Rattle.net_base.proofs.Shared.{in_front, in_back}
 
 -- Guests that stay.
 

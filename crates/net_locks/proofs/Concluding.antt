@@ -28,7 +28,7 @@ use Rattle.net_locks.specs.declared.clock.Standing.{Standing}
 use Rattle.net_locks.specs.Standings.{AllStand, DoesAny, Finds, IsLeastOf, callers_of}
 use Rattle.net_locks.specs.Moving.{IsLeast}
 use Rattle.net_locks.proofs.Found.{in_map, in_split, map_in}
-use Rattle.net_base.proofs.Leasts.{within_last}
+use Rattle.net_base.proofs.Shared.{within_last}
 
 -- The history of guests.
 

@@ -24,7 +24,7 @@ use Rattle.guest_laws.specs.Guests.{IsGuest, Records}
 use Rattle.net_locks.specs.declared.turn.Turn.{Turn}
 use Rattle.net_locks.specs.declared.turn.Turn.TheVariants as turn
 use Rattle.net_locks.specs.Turns.{Recorded, Turned, own}
-use Rattle.net_base.proofs.Tests.{number_itself}
+use Rattle.net_base.proofs.Shared.{number_itself}
 
 -- the last entry is its caller's last
 own_last : (n : ℕ) (past : List Noted) (x : Noted)

@@ -30,7 +30,7 @@ use Rattle.journal.specs.Rule.{Lawful}
 use Rattle.net_locks.specs.declared.calendar.Calendar.{Calendar}
 use Rattle.net_locks.specs.declared.clock.Standing.{Standing}
 use Rattle.net_locks.specs.Knowing.{AreMixed, IsKnown, all_touched, due_from, is_told, mixed, touched_count}
-use Rattle.net_base.proofs.Tests.{number_itself}
+use Rattle.net_base.proofs.Shared.{number_itself}
 
 -- Lists.
 

@@ -31,7 +31,7 @@ use Rattle.guest_laws.specs.Works.{entries, next_noted, noted_after, noted_net, 
 use Rattle.net_locks.specs.Moving.{LeavesMoved, MayLeave, MovesTo}
 use Rattle.net_locks.specs.Turns.{HasRoom, Stays, bare}
 use Rattle.net_locks.proofs.Covered.{covers_move}
-use Rattle.net_base.proofs.Tests.{apart_turned}
+use Rattle.net_base.proofs.Shared.{apart_turned}
 
 -- moves owe their ticks
 abbrev pub MovesOwe : Type 0

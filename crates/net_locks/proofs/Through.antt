@@ -25,7 +25,7 @@ use Rattle.journal.specs.declared.tokens.Sight.{Sight}
 use Rattle.guest_laws.specs.Works.{entries, noted_net}
 use Rattle.net_locks.specs.declared.clock.Standing.{Standing}
 use Rattle.net_locks.specs.Standings.{AllStand, StandsAt, ask_of, has_left}
-use Rattle.net_base.proofs.Members.{there_at}
+use Rattle.net_base.proofs.Shared.{there_at}
 
 -- A script has something to record next exactly where a step is left.
 

@@ -39,7 +39,7 @@ use Rattle.table_laws.specs.ConvRows as conv_row
 use Rattle.table_laws.specs.DirRows.{DirRow}
 use Rattle.table_laws.specs.DirRows as dir_row
 use Rattle.table_laws.proofs.Shared.{shown_reply}
-use Rattle.net_base.proofs.SameNames.{same_actor_is}
+use Rattle.net_base.proofs.Shared.{same_actor_is}
 
 -- The version that a desk told last.
 

@@ -11,7 +11,7 @@ use Rattle.net_model.specs.NdbWhole.{files_in, is_local, is_whole}
 use Rattle.net_model.proofs.NdbBundles.{bundle_reads, bundle_spelled}
 use Rattle.net_model.proofs.NdbWritable.{WritableTuples, bundle_is_writable}
 use Rattle.net_model.proofs.NdbWritten.{written_reads}
-use Rattle.net_base.proofs.Tests.{equal_texts}
+use Rattle.net_base.proofs.Shared.{equal_texts}
 
 -- the one file of a text without files
 abbrev local_of : List (List (List NdbPair)) → File

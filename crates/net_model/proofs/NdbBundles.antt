@@ -12,7 +12,7 @@ use Rattle.net_base.specs.NdbBundle.{File, file_of, is_file_line, named_files, h
 use Rattle.ndb_text.specs.NdbSpelling.{ReadsLine, ReadsTuples, ReadsFiles, ReadsBundle, IsFileName}
 use Rattle.ndb_text.proofs.Shared.{or_false, some_none, before_first-none, line_reads, cons_none, some_once, starts-at, goes_on-at, line_has_no_cause, tuples_read}
 use Rattle.ndb_reader.proofs.Shared.{Next, has-line, before-more, before-stop, named-more, named-stop, reading-is, bundle-is-spelled}
-use Rattle.net_base.proofs.Tests.{and_none}
+use Rattle.net_base.proofs.Shared.{and_none}
 
 -- Lines that begin a file.
 

@@ -8,7 +8,7 @@ use Rattle.net_base.specs.Steps as steps
 use Rattle.net_base.specs.Steps.{Bound, Fid as File, fid_among, is_among}
 use Rattle.net_tree.specs.declared.fids.Fid.{Fid}
 use Rattle.net_tree.specs.Bindings.{with_name, bindings, file_of, bound_of, newest_onto, AreApart}
-use Rattle.net_base.proofs.Tests.{or_true}
+use Rattle.net_base.proofs.Shared.{or_true}
 
 abbrev or_else : Option File → Option File → Option File
 or_else None other = other

@@ -17,7 +17,7 @@ use Rattle.net_base.specs.Net.{Net, after, moment, moment_after, net_after, next
 use Rattle.net_base.specs.Next.{by}
 use Rattle.net_base.specs.Stamped.{same_actor}
 use Rattle.net_base.specs.World.{IsWorld}
-use Rattle.net_base.proofs.Leasts.{within_last}
+use Rattle.net_base.proofs.Shared.{within_last}
 
 -- Entries.
 

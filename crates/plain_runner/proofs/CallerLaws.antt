@@ -27,7 +27,7 @@ use Rattle.plain_runner.specs.declared.turn.Turn.{Turn}
 use Rattle.plain_runner.specs.Callers.{GoesOn, HasRole, IsCaller, IsEntryOf, IsScriptAt}
 use Rattle.plain_runner.specs.Turns.{AreOwn, IsOwn, IsTurn, OfDuty, ask_of, asks_of, may_turn, may_turn_by}
 use Rattle.plain_runner.proofs.Replies.{before_last, duty_replies, next_replies}
-use Rattle.net_base.proofs.CallerNames.{script_is}
+use Rattle.net_base.proofs.Shared.{script_is}
 
 -- What comes next.
 

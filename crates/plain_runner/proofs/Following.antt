@@ -36,7 +36,7 @@ use Rattle.calm_laws.proofs.Shared.{Kind, OfScript, OfCourier, OfClock, clock_is
 use Rattle.plain_runner.proofs.Could.{past_is}
 use Rattle.plain_runner.proofs.Recorded.{got}
 use Rattle.plain_runner.proofs.Unmoved.{IsStill, duty_still, next_still}
-use Rattle.net_base.proofs.CallerNames.{script_is}
+use Rattle.net_base.proofs.Shared.{script_is}
 
 -- Entries that are the same.
 

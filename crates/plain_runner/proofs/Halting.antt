@@ -17,10 +17,8 @@ use Rattle.net_base.specs.Next.{by, next_of}
 use Rattle.net_base.specs.Summary.{end_word}
 use Rattle.history_laws.proofs.Shared.{after_push, at_push, by_entries, timed_take}
 use Rattle.calm_laws.proofs.Shared.{Kind, OfScript, OfCourier, OfClock, clock_is, clock_waits, courier_is, is_calm, kind_of}
-use Rattle.net_base.proofs.Shared.{none_range, not_below, some_range}
+use Rattle.net_base.proofs.Shared.{none_range, not_below, some_range, script_is, within_last}
 use Rattle.plain_runner.proofs.Recorded.{step_moment}
-use Rattle.net_base.proofs.CallerNames.{script_is}
-use Rattle.net_base.proofs.Leasts.{within_last}
 
 -- The moment is never past the end.
 

@@ -27,7 +27,7 @@ use Rattle.plain_runner.specs.declared.caller.Role.{Role}
 use Rattle.plain_runner.specs.declared.caller.Role.TheVariants as role
 use Rattle.plain_runner.specs.declared.runner.Runner.{Runner}
 use Rattle.plain_runner.specs.declared.turn.Turn.{Turn}
-use Rattle.net_base.proofs.Members.{get_set, get_set_other}
+use Rattle.net_base.proofs.Shared.{get_set, get_set_other}
 
 -- Lists.
 

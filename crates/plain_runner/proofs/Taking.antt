@@ -14,7 +14,7 @@ use Rattle.plain_runner.specs.declared.caller.Caller.{Caller}
 use Rattle.plain_runner.specs.declared.runner.Runner.{Runner}
 use Rattle.plain_runner.specs.declared.turn.Turn.{Turn}
 use Rattle.plain_runner.proofs.Unmoved.{ready_turn}
-use Rattle.net_base.proofs.Members.{get_set, get_set_other}
+use Rattle.net_base.proofs.Shared.{get_set, get_set_other}
 
 -- a run whose caller's turn was taken
 pub record IsTaken (old mid : Runner) (c : ℕ) (k : Caller) : Type 0 where

@@ -34,7 +34,7 @@ use Rattle.prefix_law.proofs.Accounts.{HasEmpty, ReadsAll, AllSized, AtEnd, no_e
 use Rattle.prefix_law.proofs.Sides.{same_pair_from, put_here}
 use Rattle.prefix_law.proofs.Touch.{owner_of, Owned, HasEnd, ConvFine, touched, side_at}
 use Rattle.prefix_law.proofs.ConvSteps.{GiftFine, quiet_trace, trace_touched}
-use Rattle.net_base.proofs.SameNames.{same_pair_is}
+use Rattle.net_base.proofs.Shared.{same_pair_is}
 
 -- the conversation of an owner
 abbrev pub conv_of : Owner → Conversation

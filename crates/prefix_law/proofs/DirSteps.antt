@@ -29,7 +29,7 @@ use Rattle.prefix_law.proofs.ConvMoves.{is_connected}
 use Rattle.prefix_law.proofs.Sides.{put_here, put_there, put_same}
 use Rattle.prefix_law.proofs.Touch.{owner_of, Owned, Later, Emitted, EmittedIf, HasEnd, ActorFine}
 use Rattle.prefix_law.proofs.ConvSteps.{GiftFine}
-use Rattle.net_base.proofs.SameNames.{same_pair_is, same_pair_itself}
+use Rattle.net_base.proofs.Shared.{same_pair_is, same_pair_itself}
 
 -- what duties carry
 abbrev pub WithFine : World → Trace → ActorName → Event → With → Type 0

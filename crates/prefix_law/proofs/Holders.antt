@@ -23,8 +23,7 @@ use Rattle.prefix_law.proofs.Peers.{same_conversation_is}
 use Rattle.prefix_law.proofs.Places.{places}
 use Rattle.prefix_law.proofs.Trace.{HasPlaces}
 use Rattle.prefix_law.proofs.UdpTrace.{Known, Kept, all_kept}
-use Rattle.net_base.proofs.Members.{in_of_get}
-use Rattle.net_base.proofs.SameNames.{same_proto_is, same_proto_itself, same_itself, same_pair_is, same_pair_itself}
+use Rattle.net_base.proofs.Shared.{in_of_get, same_proto_is, same_proto_itself, same_itself, same_pair_is, same_pair_itself}
 
 -- Lists of what was given.
 

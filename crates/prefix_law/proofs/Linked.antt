@@ -24,7 +24,7 @@ use Rattle.prefix_law.proofs.Sides.{put_same, put_there}
 use Rattle.prefix_law.proofs.Touch.{Later}
 use Rattle.prefix_law.proofs.Trace.{Owner, Trace, put_at, dir_trace, actor_trace}
 use Rattle.prefix_law.proofs.Whole.{conv_trace_owner}
-use Rattle.net_base.proofs.SameNames.{same_pair_is, same_pair_itself}
+use Rattle.net_base.proofs.Shared.{same_pair_is, same_pair_itself}
 
 -- what stands in a list
 abbrev pub Has : List Given → Given → Type 0

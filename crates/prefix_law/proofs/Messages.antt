@@ -23,7 +23,7 @@ use Rattle.history_laws.proofs.Shared.{at_push, before_push, by_entries}
 use Rattle.prefix_law.proofs.Pairs.{Side}
 use Rattle.prefix_law.proofs.Trace.{Owner, Trace, empty_side, actor_trace, trace}
 use Rattle.prefix_law.proofs.Whole.{Kept}
-use Rattle.net_base.proofs.SameNames.{same_actor_is}
+use Rattle.net_base.proofs.Shared.{same_actor_is}
 
 pub read_pushed : (h : List Entry) (x : Entry) (e : Conversation) (k count : ℕ) (text : List ℕ) → IsRead h e k count text → IsRead (h ++ x ∷ []) e k count text
 read_pushed h x e k count text r = record {

@@ -18,7 +18,7 @@ use Rattle.prefix_law.proofs.Books.{conv_of}
 use Rattle.prefix_law.proofs.Deeds.{both_ways}
 use Rattle.prefix_law.proofs.Linked.{Has, Linked, owner_in}
 use Rattle.prefix_law.proofs.Trace.{Owner, Trace}
-use Rattle.net_base.proofs.SameNames.{same_proto_is, same_actor_is, same_pair_is, same_pair_itself}
+use Rattle.net_base.proofs.Shared.{same_proto_is, same_actor_is, same_pair_is, same_pair_itself}
 
 -- what is found stands in the list and passes
 found_in : (test : Given → Bool) (gs : List Given) (g : Given) → find test gs ≡ Some g → Has gs g × (test g ≡ true)

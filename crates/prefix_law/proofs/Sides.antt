@@ -8,7 +8,7 @@ use Rattle.net_base.specs.Same.{same_addr, same_pair}
 use Rattle.net_base.specs.Mirror.{mirror}
 use Rattle.prefix_law.proofs.Trace.{put_at}
 use Rattle.prefix_law.proofs.Deeds.{both_ways, Holds, Stepped, other_holds}
-use Rattle.net_base.proofs.SameNames.{same_addr_is, same_addr_itself, same_pair_is, same_pair_itself}
+use Rattle.net_base.proofs.Shared.{same_addr_is, same_addr_itself, same_pair_is, same_pair_itself}
 
 -- Tests of pairs.
 

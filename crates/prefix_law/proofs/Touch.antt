@@ -22,7 +22,7 @@ use Rattle.prefix_law.proofs.Acts.{Refusal, Idle}
 use Rattle.prefix_law.proofs.ConvMoves.{is_connected}
 use Rattle.prefix_law.proofs.ConvMoves.{Emits}
 use Rattle.prefix_law.proofs.Sides.{put_here, put_there, put_same, talk_put}
-use Rattle.net_base.proofs.SameNames.{same_pair_is}
+use Rattle.net_base.proofs.Shared.{same_pair_is}
 
 abbrev pub owner_of : ℕ → ℕ → ℕ → Option Owner
 owner_of h n g = Some (record { host = h; slot = n; generation = g })

@@ -25,7 +25,7 @@ use Rattle.prefix_law.proofs.Places.{places}
 use Rattle.prefix_law.proofs.Trace.{HasPlaces}
 use Rattle.prefix_law.proofs.UdpConvs.{FirstOf, ReadFine}
 use Rattle.prefix_law.proofs.UdpTrace.{Known, Wrote, all_kept, took}
-use Rattle.net_base.proofs.Members.{in_front}
+use Rattle.net_base.proofs.Shared.{in_front}
 
 given_append : (w : World) (net : Net) (xs ys : List Entry) → given_from w net (xs ++ ys) ≡ given_from w net xs ++ given_from w (net_of w net xs) ys
 given_append w net [] ys = refl

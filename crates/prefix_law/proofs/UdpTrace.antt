@@ -36,8 +36,7 @@ use Rattle.prefix_law.proofs.UdpConvs.{SentAs, SentIf}
 use Rattle.prefix_law.proofs.UdpSteps.{StateFine, state_more, Next, next}
 use Rattle.prefix_law.proofs.UdpDirs.{with_new, SlotIsFine, IsNew}
 use Rattle.prefix_law.proofs.UdpDuties.{EmittedAs, EmittedIf, emitted_more, TakenAt, EachDuty, each_duty_more, each_duty_append, each_duty_rest, duties_fine, work_fine}
-use Rattle.net_base.proofs.Members.{in_front, in_parts}
-use Rattle.net_base.proofs.SameNames.{same_actor_is, same_itself}
+use Rattle.net_base.proofs.Shared.{in_front, in_parts, same_actor_is, same_itself}
 
 -- What is known of a history.
 

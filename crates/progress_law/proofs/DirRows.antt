@@ -35,7 +35,7 @@ use Rattle.table_laws.specs.DirRows as row
 use Rattle.table_laws.proofs.Shared.{dir_rows, map_some}
 use Rattle.progress_law.proofs.Duties.{AreSlots, IsCallIn, IsConvKind, IsBirth, bears, named, generation_in}
 use Rattle.progress_law.proofs.Slots.{Rise, calls_stay, rises, sets, set_generation, other_generation}
-use Rattle.net_base.proofs.Members.{get_set_other}
+use Rattle.net_base.proofs.Shared.{get_set_other}
 
 -- starts and limits of a directory are such that a conversation may connect
 abbrev pub MayGive : World → ℕ → Proto → Dir → Type 0

@@ -34,8 +34,7 @@ use Rattle.progress_law.proofs.Worlds.{may_give}
 use Rattle.progress_law.proofs.Least.{each_in}
 use Rattle.progress_law.proofs.Keeping.{Changes, IsNew, IsBorne, IsGained, NotConv, no_birth, each_of, later_append}
 use Rattle.progress_law.proofs.New.{IsPlainDuty, plain_new, emitted_each, courier_each, release_each, left_each, ticks_new, none_bears, follow_apart}
-use Rattle.net_base.proofs.Members.{in_back, in_parts}
-use Rattle.net_base.proofs.SameNames.{same_actor_is, same_itself}
+use Rattle.net_base.proofs.Shared.{in_back, in_parts, same_actor_is, same_itself}
 
 -- Media.
 

@@ -17,7 +17,7 @@ use Rattle.net_base.specs.Stamped.{In}
 use Rattle.history_laws.proofs.Shared.{Each, Later, each_append}
 use Rattle.progress_law.proofs.Duties.{Steady, OfKind, IsKind, IsActorOf, IsBirth, IsOwedBirth, Apart, bears, named, reached, given_last}
 use Rattle.progress_law.proofs.Least.{each_in}
-use Rattle.net_base.proofs.Members.{in_front, in_back, in_parts}
+use Rattle.net_base.proofs.Shared.{in_front, in_back, in_parts}
 
 -- a duty that an entry adds
 pub record IsNew (w : World) (net after : Net) (d : Duty) : Type 0 where

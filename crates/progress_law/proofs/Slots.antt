@@ -6,7 +6,7 @@ use Rattle.net_base.specs.declared.actor.Call.{Call}
 use Rattle.net_base.specs.Directory.{Slot}
 use Rattle.history_laws.proofs.Shared.{Each, each_weaker}
 use Rattle.progress_law.proofs.Duties.{AreSlots, IsCallIn, generation_in}
-use Rattle.net_base.proofs.Members.{get_set, get_set_other}
+use Rattle.net_base.proofs.Shared.{get_set, get_set_other}
 
 -- the generations don't fall
 abbrev pub Rise : List Slot → List Slot → Type 0

@@ -19,7 +19,7 @@ use Rattle.plain_runner.specs.Callers.{HasRole, IsCaller, IsScriptAt}
 use Rattle.plain_runner.specs.declared.caller.Caller.{Caller}
 use Rattle.plain_runner.specs.declared.caller.Role.{Role}
 use Rattle.plain_runner.specs.declared.caller.Role.TheVariants as role
-use Rattle.net_base.proofs.CallerNames.{script_is}
+use Rattle.net_base.proofs.Shared.{script_is}
 
 no_courier : (s : Script) (m : ℕ) → IsScript s ≡ IsCourier m → ⊥
 no_courier s m is = cc

@@ -7,7 +7,7 @@ use Rattle.std.proofs.lemmas.Option.{none-some, same_Some}
 use Rattle.net_base.specs.declared.history.Entry.{Entry}
 use Rattle.net_base.specs.declared.reply.Reply.{Reply}
 use Rattle.net_base.specs.Next.{by, own_replies}
-use Rattle.net_base.proofs.Members.{drop_one, next_one}
+use Rattle.net_base.proofs.Shared.{drop_one, next_one}
 
 -- the replies to those entries that nothing owed
 abbrev replies_in : List Entry → List Reply

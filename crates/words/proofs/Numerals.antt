@@ -12,7 +12,7 @@ use Rattle.net_base.specs.Transcript.{ip_word}
 abbrev shown : List ℕ → List ℕ
 shown digits = map (λ digit. 48 + digit) digits
 
-numeral_is : (n : ℕ) → 0 < n → numeral n ≡ shown (digits_of 10 n)
+pub numeral_is : (n : ℕ) → 0 < n → numeral n ≡ shown (digits_of 10 n)
 unfolding numeral
 numeral_is zero some = absurd (omega (arith, some))
 numeral_is (suc n) some = refl

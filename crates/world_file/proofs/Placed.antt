@@ -11,7 +11,7 @@ use Rattle.net_base.specs.World.{all_apart, overlap}
 use Rattle.net_base.specs.declared.world.FateRange.{FateRange}
 use Rattle.world_text.specs.WorldLines.{at_last, is_fated, is_medium_named, on_medium}
 use Rattle.world_text.proofs.Shared.{false-of-not}
-use Rattle.net_base.proofs.Tests.{equal_texts}
+use Rattle.net_base.proofs.Shared.{equal_texts}
 
 -- The last element.
 

@@ -7,7 +7,7 @@ use Rattle.std.proofs.lemmas.List.{map-append}
 use Rattle.std.proofs.lemmas.List.Splits.{join_with_byte-slice_split}
 use Rattle.net_base.specs.declared.world.Script.{Script}
 use Rattle.net_base.specs.World.{is_name}
-use Rattle.net_base.proofs.Shared.{cut_at}
+use Rattle.net_base.proofs.Shared.{cut_at, equal_texts}
 use Rattle.world_text.specs.declared.line.MediumLine.{MediumLine}
 use Rattle.world_text.specs.declared.line.MediumLine.TheVariants as medium
 use Rattle.world_text.specs.declared.line.WorldLine.{WorldLine}
@@ -17,7 +17,6 @@ use Rattle.world_text.specs.WorldLines.{Draft, Goes, after, at_last, good_line, 
 use Rattle.world_text.specs.WorldWords.{words_of}
 use Rattle.world_text.proofs.Shared.{without-none, First, Good, Passed, Refused, View, bad-goes, begins-goes, same-goes, view}
 use Rattle.world_file.specs.SessionText.{Feeds, OpensSession, Other, Passes, as_script, row_by, row_of}
-use Rattle.net_base.proofs.Tests.{equal_texts}
 
 -- ---- scripts
 

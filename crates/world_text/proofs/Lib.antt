@@ -1,5 +1,4 @@
 pub mod Controls
-pub mod PathNames
 pub mod WorldLists
 pub mod VersionCuts
 pub mod VersionTexts

@@ -32,8 +32,7 @@ use Rattle.world_text.specs.WorldWords.{Four, Three, Two, address_in, both_nets,
 use Rattle.world_text.specs.LineReading.{argued, cs_of, dns_of, end_of, fate_from, fate_named, fate_of, frame_in, frames_in, frames_of, host_of, hread_of, hwrite_of, if_from, if_of, import_of, kept, medium_of, named, ndb_of, networld_of, of_one, of_two, open_of, other_of, range_from, rate_in, rates_from, rates_of, read_line, read_of, refresh_of, route_from, route_of, ropen_of, rread_of, rwrite_of, script_of, seed_of, start_of, step_of, step_read, timers_named, until_of, words_line, write_of, writex_of}
 use Rattle.world_text.specs.WorldSpelling.{fate_word, frames_spelled, spelling, timers_word, words_of_line}
 use Rattle.world_text.specs.LineFit.{fit_frames, is_fit, is_frame, is_rate}
-use Rattle.net_base.proofs.Shared.{hex-spelled, address-dotted, number_in-spelled}
-use Rattle.net_base.proofs.Tests.{equal_texts}
+use Rattle.net_base.proofs.Shared.{hex-spelled, address-dotted, number_in-spelled, equal_texts}
 
 -- What words say.
 

@@ -20,7 +20,7 @@ use Rattle.world_text.specs.WorldSpelling.{EachBehind, IsBehindMedium, Rates, Sa
 use Rattle.world_text.proofs.WorldLists.{any-insert, apart-insert, each-none, each-push, false-of-not, same-bytes}
 use Rattle.world_text.proofs.WorldMedia.{named-front, names}
 use Rattle.world_text.proofs.WorldLed.{of_media}
-use Rattle.net_base.proofs.Tests.{same_text}
+use Rattle.net_base.proofs.Shared.{same_text}
 
 -- Media.
 

@@ -22,7 +22,7 @@ use Rattle.world_text.specs.WorldLines.{Draft, after_medium_line, has_fate, has_
 use Rattle.world_text.specs.WorldSpelling.{EachBehind, IsBehindMedium, Rates, SaysMedium, fate_on, media_named, media_said, medium_names, medium_said, name_said, no_rates, rated_name, rates_on}
 use Rattle.world_text.specs.LineFit.{fit_medium_line}
 use Rattle.world_text.proofs.WorldLists.{all-parts, all-push, any-map, apart-front, apart-push, each-front, each-last, each-none, each-push, false-of-not, none-if, same-bytes}
-use Rattle.net_base.proofs.Tests.{and_none, same_text, equal_texts}
+use Rattle.net_base.proofs.Shared.{and_none, same_text, equal_texts}
 
 -- Causes.
 

@@ -18,7 +18,7 @@ use Rattle.world_text.specs.WorldSpelling.{EachBehind, IsBehindMedium, Rates, Sa
 use Rattle.world_text.specs.LineFit.{fit_frames, fit_medium_line, is_frame, is_rate}
 use Rattle.world_text.proofs.WorldLists.{all-if}
 use Rattle.world_text.proofs.WorldMedia.{FineMedia, count-named, has_sum, named-front, names, names-media, unfated, unrated}
-use Rattle.net_base.proofs.Tests.{number_itself, same_text, equal_texts}
+use Rattle.net_base.proofs.Shared.{number_itself, same_text, equal_texts}
 
 -- From lines to media.
 

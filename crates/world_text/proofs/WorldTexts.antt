@@ -19,7 +19,7 @@ use Rattle.world_text.specs.WorldRefusal.{Leads}
 use Rattle.world_text.specs.WorldSpelling.{IsHeaded, is_line, laid, line_of_timers, speaks}
 use Rattle.world_text.specs.WorldText.{Cut, cuts_of, judged, reading_from, with_first}
 use Rattle.world_text.proofs.WorldLists.{false-of-not}
-use Rattle.net_base.proofs.Tests.{equal_texts}
+use Rattle.net_base.proofs.Shared.{equal_texts}
 
 -- Lines of a text.
 

@@ -5,7 +5,7 @@ use Rattle.std.specs.List.{list_all}
 use Rattle.std.proofs.lemmas.Bool.Decides.{nat_tests}
 use Rattle.net_base.specs.Addresses.{parts_at}
 use Rattle.net_base.specs.Remotes.{are_net, is_remote_name, is_remote_path}
-use Rattle.net_base.proofs.Tests.{and_none}
+use Rattle.net_base.proofs.Shared.{and_none}
 
 -- so many names and these are few, and these have the length of names
 abbrev pub are_few : ℕ → List (List ℕ) → Bool

@@ -2,7 +2,7 @@ use Rattle.std.proofs.Common.{option_map, ap}
 use Rattle.net_base.specs.Tasks.{asking_of}
 use Rattle.agenda.specs.Given.{tasks_of}
 use Rattle.agenda.proofs.tasks.run_tasks.Goals as goal
-use Rattle.net_base.proofs.CallerNames.{script_is}
+use Rattle.net_base.proofs.Shared.{script_is}
 
 pub returns-clause-asked : goal.returns-clause-asked
 returns-clause-asked g c = λ k s t there given.

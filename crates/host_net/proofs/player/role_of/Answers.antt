@@ -2,7 +2,7 @@ use Rattle.std.proofs.Common.{◌≡◌, ◌-◌, ℕ, sym, subst, arith}
 use Rattle.net_base.specs.Callers.{IsCourier, caller_of}
 use Rattle.host_net.proofs.Naming.{clock_of, courier_of}
 use Rattle.host_net.proofs.player.role_of.Goals as goal
-use Rattle.net_base.proofs.CallerNames.{script_at}
+use Rattle.net_base.proofs.Shared.{script_at}
 
 pub returns-then-caller-scripts : goal.returns-then-caller-scripts
 returns-then-caller-scripts c = script_at c.args.world.now c.args.caller (omega (arith, c.if-caller-scripts.true, c.len-scripts.ensures))

@@ -9,8 +9,7 @@ use Rattle.journal.specs.declared.tokens.Volume.{Volume}
 use Rattle.journal.specs.Tokens.{Holds, AreBlank}
 use Rattle.locked.proofs.Shared.{below_two, only_blank}
 use Rattle.thread_tests.proofs.one_lock.counted_by_two.Goals as goal
-use Rattle.net_base.proofs.Members.{in_front, in_back}
-use Rattle.net_base.proofs.SameNames.{same_actor_is}
+use Rattle.net_base.proofs.Shared.{in_front, in_back, same_actor_is}
 
 pub join-one-requires-after_bounds : goal.join-one-requires-after_bounds
 join-one-requires-after_bounds g c =

@@ -1,4 +1,4 @@
-use Rattle.world_text.proofs.PathNames.{walks_exactly}
+use Rattle.net_base.proofs.Shared.{walks_exactly}
 use Rattle.world_text.proofs.law.paths_are_walked.Goals as goal
 
 pub returns : goal.returns

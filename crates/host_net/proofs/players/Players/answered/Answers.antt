@@ -3,7 +3,7 @@ use Rattle.net_base.specs.declared.world.World.{World}
 use Rattle.host_net.specs.Groups.{all_members}
 use Rattle.host_net.proofs.Answered.{answers_next}
 use Rattle.host_net.proofs.players.Players.answered.Goals as goal
-use Rattle.net_base.proofs.CallerNames.{script_at}
+use Rattle.net_base.proofs.Shared.{script_at}
 
 pub answered_of-requires-clause-script : goal.answered_of-requires-clause-script
 answered_of-requires-clause-script g c =

@@ -7,7 +7,7 @@ use Rattle.journal.specs.declared.tokens.Volume.{Volume}
 use Rattle.journal.specs.Rule.{Held, Looks, both}
 use Rattle.journal.proofs.After.{rested, volume_is}
 use Rattle.journal.proofs.word.Journal.gather_one.Goals as goal
-use Rattle.net_base.proofs.Members.{in_front, in_back}
+use Rattle.net_base.proofs.Shared.{in_front, in_back}
 
 pub returns-clause-taken : goal.returns-clause-taken
 returns-clause-taken g c =

@@ -6,7 +6,7 @@ use Rattle.journal.specs.Tokens.{Counted}
 use Rattle.journal.proofs.Counts.{counts_met}
 use Rattle.journal.proofs.After.{met}
 use Rattle.journal.proofs.word.Journal.meet.Goals as goal
-use Rattle.net_base.proofs.Members.{in_parts}
+use Rattle.net_base.proofs.Shared.{in_parts}
 
 pub invariant_of-pass : goal.invariant_of-pass
 invariant_of-pass g c =

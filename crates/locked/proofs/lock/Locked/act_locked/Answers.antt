@@ -2,7 +2,7 @@ use Rattle.std.proofs.Common.{sym, subst, ◌∙◌}
 use Rattle.net_base.specs.declared.actor.ActorName.{ActorName}
 use Rattle.locked.specs.Acts.{Acted}
 use Rattle.locked.proofs.lock.Locked.act_locked.Goals as goal
-use Rattle.net_base.proofs.SameNames.{same_actor_is}
+use Rattle.net_base.proofs.Shared.{same_actor_is}
 
 pub returns : goal.returns
 returns g c =

@@ -1,4 +1,4 @@
--- The reading of paths is their grammar's.
+-- A path that names a node is walked to it, and no other is.
 use Rattle.std.proofs.Common.{◌≡◌, ℕ, ◌<◌, ◌==◌, zero, Bool, true, false, List, [], ◌∷◌, ◌++◌, Option, Some, None, refl, sym, subst, append_assoc, arith}
 use Rattle.std.specs.Prelude.{decimal, codes, bytes_eq, ◌↔◌, if◌then◌else◌}
 use Rattle.std.specs.List.{slice_split}
@@ -12,8 +12,8 @@ use Rattle.net_base.specs.declared.names.FileName.TheVariants as file
 use Rattle.net_base.specs.declared.names.Node.{Node}
 use Rattle.net_base.specs.declared.names.Node.TheVariants as node
 use Rattle.net_base.specs.Paths.{proto_name, file_name, path_of, in_range, Names, proto_named, file_named, node_of, is_named, checked, walk}
-use Rattle.net_base.proofs.Shared.{IsWithout, decimal_without, decimal_without_letter, one_part, cut_at, value_of}
 use Rattle.net_base.proofs.Tests.{same_text}
+use Rattle.net_base.proofs.Texts.{IsWithout, decimal_without, decimal_without_letter, one_part, cut_at, value_of}
 
 abbrev parts : List ℕ → List (List ℕ)
 parts path = slice_split (λ b. b == 47) path
