@@ -10,16 +10,10 @@ use Rattle.net_base.specs.declared.world.World.{World}
 use Rattle.net_base.specs.Actors.{has_actor, slot_count}
 use Rattle.net_base.specs.Duties.{conversations, slots_of}
 use Rattle.net_base.specs.Stamped.{In}
+use Rattle.net_base.proofs.Members.{in_flat}
+use Rattle.history_laws.proofs.Ordered.{in_range}
 
 -- Ranges.
-
-pub in_range : (a n c : ℕ) → a ≤ c → c < a + n → In c (range_with_len a n)
-in_range a zero c above below = absurd (omega (arith, above, below))
-in_range a (suc n) c above below = by_first (nat_lt a c) refl (λ more. in_range (a + 1) n c more (omega (arith, below)))
-  where
-    by_first : (b : Bool) → nat_lt a c ≡ b → (a + 1 ≤ c → In c (range_with_len (a + 1) n)) → In c (range_with_len a (suc n))
-    by_first true is later = inr (later (omega (arith, ltb-true a c is)))
-    by_first false is later = inl (omega (arith, above, ltb-false a c is))
 
 pub range_in : (a n c : ℕ) → In c (range_with_len a n) → (a ≤ c) × (c < a + n)
 range_in a zero c there = absurd there
@@ -53,11 +47,6 @@ pub map_in : {A B : Type 0} (f : A → B) (xs : List A) (y : B) → In y (map f 
 map_in f [] y there = absurd there
 map_in f (x ∷ xs) y (inl is) = (x, inl refl, is)
 map_in f (x ∷ xs) y (inr there) = let p = map_in f xs y there in (p.0, inr p.1, p.2)
-
-pub in_flat_map : {A B : Type 0} (f : A → List B) (xs : List A) (x : A) (y : B) → In x xs → In y (f x) → In y (flat_map f xs)
-in_flat_map f [] x y there gives = absurd there
-in_flat_map f (z ∷ xs) x y (inl is) gives = in_left (f z) (flat_map f xs) y (subst (λ u. In y (f u)) is gives)
-in_flat_map f (z ∷ xs) x y (inr there) gives = in_right (f z) (flat_map f xs) y (in_flat_map f xs x y there gives)
 
 pub flat_map_in : {A B : Type 0} (f : A → List B) (xs : List A) (y : B) → In y (flat_map f xs) → (x : A) × In x xs × In y (f x)
 flat_map_in f [] y there = absurd there
@@ -108,7 +97,7 @@ of_host h = slots_of h proto.Il ++ slots_of h proto.Udp
 pub conversation_there : (w : World) (h : ℕ) (p : Proto) (n : ℕ) → has_actor w (name.Conv h p n) ≡ true → In (name.Conv h p n) (conversations w)
 conversation_there w h p n has =
     let parts = and_parts (nat_lt h (length w.hosts)) (nat_lt n slot_count) has in
-    in_flat_map of_host (range_with_len 0 (length w.hosts)) h (name.Conv h p n)
+    in_flat of_host (range_with_len 0 (length w.hosts)) h (name.Conv h p n)
     (in_range 0 (length w.hosts) h (omega arith) (omega (arith, ltb-true h (length w.hosts) parts.0)))
     (in_host h n p (ltb-true n slot_count parts.1))
 

@@ -1,11 +1,9 @@
 -- The first bad line of an input, and an answer to it, by whether the input is over the limit of its command.
 use Rattle.std.proofs.Common.{◌≡◌, ◌&&◌, ℕ, ◌<◌, ◌≤◌, Bool, true, false, nat_lt, List, length, Option, Some, None, refl, sym, ap, subst, arith}
 use Rattle.std.proofs.lemmas.Bool.Decides.{nat_tests}
+use Rattle.std.proofs.lemmas.Option.{none-some}
 use Rattle.net_model.specs.Answers.{Answer, bad_input}
 use Rattle.command_line.specs.Asking.{Asking, IsAnswer, IsBadOf, IsFirstBad, IsGiven, is_over}
-
-none_some : (bad : ℕ × ℕ) → None ≡ Some bad → ⊥
-none_some bad h = cc
 
 module _ (C : Type 0) (asking : Asking C) (asked : C) (input : List ℕ) where
   -- an input over the limit is bad
@@ -51,7 +49,7 @@ module _ (C : Type 0) (asking : Asking C) (asked : C) (input : List ℕ) where
 
   -- nothing over the limit is without a bad line
   pub not_too_long : asking.reads asked ≡ true → asking.limit asked < length input → IsFirstBad asking asked input None → ⊥
-  not_too_long has long good = none_some (0, 9) (told_of true (too_long_is_over has long) None good)
+  not_too_long has long good = none-some (0, 9) (told_of true (too_long_is_over has long) None good)
 
   -- an input has a bad line or it has none
   pub given_good : (answer : Answer) → IsAnswer asking asked input answer → IsFirstBad asking asked input None → asking.IsFound asked input answer
@@ -59,11 +57,11 @@ module _ (C : Type 0) (asking : Asking C) (asked : C) (input : List ℕ) where
     where
       by : (found : Option (ℕ × ℕ)) → None ≡ found → IsGiven asking found asked input answer → asking.IsFound asked input answer
       by None same given = given
-      by (Some bad) same given = absurd (none_some bad same)
+      by (Some bad) same given = absurd (none-some bad same)
 
   pub given_bad : (answer : Answer) (bad : ℕ × ℕ) → IsAnswer asking asked input answer → IsFirstBad asking asked input (Some bad) → answer.status ≡ 2
   given_bad answer bad is told = by is.found (is.only (Some bad) told) is.given
     where
       by : (found : Option (ℕ × ℕ)) → Some bad ≡ found → IsGiven asking found asked input answer → answer.status ≡ 2
-      by None same given = absurd (none_some bad (sym same))
+      by None same given = absurd (none-some bad (sym same))
       by (Some other) same given = ap (λ (a : Answer). a.status) given

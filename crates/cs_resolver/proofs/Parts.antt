@@ -3,10 +3,7 @@ use Rattle.std.proofs.Common.{None, ◌≡◌, ℕ, ◌<◌, ◌==◌, List, [],
 use Rattle.std.proofs.lemmas.List.Splits.{length-slice_split}
 use Rattle.net_base.specs.Addresses.{parts_at}
 use Rattle.net_base.specs.Cs.{query_of, read_query}
-
--- there is always a part
-pub some_part : (separator : ℕ) (word : List ℕ) → 0 < length (parts_at separator word)
-some_part separator word = omega (arith, length-slice_split (λ byte. byte == separator) word)
+use Rattle.net_base.proofs.Texts.{some_part}
 
 more_than_three : (a b c : List ℕ) (others : List (List ℕ)) → 0 < length others → query_of (a ∷ b ∷ c ∷ others) ≡ None
 more_than_three a b c [] more = absurd (omega arith)

@@ -19,6 +19,7 @@ use Rattle.history_laws.specs.Apart as apart
 use Rattle.guest_laws.specs.Works.{step_by, noted_after, next_noted, noted_from, noted_net, owed_in, entries}
 use Rattle.guest_laws.specs.Own.{IsTurnOf, IsNextOf, IsTimelyIn, OwnFrom, EachOwn, StandsStill, Gains}
 use Rattle.guest_laws.proofs.Nets.{noted_from-append, noted_push}
+use Rattle.net_base.proofs.Members.{no_cons}
 
 same_and : {A : Type 0} (xs ys : List A) → xs ++ ys ≡ xs → ys ≡ []
 same_and xs ys e = nil_from_length ys (omega (arith, sym (ap length e) ∙ length-append xs ys))
@@ -26,9 +27,6 @@ same_and xs ys e = nil_from_length ys (omega (arith, sym (ap length e) ∙ lengt
 -- after a beginning that has all of a number's entries nothing of the number comes
 none_between : (k : Number) (log rest : List Noted) → at k log ≡ at k (log ++ rest) → at_from k (length log) rest ≡ []
 none_between k log rest same = same_and (at k log) (at_from k (length log) rest) (sym (at-append k log rest) ∙ sym same)
-
-cons_nil : {A : Type 0} (x : A) (xs : List A) → x ∷ xs ≡ [] → ⊥
-cons_nil x xs e = absurd (omega (arith, ap length e))
 
 abbrev pub own : ℕ × Noted → Entry
 own y = y.1.entry
@@ -56,7 +54,7 @@ module _ (w : World) where
 
   owed_more : (net : Net) (n : ℕ) (x : Noted) (rest : List (ℕ × Noted)) (c : ℕ) (end : List Duty) (b : Bool) → (x.entry.caller == c) ≡ b
       → (if b then (n, x) ∷ rest else rest) ≡ [] → (rest ≡ [] → end ≡ (next_noted w net x).owed c) → end ≡ net.owed c
-  owed_more net n x rest c end true same none rec = absurd (cons_nil (n, x) rest none)
+  owed_more net n x rest c end true same none rec = absurd (no_cons (n, x) rest none)
   owed_more net n x rest c end false other none rec = rec none ∙ owed_by_other net x c (step_by w net x) other
 
   owed_from : (net : Net) (n : ℕ) (xs : List Noted) (c : ℕ) → at_from (number.Caller c) n xs ≡ [] → (noted_from w net xs).owed c ≡ net.owed c
@@ -81,7 +79,7 @@ module _ (w : World) (c : ℕ) (K : Net → Noted → Type 0) where
 
   own_more : (net : Net) (n : ℕ) (x : Noted) (rest : List (ℕ × Noted)) (R : Type 0) (b : Bool) → (x.entry.caller == c) ≡ b
       → (if b then (n, x) ∷ rest else rest) ≡ [] → (rest ≡ [] → R) → ((x.entry.caller == c) ≡ true → K net x) × R
-  own_more net n x rest R true same none rec = absurd (cons_nil (n, x) rest none)
+  own_more net n x rest R true same none rec = absurd (no_cons (n, x) rest none)
   own_more net n x rest R false other none rec = (λ same. absurd (true≢false (sym same ∙ other)), rec none)
 
   own_none : (net : Net) (n : ℕ) (xs : List Noted) → at_from (number.Caller c) n xs ≡ [] → OwnFrom w c K net xs

@@ -19,7 +19,7 @@ use Rattle.locked.specs.Acts.{left_by, state, state_at}
 use Rattle.guest_laws.specs.Named.{Named, named, named_step, opening, answer_in}
 use Rattle.guest_laws.specs.Works.{step_by, moment_by, noted_after, next_noted, noted_from, noted_net, entries}
 
-named_left : (a : ActorName) (s : Actor) (t : Option (Step Actor)) → left_by (named a s) (option_map (named_step a) t) ≡ named a (stepped_to s t)
+pub named_left : (a : ActorName) (s : Actor) (t : Option (Step Actor)) → left_by (named a s) (option_map (named_step a) t) ≡ named a (stepped_to s t)
 named_left a s None = refl
 named_left a s (Some t) = refl
 

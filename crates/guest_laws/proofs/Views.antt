@@ -12,7 +12,7 @@ use Rattle.locked.specs.Acts.{state_at}
 use Rattle.guest_laws.specs.Named.{Named, named, named_step, opening, answer_in, due_of, generation_of}
 use Rattle.guest_laws.specs.Works.{noted_net}
 
-some_under : (a : ActorName) (t : Option (Step Actor)) → is_some (option_map (named_step a) t) ≡ is_some t
+pub some_under : (a : ActorName) (t : Option (Step Actor)) → is_some (option_map (named_step a) t) ≡ is_some t
 some_under a None = refl
 some_under a (Some s) = refl
 

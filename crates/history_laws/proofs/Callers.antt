@@ -17,9 +17,7 @@ use Rattle.net_base.specs.Stamped.{entries_from, of_caller}
 use Rattle.net_base.specs.Tasks.{Tasks}
 use Rattle.history_laws.specs.Apart.{StandsStill, step_in, own_steps_from, own_steps, owed_then, owed_by}
 use Rattle.history_laws.proofs.Histories.{net_of-append}
-
-no_cons : {A : Type 0} (x : A) (xs : List A) → x ∷ xs ≡ [] → ⊥
-no_cons x xs none = absurd (omega (arith, ap length none))
+use Rattle.net_base.proofs.Members.{no_cons}
 
 module _ (w : World) (c : ℕ) where
   -- an entry of another caller

@@ -41,7 +41,7 @@ quiet_after w h legal = by_entries w (λ (k : List Entry). Quiet w (after w k)) 
     push : (k : List Entry) (x : Entry) → IsLegal w k → MayFollow w k x → Quiet w (after w k) → Quiet w (after w (k ++ x ∷ []))
     push k x before may quiet = subst (Quiet w) (sym (after_push w k x)) (quiet_next w (after w k) x (step_of w (after w k) x) may.is_known.1 quiet)
 
-nobody : (w : World) (c : ℕ) → caller_count w ≤ c → caller_of w c ≡ IsNobody
+pub nobody : (w : World) (c : ℕ) → caller_count w ≤ c → caller_of w c ≡ IsNobody
 nobody w c far =
     let none = slice_get_past w.scripts c (omega arith) in
     let not_courier : nat_lt c (clock_number w) ≡ false = grind (arith, nat_tests) in

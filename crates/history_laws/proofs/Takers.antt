@@ -9,6 +9,7 @@ use Rattle.net_base.specs.declared.packet.Packet.{Packet}
 use Rattle.net_base.specs.Directory.{Key, Slot, Dir, is_free, is_announced, is_keyed, Exactly, ByPort, ByAny, key_at, match_of, or_else, first_slot, pair_place, Taker, taker_of, may_bear}
 use Rattle.net_base.specs.Mirror.{mirror}
 use Rattle.net_base.specs.Same.{same_pair}
+use Rattle.net_base.proofs.Members.{none_is}
 
 -- Slots.
 
@@ -51,10 +52,6 @@ pub record TakerFound (pair : Pair) (packet : Packet) (d : Dir) (t : Taker) : Ty
   pub unlisted : pair_place pair 1 d.pairs ≡ None
   pub apart : same_pair pair (mirror pair) ≡ false
   pub bears : may_bear packet.body ≡ true
-
-none_is : {A : Type 0} (o : Option A) → is_none o ≡ true → o ≡ None
-none_is None is = refl
-none_is (Some x) is = absurd (false≢true is)
 
 -- the pair is new, and passes the other tests
 abbrev new_and : Pair → Packet → Slot → Dir → Bool

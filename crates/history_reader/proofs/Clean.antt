@@ -9,6 +9,7 @@ use Rattle.net_base.specs.Plain.{IsClean, IsLine}
 use Rattle.net_base.specs.Transcript.{ip_word}
 use Rattle.words.proofs.Shared.{numeral_by_steps}
 use Rattle.net_base.proofs.Shared.{number_itself}
+use Rattle.net_base.proofs.HexTexts.{digit-other}
 
 -- no byte of the word is this one
 abbrev pub IsFree : ℕ → List ℕ → Type 0
@@ -43,16 +44,9 @@ free_address s ip low =
     let more = λ (bs : List ℕ) (n : ℕ) (f : IsFree s bs). free_both s (bs ++ 46 ∷ []) (numeral n) (free_both s bs (46 ∷ []) f dot) (free_numeral s n below) in
     more _ (ip % 256) (more _ (ip / 2 ^ 8 % 256) (more _ (ip / 2 ^ 16 % 256) (free_numeral s (ip / 2 ^ 24) below)))
 
-free_hex_digit : (s n : ℕ) → s < 45 → (hex_digit n == s) ≡ false
-free_hex_digit s n low = by (nat_lt n 10)
-  where
-    by : (v : Bool) → ((if v then 48 + n else 87 + n) == s) ≡ false
-    by true = ne_eqb (48 + n) s (λ is. omega (arith, is, low))
-    by false = ne_eqb (87 + n) s (λ is. omega (arith, is, low))
-
 free_digits : (s : ℕ) (bytes : List ℕ) → s < 45 → IsFree s (hex_digits bytes)
 free_digits s [] low = tt
-free_digits s (b ∷ bytes) low = (free_hex_digit s (b / 16) low, (free_hex_digit s (b % 16) low, free_digits s bytes low))
+free_digits s (b ∷ bytes) low = (digit-other s (b / 16) low, (digit-other s (b % 16) low, free_digits s bytes low))
 
 pub free_hex : (s : ℕ) (bytes : List ℕ) → s < 45 → IsFree s (hex_word bytes)
 free_hex s [] low = (ne_eqb 45 s (λ is. omega (arith, is, low)), tt)

@@ -33,6 +33,7 @@ use Rattle.history_reader.specs.Wide.{IfAny, IsLong, IsNarrow, IsOctet, IsPlace,
 use Rattle.history_reader.proofs.Clean.{IsFree, AreFree, free_address, free_both, free_numeral, one_part, parts_back}
 use Rattle.history_reader.proofs.Exact.{AreBare, AreRows, Exact, ExactWord, IsBare, bare_row, exact_as, exact_both, exact_made, exact_one, exact_parts, exact_spelled, made_told, row, rows_sound}
 use Rattle.net_base.proofs.Shared.{number_in-spelled, number-back, within-is, address-dotted, address-back}
+use Rattle.net_base.proofs.PathNames.{proto_back}
 
 -- Numbers.
 
@@ -405,10 +406,6 @@ cause_exact =
     (exact_one spec.cause_in (λ c. cause_digit c) (λ c. Unit {0})
     (record { sound = λ word c e. (cause_sound word c e, tt); told = λ c fits. cause_told c; bare = λ c fits. cause_bare c })) digit_is
 
-proto_told : (x : Proto) → proto_named (proto_name x) ≡ Some x
-proto_told proto.Il = refl
-proto_told proto.Udp = refl
-
 proto_bare : (x : Proto) → IsBare (proto_name x)
 proto_bare proto.Il = bare (codes "il") refl refl
 proto_bare proto.Udp = bare (codes "udp") refl refl
@@ -425,7 +422,7 @@ protos x = proto_name x ∷ []
 pub proto_exact : Exact Proto spec.proto protos (λ x. Unit {0})
 proto_exact =
     exact_one proto_named proto_name (λ x. Unit {0})
-    (record { sound = λ word x e. (proto_sound word x e, tt); told = λ x fits. proto_told x; bare = λ x fits. proto_bare x })
+    (record { sound = λ word x e. (proto_sound word x e, tt); told = λ x fits. proto_back x; bare = λ x fits. proto_bare x })
 
 file_told : (x : FileName) → file_named (file_name x) ≡ Some x
 file_told file.Ctl = refl

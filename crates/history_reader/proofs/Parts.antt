@@ -3,10 +3,7 @@ use Rattle.std.proofs.Common.{◌≡◌, ℕ, ◌<◌, ◌==◌, List, [], ◌�
 use Rattle.std.specs.List.{join_with_byte}
 use Rattle.std.proofs.lemmas.List.Splits.{join_with_byte-slice_split, length-slice_split}
 use Rattle.net_base.specs.Addresses.{parts_at}
-
--- there is always a part
-some_part : (separator : ℕ) (text : List ℕ) → 0 < length (parts_at separator text)
-some_part separator text = let len = length-slice_split (λ byte. byte == separator) text in omega (arith, len)
+use Rattle.net_base.proofs.Texts.{some_part}
 
 pub some_word : (separator : ℕ) (text : List ℕ) → parts_at separator text ≡ [] → ⊥
 some_word separator text e =

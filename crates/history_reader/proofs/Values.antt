@@ -13,6 +13,8 @@ use Rattle.net_base.specs.Addresses.{is_padded}
 use Rattle.net_base.specs.Numeral.{numeral}
 use Rattle.history_reader.specs.LineReading.{is_numeral}
 use Rattle.words.proofs.Shared.{numeral_by_steps}
+use Rattle.words.proofs.Numerals.{numeral_one}
+use Rattle.net_base.proofs.NumberTexts.{in-range}
 
 -- the number that goes on with these digits
 pub value : ℕ → List ℕ → ℕ
@@ -106,16 +108,6 @@ unfolding numeral
 numeral_of zero some = absurd (omega (arith, some))
 numeral_of (suc n) some = refl
 
-numeral_one : (n : ℕ) → n < 10 → numeral n ≡ (48 + n) ∷ []
-unfolding numeral
-numeral_one zero lt = refl
-numeral_one (suc n) lt =
-    let none : suc n / 10 ≡ 0 = omega (arith, lt) in
-    let all : suc n % 10 ≡ suc n = omega (arith, lt) in
-    ap shown (digits_of_step 10 (suc n) (omega arith) (omega arith))
-    ∙ ap (λ k. shown (digits_of 10 k ++ (suc n % 10) ∷ [])) none
-    ∙ ap (λ digit. (48 + digit) ∷ []) all
-
 numeral_more : (n : ℕ) → 10 ≤ n → numeral n ≡ numeral (n / 10) ++ (48 + n % 10) ∷ []
 numeral_more n ten =
     numeral_of n (omega (arith, ten))
@@ -130,11 +122,8 @@ digit_behind n d some lt =
     let down : (n * 10 + d) % 10 ≡ d = omega (arith, lt) in
     ap (λ k. numeral k ++ (48 + d) ∷ []) (sym up) ∙ ap (λ k. numeral ((n * 10 + d) / 10) ++ (48 + k) ∷ []) (sym down) ∙ sym (numeral_more (n * 10 + d) (omega (arith, some)))
 
-in_range : (b : ℕ) → is_ascii_digit b ≡ true → IsInRange 48 57 b
-in_range b e = search (rules, e)
-
 digit_here : (b : ℕ) → is_ascii_digit b ≡ true → (48 + (b - 48) ≡ b) × (b - 48 < 10)
-digit_here b e = let r = in_range b e in (omega (arith, r.0, r.1), omega (arith, r.0, r.1))
+digit_here b e = let r = in-range b e in (omega (arith, r.0, r.1), omega (arith, r.0, r.1))
 
 spelled_on : (so_far : ℕ) (word : List ℕ) → 0 < so_far → list_all is_ascii_digit word ≡ true → numeral so_far ++ word ≡ numeral (value so_far word)
 unfolding value

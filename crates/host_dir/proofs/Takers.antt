@@ -14,10 +14,7 @@ use Rattle.host_dir.specs.declared.slots.TakerAt.{TakerAt}
 use Rattle.host_dir.specs.Found.{found_at, slot_at}
 use Rattle.host_dir.specs.Taking.{Takes, may_take}
 use Rattle.host_dir.proofs.Firsts.{passes_at}
-
-none_is : {A : Type 0} (o : Option A) → is_none o ≡ true → o ≡ None
-none_is None is = refl
-none_is (Some x) is = absurd (false≢true is)
+use Rattle.net_base.proofs.Members.{none_is}
 
 -- what matches announces
 announces : (a : Addr) (slots : List Slot) (n : ℕ) → match_of a slots ≡ found_at slots (Some n) → is_announced (slot_at slots n).kind ≡ true

@@ -35,6 +35,7 @@ use Rattle.host_net.specs.Groups.{members, seat_of, seats, visits, with_last}
 use Rattle.host_net.specs.Playing.{IsCounted, Playing, replies_of}
 use Rattle.net_guests.specs.Visits.{Visit}
 use Rattle.net_base.proofs.Shared.{in_front, in_back, in_parts, there_at, drop_one, next_one, past_all}
+use Rattle.net_guests.proofs.Firsts.{owes_some, free_none}
 
 -- One player.
 
@@ -49,15 +50,6 @@ module _ {T : Type 0} (Plays : Tuples → Script → List Reply → Names → T 
   answered_free n told none counts = λ s script.
       counts (zone_of w) s (replies_of v) v.names (is.plays s script told) ∙ sym (ap (λ (b : Bool). answered w (entries v.sight.seen) v.caller b s) none)
 
--- whether it can tell
-owes_some : (ds : List Duty) → not (length ds == 0) ≡ true → ds ≢ []
-owes_some ds is none = true≢false (sym is ∙ ap (λ (l : List Duty). not (length l == 0)) none)
-
-owes_none : (ds : List Duty) → not (length ds == 0) ≡ false → ds ≡ []
-owes_none [] is = refl
-owes_none (d ∷ ds) is =
-    absurd (true≢false (sym (ap not (apart_test (length (d ∷ ds)) 0 (λ e. omega (arith, e)))) ∙ is))
-
 pub tells_owing : {T : Type 0} (p q : Playing T) → p ≡ q → p.counts ≡ true → not (length p.visit.owed == 0) ≡ true → CanTell q
 tells_owing {T = T} p q same counts owes =
     subst (λ (x : Playing T). CanTell x) same (counts, inl (owes_some p.visit.owed owes))
@@ -70,7 +62,7 @@ tells_nothing {T = T} p q same counts = subst (λ (x : Playing T). CannotTell x)
 
 pub tells_lost : {T : Type 0} (p q : Playing T) → p ≡ q → not (length p.visit.owed == 0) ≡ false → p.lost ≡ true → CannotTell q
 tells_lost {T = T} p q same owes lost =
-    subst (λ (x : Playing T). CannotTell x) same (inr (owes_none p.visit.owed owes, lost))
+    subst (λ (x : Playing T). CannotTell x) same (inr (free_none p.visit.owed owes, lost))
 
 -- A history in which it has what it knows.
 

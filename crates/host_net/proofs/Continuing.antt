@@ -26,6 +26,7 @@ use Rattle.script_task.specs.Fitting.{fits}
 use Rattle.guest_laws.specs.Named.{Named, answer_in, named, named_step, opening}
 use Rattle.guest_laws.specs.Works.{entries, noted_net}
 use Rattle.net_base.proofs.Shared.{number_itself}
+use Rattle.guest_laws.proofs.Nets.{named_left}
 
 -- The own entries.
 
@@ -120,10 +121,6 @@ own_reply c log x is cites =
 
 abbrev plays_of : List (ℕ × Noted) → List nets.Play
 plays_of xs = map (λ (x : ℕ × Noted). record { moment = x.1.entry.moment; work = x.1.work }) xs
-
-named_left : (a : ActorName) (s : Actor) (t : Option (Step Actor)) → left_by (named a s) (option_map (named_step a) t) ≡ named a (stepped_to s t)
-named_left a s None = refl
-named_left a s (Some t) = refl
 
 -- what is known of what lies under a lock, and of replies
 abbrev pub KeepsActors : Type 0

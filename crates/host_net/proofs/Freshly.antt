@@ -31,16 +31,6 @@ kept_later c d hs lt there = in_filter (λ (h : Held). not (same_number h.0 (num
 less : (d n : ℕ) → d < suc n → (d == n) ≡ false → d < n
 less d n lt e = grind (arith, nat_tests)
 
--- the first pass has all of them
-pub all_numbers : (n d : ℕ) → d < n → In (number.Caller d, []) (caller_numbers n)
-all_numbers zero d lt = absurd (omega arith)
-all_numbers (suc n) d lt = by_place (λ below. all_numbers n d below) (d == n) refl
-  where
-    by_place : (d < n → In (number.Caller d, []) (caller_numbers n)) → (b : Bool) → (d == n) ≡ b
-        → In (number.Caller d, []) ((number.Caller n, []) ∷ caller_numbers n)
-    by_place rec true is = inl (ap (λ (k : ℕ). (number.Caller k, [])) (eqb-true d n is))
-    by_place rec false is = inr (rec (less d n lt is))
-
 -- one guest more
 pub fresh_more : (zone : Tuples) (n : ℕ) (vs : List Visit) (v : Visit) → AreFresh zone n vs → IsFresh zone (n + length vs) v → AreFresh zone n (vs ++ v ∷ [])
 fresh_more zone n [] v are is = (subst (λ (k : ℕ). IsFresh zone k v) (omega arith) is, tt)

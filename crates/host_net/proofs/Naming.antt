@@ -9,6 +9,7 @@ use Rattle.net_base.specs.declared.world.Script.{Script}
 use Rattle.net_base.specs.declared.world.World.{World}
 use Rattle.net_base.specs.Callers.{Caller, IsClock, IsCourier, IsNobody, IsScript, caller_count, caller_of, clock_number, first_courier, other_caller}
 use Rattle.net_base.proofs.Shared.{there_at}
+use Rattle.net_locks.proofs.Sighted.{clock_at}
 
 by_script : (w : World) (c : ℕ) (o : Option Script) → slice_get w.scripts c ≡ o
     → caller_of w c ≡ option_map_or (λ (s : Script). IsScript s) o (other_caller w c)
@@ -44,9 +45,6 @@ clock_number_by w c None true b is clock = absurd (true≢false (sym clock))
 clock_number_by w c None false true is clock = eqb-true c (clock_number w) is
 clock_number_by w c None false false is clock = absurd (true≢false (sym clock))
 
-clock_number_is : (w : World) (c : ℕ) → caller_of w c ≡ IsClock → c ≡ clock_number w
-clock_number_is w c clock = clock_number_by w c (slice_get w.scripts c) (nat_lt c (clock_number w)) (c == clock_number w) refl (ap is_clock clock)
-
 -- there is one clock
 pub one_clock : (w : World) (a b : ℕ) → caller_of w a ≡ IsClock → caller_of w b ≡ IsClock → a ≡ b
-one_clock w a b first second = clock_number_is w a first ∙ sym (clock_number_is w b second)
+one_clock w a b first second = clock_at w a first ∙ sym (clock_at w b second)

@@ -41,6 +41,7 @@ use Rattle.net_guests.specs.Visits.{HasGuest, IsWith, Visit}
 use Rattle.net_locks.specs.Turns.{Stays, bare, own}
 use Rattle.locked.specs.Acts.{made, without_copy}
 use Rattle.net_base.proofs.Shared.{number_itself}
+use Rattle.host_net.proofs.Continuing.{own_stays}
 
 -- A player stays one where its caller recorded nothing.
 
@@ -53,11 +54,6 @@ by_from c n (x ∷ log) = by_test (by_from c (n + 1) log) (x.entry.caller == c)
         ≡ map (λ (y : ℕ × Noted). y.1.entry) (if b then (n, x) ∷ at_from (number.Caller c) (n + 1) log else at_from (number.Caller c) (n + 1) log)
     by_test rest true = ap (λ (l : List Entry). x.entry ∷ l) rest
     by_test rest false = rest
-
-same_replies : (c : ℕ) (l m : List Noted) → at (number.Caller c) m ≡ at (number.Caller c) l → own_replies (entries m) c ≡ own_replies (entries l) c
-same_replies c l m same =
-    ap (λ (es : List Entry). map (λ (x : Entry). x.reply) (filter (λ (x : Entry). is_none x.cites) es))
-    (by_from c 0 m ∙ (ap (map (λ (y : ℕ × Noted). y.1.entry)) same ∙ sym (by_from c 0 l)))
 
 module _ {T : Type 0} (Goes : Option Asking → Tuples → Script → List Reply → Names → T → Type 0) (ts : Tasks) (w : World) where
   pub player_stays : (old new : Visit) (who : Role) (t : T) (lost : Bool) → IsPlayer Goes ts w old who t lost → new.caller ≡ old.caller
@@ -76,7 +72,7 @@ module _ {T : Type 0} (Goes : Option Asking → Tuples → Script → List Reply
       goes_on s on =
           subst (λ (c : ℕ). Goes (ts c) (zone_of w) s (own_replies (entries new.sight.seen) c) new.names t) (sym caller)
           (subst (λ (rs : List Reply). Goes (ts old.caller) (zone_of w) s rs new.names t)
-          (sym (same_replies old.caller old.sight.seen new.sight.seen stays.alone))
+          (sym (own_stays old.caller old.sight.seen new.sight.seen stays.alone))
           (subst (λ (l : Names). Goes (ts old.caller) (zone_of w) s (own_replies (entries old.sight.seen) old.caller) l t) (sym names) on))
 
   -- the clock's player has no task

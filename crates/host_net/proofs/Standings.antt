@@ -21,6 +21,7 @@ use Rattle.host_net.specs.Groups.{Apart, AreUpTo, Grouped, IsSeated, Seats, all_
 use Rattle.host_net.specs.Groups.{members, seats, visits, with_last}
 use Rattle.host_net.specs.Playing.{Playing}
 use Rattle.net_guests.specs.Visits.{HasGuest, IsWith, Visit}
+use Rattle.net_locks.proofs.Sighted.{clock_at}
 
 -- The clock's number.
 
@@ -36,10 +37,6 @@ at_tests n c m false false e none = absurd none
 at_script : (w : World) (c : ℕ) (s : Option Script) → ClockOnly (option_map_or (λ (x : Script). IsScript x) s (other_caller w c)) → c ≡ clock_number w
 at_script w c (Some s) none = absurd none
 at_script w c None is = at_tests (clock_number w) c (c - first_courier w) (nat_lt c (clock_number w)) (c == clock_number w) refl is
-
--- the clock is one caller alone
-pub clock_is_number : (w : World) (c : ℕ) → caller_of w c ≡ IsClock → c ≡ clock_number w
-clock_is_number w c is = at_script w c (slice_get w.scripts c) (subst ClockOnly (sym is) tt)
 
 -- a script is no clock
 pub no_script : (w : World) (c : ℕ) (s : Script) → caller_of w c ≡ IsClock → caller_of w c ≡ IsScript s → ⊥
@@ -152,7 +149,7 @@ module _ {T : Type 0} where
     where
       by_clock : (c : Option (Playing T)) → IfSome (option_map caller c) (λ (n : ℕ). caller_of w n ≡ IsClock) → ClockIs k c
       by_clock None is = tt
-      by_clock (Some q) is = clock_is_number w (caller q) is ∙ sym (clock_is_number w k clock)
+      by_clock (Some q) is = clock_at w (caller q) is ∙ sym (clock_at w k clock)
 
   others_seated : (w : World) (gs : List (Grouped T)) → ((s : Seats) → In s (all_seats gs) → IsSeated w s) → (q : Playing T)
       → In q (other_players gs) → caller_of w (caller q) ≡ IsClock → ⊥

@@ -412,7 +412,7 @@ actors_known r [] bs sub is k es i = absurd i
 actors_known r (a ∷ as') bs sub is k es (inl e) = let same : number.Actor a ≡ k = sym (ap (λ (h : Held). h.0) e) in (subst (Known r) same (subst (In a) is (sub a (inl refl))), ap (λ (h : Held). h.1) e)
 actors_known r (a ∷ as') bs sub is k es (inr i) = actors_known r as' bs (λ b j. sub b (inr j)) is k es i
 
-in-callers : (n c : ℕ) → c < n → In (number.Caller c, []) (caller_numbers n)
+pub in-callers : (n c : ℕ) → c < n → In (number.Caller c, []) (caller_numbers n)
 in-callers zero c lt = absurd (omega arith)
 in-callers (suc n) c lt = dite (ℕ_discrete c n)
     (λ (e : c ≡ n). inl (ap (λ (d : ℕ). (number.Caller d, [])) e))

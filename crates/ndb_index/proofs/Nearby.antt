@@ -23,6 +23,7 @@ use Rattle.ndb_index.specs.Kept.{spot_in, spots_from, spots_with}
 use Rattle.ndb_index.specs.Nets.{is_own, own_places, longest_places}
 use Rattle.ndb_index.specs.Index.{near_count}
 use Rattle.ndb_index.specs.Near.{AreWithin, Finds, SpotsWithin, tuples_at, spot_tuples, numbers_of}
+use Rattle.net_base.proofs.Members.{length_map}
 
 abbrev pub Db : Type 0
 Db = List (List (List NdbPair))
@@ -240,14 +241,10 @@ longest_count [] = omega (arith, none (range_with_len 0 33))
 longest_count (network ∷ networks) =
     omega (arith, split (λ o n. n.bits == 32 - o) network networks (range_with_len 0 33), one_of network.bits 0 33 (omega arith), longest_count networks)
 
-length-map : {X Y : Type 0} (f : X → Y) (xs : List X) → length (map f xs) ≡ length xs
-length-map f [] = refl
-length-map f (x ∷ xs) = ap (λ n. suc n) (length-map f xs)
-
 -- a system has as many spots as tuples, and its networks' places are no more than they
 pub spots_count : (attr value : List ℕ) (db : Db) → length (spots_with attr value db) ≡ length (tuples_with attr value db)
 spots_count attr value db =
-    sym (length-map (λ spot. get_or db spot.place []) (spots_with attr value db)) ∙ ap (λ (ts : Db). length ts) (spots_found attr value db)
+    sym (length_map (λ spot. get_or db spot.place []) (spots_with attr value db)) ∙ ap (λ (ts : Db). length ts) (spots_found attr value db)
 
 -- places of the tuples that contain a pair find these
 pub all_found : (attr value : List ℕ) (db : Db) (found : List ℕ) → found ≡ places_with attr value db → Finds db attr value found
@@ -256,14 +253,14 @@ all_found attr value db found are =
     record {
       within = subst (AreWithin db) (sym are) (places_within (tuple_has attr value) db);
       tuples = tuples;
-      count = sym (length-map (λ place. get_or db place []) found) ∙ ap (λ (ts : Db). length ts) tuples;
+      count = sym (length_map (λ place. get_or db place []) found) ∙ ap (λ (ts : Db). length ts) tuples;
     }
 
 pub places_count : (me : List ℕ) (db : Db) → length (longest_places (addresses_of me db) db) ≤ length (own_networks me db)
 places_count me db =
     let same : length (longest_places (addresses_of me db) db) ≡ length (longest_first (own_networks me db)) =
-    sym (length-map (λ place. get_or db place []) (longest_places (addresses_of me db) db)) ∙ ap (λ (ts : Db). length ts) (longest_tuples me db)
-    ∙ length-map (λ network. network.tuple) (longest_first (own_networks me db)) in
+    sym (length_map (λ place. get_or db place []) (longest_places (addresses_of me db) db)) ∙ ap (λ (ts : Db). length ts) (longest_tuples me db)
+    ∙ length_map (λ network. network.tuple) (longest_first (own_networks me db)) in
     omega (arith, same, longest_count (own_networks me db))
 
 -- The addresses of a system.

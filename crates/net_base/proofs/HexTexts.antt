@@ -89,7 +89,7 @@ digit-back n small = by (nat_lt n 10) refl
         ap (λ c. if c then Some (87 + n - 48) else (if nat_le 97 (87 + n) && nat_le (87 + n) 102 then Some (87 + n - 87) else None)) (not-low n t)
         ∙ (ap (λ c. if c then Some (87 + n - 87) else None) (high n t small) ∙ ap (λ (k : ℕ). Some k) (omega arith))
 
-byte-small : (b : ℕ) → is_byte b ≡ true → b < 256
+pub byte-small : (b : ℕ) → is_byte b ≡ true → b < 256
 byte-small b e = grind (arith, nat_tests)
 
 digits-back : (bytes : List ℕ) → list_all is_byte bytes ≡ true → hex_bytes (hex_digits bytes) ≡ Some bytes
@@ -110,7 +110,7 @@ hex-back (b ∷ bytes) all =
 
 -- A word of digits has no byte that is no digit.
 
-digit-other : (s n : ℕ) → s < 45 → (hex_digit n == s) ≡ false
+pub digit-other : (s n : ℕ) → s < 45 → (hex_digit n == s) ≡ false
 digit-other s n low = by (nat_lt n 10)
   where
     by : (v : Bool) → ((if v then 48 + n else 87 + n) == s) ≡ false

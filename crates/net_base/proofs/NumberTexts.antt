@@ -18,11 +18,11 @@ use Rattle.std.proofs.lemmas.Str.Parse.{numerals_by_value, tells_digits, tells_a
 use Rattle.net_base.specs.Addresses.{address_in, is_padded, join_bytes, number_in, octet_of, octets_joined, parts_at, read_byte, read_digits, within}
 use Rattle.net_base.specs.ControlWords as control
 use Rattle.net_base.specs.World.{is_within}
-use Rattle.net_base.proofs.Texts.{four_parts, value_of}
+use Rattle.net_base.proofs.Texts.{four_parts, value_of, nested}
 
 -- Numbers.
 
-in-range : (b : ℕ) → is_ascii_digit b ≡ true → IsInRange 48 57 b
+pub in-range : (b : ℕ) → is_ascii_digit b ≡ true → IsInRange 48 57 b
 in-range b e = search (rules, e)
 
 pub lt-true : (m n : ℕ) → nat_lt m n ≡ true → m < n
@@ -93,9 +93,6 @@ octet-spelled word n e = by (is_padded word) refl e
 
 -- Addresses.
 
-dotted-nested : (a b c d : ℕ) → dotted_text a b c d ≡ decimal a ++ (46 ∷ (decimal b ++ (46 ∷ (decimal c ++ (46 ∷ decimal d)))))
-dotted-nested a b c d = simp append_assoc refl
-
 abbrev four_text : List ℕ → List ℕ → List ℕ → List ℕ → List ℕ
 four_text a b c d = a ++ (46 ∷ (b ++ (46 ∷ (c ++ (46 ∷ d)))))
 
@@ -118,7 +115,7 @@ octets-dotted a b c d (Some w) (Some x) (Some y) (Some z) ip fa fb fc fd e =
           ∙ (ap (λ (t : List ℕ). four_text (decimal (ip / 2 ^ 24)) t c d) (sb.is ∙ ap (λ (n : ℕ). decimal n) (sym ex))
           ∙ (ap (λ (t : List ℕ). four_text (decimal (ip / 2 ^ 24)) (decimal (ip / 2 ^ 16 % 256)) t d) (sc.is ∙ ap (λ (n : ℕ). decimal n) (sym ey))
           ∙ (ap (λ (t : List ℕ). four_text (decimal (ip / 2 ^ 24)) (decimal (ip / 2 ^ 16 % 256)) (decimal (ip / 2 ^ 8 % 256)) t) (sd.is ∙ ap (λ (n : ℕ). decimal n) (sym ez))
-          ∙ sym (dotted-nested (ip / 2 ^ 24) (ip / 2 ^ 16 % 256) (ip / 2 ^ 8 % 256) (ip % 256)))));
+          ∙ sym (nested (ip / 2 ^ 24) (ip / 2 ^ 16 % 256) (ip / 2 ^ 8 % 256) (ip % 256)))));
       fits = omega (arith, is, la, lb, lc, ld);
     }
 octets-dotted a b c d (Some w) (Some x) (Some y) None ip fa fb fc fd e = absurd (none-some ip e)

@@ -22,7 +22,7 @@ not_clone : (text : List ℕ) → IsWithout 99 text → bytes_eq text (codes "cl
 not_clone [] all = refl
 not_clone (b ∷ bs) all = rw (all zero 0 (omega arith)) refl
 
-proto_back : (p : Proto) → proto_named (proto_name p) ≡ Some p
+pub proto_back : (p : Proto) → proto_named (proto_name p) ≡ Some p
 proto_back proto.Il = refl
 proto_back proto.Udp = refl
 

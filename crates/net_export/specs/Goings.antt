@@ -23,6 +23,8 @@ use Rattle.net_base.specs.declared.request.Request.TheVariants as request
 use Rattle.script_task.specs.Fitting.{fits_grant, fits_write, is_granted, is_unopened}
 use Rattle.net_base.specs.Requests.{bound_after, opened_names, request_play, settled}
 use Rattle.script_task.specs.Task.{fits_play}
+use Rattle.script_task.proofs.Settling.{without_free, unbind_free}
+use Rattle.session_answers.proofs.Plays.{same_ends}
 
 -- the play of a request, these names after the reply, and the request that goes on, if one does
 pub data Goes (h : ℕ) (names : Names) (r : Reply) (now : Names) : Option Request → Play → Type 0 where
@@ -89,19 +91,6 @@ keeps_bound names called (request.Wait other) r plain dotted = refl
 keeps_bound names called (request.Unbound other) r plain dotted = refl
 keeps_bound names called (request.Misuse other) r plain dotted = refl
 
-without_same : (called : List ℕ) (bound : List Bound) → fid_among called bound ≡ None → without called bound ≡ bound
-without_same called [] none = refl
-without_same called (b ∷ bs) none = by (bytes_eq called b.called) none (λ e. without_same called bs e)
-  where
-    by : (v : Bool) → (if v then Some b.fid else fid_among called bs) ≡ None → (fid_among called bs ≡ None → without called bs ≡ bs)
-        → (if not v then b ∷ without called bs else without called bs) ≡ b ∷ bs
-    by true e later = absurd (cc)
-    by false e later = ap (λ (xs : List Bound). b ∷ xs) (later e)
-
--- what isn't bound isn't unbound
-pub unbound_same : (called : List ℕ) (names : Names) → fid_of called names ≡ None → unbind called names ≡ names
-unbound_same called names none = ap (λ (xs : List Bound). record names { bound = xs }) (without_same called names.bound none)
-
 -- ---- requests
 
 module _ (h : ℕ) (names : Names) (r : Reply) where
@@ -136,7 +125,7 @@ module _ (h : ℕ) (names : Names) (r : Reply) where
     where
       found : (o : Option Fid) → fid_of called names ≡ o → Goes h names r (unbind called names) None
           (on_fid o (uses h called names) (λ (f : Fid). ends_with (conversation_of h f) (event.Close f.generation) (unbind called names)))
-      found None none = IsLast _ _ _ (ap Ends (sym (unbound_same called names none)))
+      found None none = IsLast _ _ _ (ap Ends (sym (unbind_free called names none)))
       found (Some f) is = IsLast _ _ _ refl
 
   wait_goes : (called : List ℕ) → Goes h names r names None (request_play h names (request.Wait called))
@@ -148,13 +137,6 @@ module _ (h : ℕ) (names : Names) (r : Reply) where
       found (Some f) = IsLast _ _ _ refl
 
 -- ---- a write
-
-same_ends : (r : Reply) (names : Names) → if_accepted r (Ends names) (Ends names) ≡ Ends names
-same_ends r names = by (is_accepted r)
-  where
-    by : (v : Bool) → (if v then Ends names else Ends names) ≡ Ends names
-    by true = refl
-    by false = refl
 
 module _ (h : ℕ) (names : Names) (r : Reply) (called : List ℕ) where
   abbrev waits : Option Request

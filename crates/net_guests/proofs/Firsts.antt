@@ -26,8 +26,3 @@ not_zero n = grind (arith, nat_tests)
 pub free_none : (ds : List Duty) → not (length ds == 0) ≡ false → ds ≡ []
 free_none [] free = refl
 free_none (d ∷ ds) free = absurd (true≢false (sym (not_zero (length ds)) ∙ free))
-
--- the list from its first duty on
-pub first_of : (ds : List Duty) (d : Duty) → slice_get ds 0 ≡ Some d → ds ≡ d ∷ drop 1 ds
-first_of [] d is = absurd (none-some d is)
-first_of (x ∷ ds) d is = ap (λ (y : Duty). y ∷ ds) (same_Some x d is)

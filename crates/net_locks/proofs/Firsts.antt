@@ -8,15 +8,11 @@ use Rattle.net_base.specs.declared.world.World.{World}
 use Rattle.journal.specs.declared.tokens.Sight.{Sight}
 use Rattle.duties.specs.Queue.{work_of_duty}
 use Rattle.guest_laws.specs.Guests.{IsTurn}
+use Rattle.net_base.proofs.Members.{first_of}
 
 pub first_in : (ds : List Duty) (d : Duty) → slice_get ds 0 ≡ Some d → In d ds
 first_in [] d is = absurd (none-some d is)
 first_in (x ∷ ds) d is = inl (sym (same_Some x d is))
-
--- the list from its first duty on
-pub first_of : (ds : List Duty) (d : Duty) → slice_get ds 0 ≡ Some d → ds ≡ d ∷ drop 1 ds
-first_of [] d is = absurd (none-some d is)
-first_of (x ∷ ds) d is = ap (λ (y : Duty). y ∷ ds) (same_Some x d is)
 
 -- the first duty is a turn at its actor
 pub first_turn : (w : World) (c : ℕ) (p : Sight) (ds : List Duty) (d : Duty) → slice_get ds 0 ≡ Some d → (a : ActorName) → d.actor ≡ a

@@ -35,6 +35,7 @@ use Rattle.guest_laws.specs.Guests.{HasRecorded, IsGuest, Records, StaysGuest}
 use Rattle.guest_laws.specs.Named.{answer_in, opening}
 use Rattle.guest_laws.specs.Works.{entries, noted_net}
 use Rattle.net_locks.specs.Turns.{HasRoom, IsFull, Recorded, Stays, Unready}
+use Rattle.journal.proofs.Steps.{in_has_caller}
 
 -- Room.
 
@@ -113,19 +114,10 @@ none_of : {A : Type 0} (t : Option A) → is_some t ≡ false → t ≡ None
 none_of None is = refl
 none_of (Some x) is = absurd (true≢false is)
 
-callers_hold : (hs : List Held) (c : ℕ) (list : List (ℕ × Noted)) → In (number.Caller c, list) hs → has_caller hs ≡ true
-callers_hold [] c list is = absurd is
-callers_hold (h ∷ hs) c list (inl is) = ap (λ (b : Bool). if b then true else has_caller hs) (sym (ap is_caller is))
-callers_hold (h ∷ hs) c list (inr is) = either (is_caller h) (callers_hold hs c list is)
-  where
-    either : (b : Bool) → has_caller hs ≡ true → (if b then true else has_caller hs) ≡ true
-    either true has = refl
-    either false has = has
-
 module _ (w : World) (r : Roster) (c : ℕ) (p : Sight) (ds : List Duty) (g : IsGuest w r c p ds) where
   -- the pass of a guest has a caller's number
   pub has_number : has_caller p.held ≡ true
-  has_number = callers_hold p.held c g.list g.held
+  has_number = in_has_caller p.held c g.list g.held
 
   pub unready : (now : ℕ) (a : ActorName) (work : Work) (p' : Sight) (front : ℕ) → HasRoom c p → IsNotReady (opening w) (answer_in w) r a now work p front p'
       → StaysGuest w r c p ds p'

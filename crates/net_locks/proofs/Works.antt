@@ -11,6 +11,8 @@ use Rattle.net_base.specs.Actors.{Actor, actor_step, opening_actor}
 use Rattle.net_base.specs.Net.{Play, played, stepped_to}
 use Rattle.locked.specs.Acts.{left_by, state}
 use Rattle.guest_laws.specs.Named.{Named, named, named_step, opening, answer_in}
+use Rattle.guest_laws.proofs.Nets.{named_left}
+use Rattle.guest_laws.proofs.Views.{some_under}
 
 abbrev pub plays : List (ℕ × Noted) → List Play
 plays works = map (λ (x : ℕ × Noted). record { moment = x.1.entry.moment; work = x.1.work }) works
@@ -19,18 +21,10 @@ pub as_many : (works : List (ℕ × Noted)) → length (plays works) ≡ length 
 as_many [] = refl
 as_many (x ∷ xs) = ap suc (as_many xs)
 
-some_named : (a : ActorName) (t : Option (Step Actor)) → is_some (option_map (named_step a) t) ≡ is_some t
-some_named a None = refl
-some_named a (Some s) = refl
-
-left_named : (a : ActorName) (s : Actor) (t : Option (Step Actor)) → left_by (named a s) (option_map (named_step a) t) ≡ named a (stepped_to s t)
-left_named a s None = refl
-left_named a s (Some t) = refl
-
 state_from : (w : World) (a : ActorName) (s : Actor) (works : List (ℕ × Noted)) → state (opening w) (answer_in w) (named a s) works ≡ named a (played w a s (plays works))
 state_from w a s [] = refl
 state_from w a s (x ∷ xs) =
-    ap (λ (n : Named). state (opening w) (answer_in w) n xs) (left_named a s (actor_step w a s x.1.entry.moment x.1.work))
+    ap (λ (n : Named). state (opening w) (answer_in w) n xs) (named_left a s (actor_step w a s x.1.entry.moment x.1.work))
     ∙ state_from w a (stepped_to s (actor_step w a s x.1.entry.moment x.1.work)) xs
 
 -- the state of the machine that works led to
@@ -44,4 +38,4 @@ answers w a s t now work o is = ap (option_map (named_step a)) is
 
 -- what is ready for the actor is ready for the machine
 pub ready_named : (w : World) (a : ActorName) (s : Actor) (now : ℕ) (work : Work) (q : Named) → named a s ≡ q → is_some (actor_step w a s now work) ≡ is_some (answer_in w q now work)
-ready_named w a s now work q is = sym (some_named a (actor_step w a s now work)) ∙ ap (λ (n : Named). is_some (answer_in w n now work)) is
+ready_named w a s now work q is = sym (some_under a (actor_step w a s now work)) ∙ ap (λ (n : Named). is_some (answer_in w n now work)) is

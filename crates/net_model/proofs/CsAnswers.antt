@@ -40,12 +40,9 @@ use Rattle.table_laws.specs.DirRows.{DirRow}
 use Rattle.table_laws.specs.DirRows as dir_row
 use Rattle.table_laws.proofs.Shared.{shown_reply}
 use Rattle.net_base.proofs.Shared.{same_actor_is}
+use Rattle.world_text.proofs.VersionCuts.{last-more}
 
 -- The version that a desk told last.
-
-last_more : (o : Option ℕ) (xs : List ℕ) (n : ℕ) → last_or o (xs ++ n ∷ []) ≡ Some n
-last_more o [] n = refl
-last_more o (x ∷ xs) n = last_more (Some x) xs n
 
 version_push : (h : List Entry) (x : Entry) (a : ActorName) → last_version (h ++ x ∷ []) a ≡ unwrap_or (version_told a x) (last_version h a)
 version_push h x a =
@@ -54,7 +51,7 @@ version_push h x a =
   where
     by : (o : Option ℕ) (xs : List ℕ) → unwrap_or (last_or None (xs ++ cons_option o [])) 0 ≡ unwrap_or o (unwrap_or (last_or None xs) 0)
     by None xs = ap (λ (ns : List ℕ). unwrap_or (last_or None ns) 0) (append-nil xs)
-    by (Some n) xs = ap (λ (o : Option ℕ). unwrap_or o 0) (last_more None xs n)
+    by (Some n) xs = ap (λ (o : Option ℕ). unwrap_or o 0) (last-more None xs n)
 
 -- another actor's entry tells no version of this one
 other_version : (h : List Entry) (x : Entry) (a : ActorName) → same_actor x.actor a ≡ false → last_version (h ++ x ∷ []) a ≡ last_version h a

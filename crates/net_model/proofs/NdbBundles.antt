@@ -13,6 +13,7 @@ use Rattle.ndb_text.specs.NdbSpelling.{ReadsLine, ReadsTuples, ReadsFiles, Reads
 use Rattle.ndb_text.proofs.Shared.{or_false, some_none, before_first-none, line_reads, cons_none, some_once, starts-at, goes_on-at, line_has_no_cause, tuples_read}
 use Rattle.ndb_reader.proofs.Shared.{Next, has-line, before-more, before-stop, named-more, named-stop, reading-is, bundle-is-spelled}
 use Rattle.net_base.proofs.Shared.{and_none}
+use Rattle.world_text.proofs.VersionCuts.{good-more}
 
 -- Lines that begin a file.
 
@@ -64,16 +65,12 @@ Begun before more = (has_tuple before ≡ true) ⊎ (more ≡ [])
 
 -- No line is bad.
 
-good-line : (before : List (List ℕ)) (line : List ℕ) (lines : List (List ℕ)) → causes_of (has_tuple before) line ≡ [] → first_bad causes_of (before ++ line ∷ []) lines ≡ None → first_bad causes_of before (line ∷ lines) ≡ None
-good-line before line lines good rest =
-    ap (λ (cs : List ℕ). told (length before + 1) (least cs) (first_bad causes_of (before ++ line ∷ []) lines)) good ∙ rest
-
 -- lines that read as tuples, before others that are good whatever stands before them
 good-lines : (before front tail : List (List ℕ)) (more : List (List NdbPair)) (tuples : List (List (List NdbPair))) → Begun before more → ReadsTuples front more tuples → ((passed : List (List ℕ)) → first_bad causes_of passed tail ≡ None) → first_bad causes_of before (front ++ tail) ≡ None
 good-lines before [] tail more tuples begun r rest = rest before
 good-lines before (line ∷ front) tail more tuples begun (inl (r, others)) rest =
     let g : goes_on line ≡ false = goes_on-at line true _ (ap is_empty (line_reads line [] r)) refl in
-    good-line before line (front ++ tail) (line_has_no_cause (has_tuple before) line [] (ap (λ (b : Bool). b && not (has_tuple before)) g) r)
+    good-more before line (front ++ tail) (line_has_no_cause (has_tuple before) line [] (ap (λ (b : Bool). b && not (has_tuple before)) g) r)
     (good-lines (before ++ line ∷ []) front tail more tuples (on begun) others rest)
   where
     on : Begun before more → Begun (before ++ line ∷ []) more
@@ -82,13 +79,13 @@ good-lines before (line ∷ front) tail more tuples begun (inl (r, others)) rest
 good-lines before (line ∷ front) tail more tuples (inr none) (inr (inl (pair, pairs, left, m, white, r, others))) rest =
     absurd (cons_none (sym m ∙ none))
 good-lines before (line ∷ front) tail more tuples (inl some) (inr (inl (pair, pairs, left, m, white, r, others))) rest =
-    good-line before line (front ++ tail) (line_has_no_cause (has_tuple before) line (pair ∷ pairs) (and-not (goes_on line) (has_tuple before) some) r)
+    good-more before line (front ++ tail) (line_has_no_cause (has_tuple before) line (pair ∷ pairs) (and-not (goes_on line) (has_tuple before) some) r)
     (good-lines (before ++ line ∷ []) front tail left tuples (inl (has-more before line (no-file line (pair ∷ pairs) r) ∙ or_left _ _ some)) others rest)
 good-lines before (line ∷ front) tail more tuples begun (inr (inr (pair, pairs, left, behind, m, t, white, r, others))) rest =
     let words : is_empty (pairs_of line) ≡ false = ap is_empty (line_reads line (pair ∷ pairs) r) in
     let g : goes_on line ≡ false = goes_on-at line false false words white in
     let s : starts line ≡ true = starts-at line false false words white in
-    good-line before line (front ++ tail) (line_has_no_cause (has_tuple before) line (pair ∷ pairs) (ap (λ (b : Bool). b && not (has_tuple before)) g) r)
+    good-more before line (front ++ tail) (line_has_no_cause (has_tuple before) line (pair ∷ pairs) (ap (λ (b : Bool). b && not (has_tuple before)) g) r)
     (good-lines (before ++ line ∷ []) front tail left behind
     (inl (has-more before line (no-file line (pair ∷ pairs) r) ∙ or_right (has_tuple before) _ (or_left (starts line) false s))) others rest)
 
@@ -98,7 +95,7 @@ good-files lines file [] before r =
 good-files lines file (next ∷ files) before (front, rest, is, named, r, others) =
     ap (first_bad causes_of before) is
     ∙ good-lines before front ((codes "%file " ++ next.name) ∷ rest) [] file.tuples (inr refl) r
-    (λ passed. good-line passed (codes "%file " ++ next.name) rest (file-good (has_tuple passed) next.name named)
+    (λ passed. good-more passed (codes "%file " ++ next.name) rest (file-good (has_tuple passed) next.name named)
     (good-files rest next files (passed ++ (codes "%file " ++ next.name) ∷ []) others))
 
 -- The files.

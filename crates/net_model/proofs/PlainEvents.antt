@@ -28,6 +28,7 @@ use Rattle.net_base.specs.Remotes.{is_remote_path}
 use Rattle.net_base.specs.World.{is_within, is_letter, is_name_byte, is_name, is_byte, is_text, is_word, is_step}
 use Rattle.history_laws.proofs.Shared.{Each, IsOther, own_other, IsOpened, IsNamed, Fits, IsExporting, Says}
 use Rattle.net_model.proofs.PlainTexts.{IsText, ListsTexts, decimal_text, text_append}
+use Rattle.net_base.proofs.HexTexts.{byte-small}
 
 -- The words of a file.
 
@@ -73,15 +74,12 @@ name_word (b ∷ bytes) is = name_clean (b ∷ bytes) is
 dotted_word : (called : List ℕ) → is_name called ≡ true → IsWord (dotted_name called)
 dotted_word called is = (λ same. omega (arith, same), λ same. omega (arith, same), name_clean called is)
 
-is_below : (b : ℕ) → is_byte b ≡ true → b < 256
-is_below b is = grind (arith, nat_tests)
-
 -- bytes that pass a test that bytes pass alone
 bytes_are : (test : ℕ → Bool) → ((b : ℕ) → test b ≡ true → is_byte b ≡ true) → (bytes : List ℕ) → list_all test bytes ≡ true → AreBytes bytes
 bytes_are test holds [] all = tt
 bytes_are test holds (b ∷ bytes) all =
     let parts = and_parts (test b) (list_all test bytes) all in
-    (is_below b (holds b parts.0), bytes_are test holds bytes parts.1)
+    (byte-small b (holds b parts.0), bytes_are test holds bytes parts.1)
 
 word_bytes : (word : List ℕ) → is_word word ≡ true → AreBytes word
 word_bytes [] is = tt

@@ -64,7 +64,7 @@ decide_ask a b = go (decide_both (decide_actor a.actor b.actor) (decide_event a.
     go (inl both) = inl (same_asks both.0 both.1)
     go (inr other) = inr (λ e. other (ap (λ (k : Ask). k.actor) e, ap (λ (k : Ask). k.event) e))
 
-same_shown : {r s : Reply} {e f : Option Header} {a b : Bool} → r ≡ s → e ≡ f → a ≡ b
+pub same_shown : {r s : Reply} {e f : Option Header} {a b : Bool} → r ≡ s → e ≡ f → a ≡ b
     → ◌≡◌ {A = Shown} (record { reply = r; emits = e; ended = a }) (record { reply = s; emits = f; ended = b })
 same_shown one two three = rw (one, two, three) refl
 

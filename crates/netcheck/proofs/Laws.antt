@@ -11,7 +11,7 @@ use Rattle.net_base.specs.Next.{next, next_of}
 use Rattle.history_laws.proofs.Shared.{fault_is_not_legal}
 use Rattle.netcheck.specs.Judged.{KeepsAt}
 use Rattle.netcheck.proofs.Least.{same_rule}
-use Rattle.netcheck.proofs.Nobody.{is_nobody}
+use Rattle.history_laws.proofs.Limits.{nobody}
 
 -- One fault.
 
@@ -64,4 +64,4 @@ one_fault w h s t r q f g = by_order (cases_order s t)
 -- Nobody.
 
 pub nothing_next : (w : World) (h : List Entry) (c : ℕ) → caller_count w ≤ c → next w h c ≡ None
-nothing_next w h c past = ap (λ (k : Caller). next_of w k h c) (is_nobody w c past)
+nothing_next w h c past = ap (λ (k : Caller). next_of w k h c) (nobody w c past)

@@ -1,5 +1,6 @@
 -- What an answer of check says.
 use Rattle.std.proofs.Common.{◌≡◌, ℕ, ◌+◌, ◌⊎◌, Bool, true, false, List, length, Option, Some, None, Ok, Err, Result, refl, sym, ◌∙◌, ap, inl, inr, arith}
+use Rattle.std.proofs.lemmas.Option.{none-some}
 use Rattle.net_base.specs.declared.world.World.{World}
 use Rattle.net_model.specs.Answers.{Answer, all_kept, rule_broken}
 use Rattle.net_model.specs.Words.{Check}
@@ -10,20 +11,17 @@ use Rattle.commands.specs.Checked.{BreaksOne, IsChecked, KeepsAll}
 use Rattle.command_line.specs.Asking.{IsGiven, is_over}
 use Rattle.command_line.proofs.Shared.{given_good, told_of}
 
-none_some : (bad : ℕ × ℕ) → None ≡ Some bad → ⊥
-none_some bad h = cc
-
 -- an input of which no line is bad hands in a world and a history
 
 world_handed : (input : List ℕ) (parts : Parts) → parts_of input ≡ Some parts → (read : Result World (ℕ × ℕ)) → world_reading parts.world ≡ read
     → IsBadFrom (bad_world read) (IsBadHistory (parts.lines + 1) parts.history) None → Handed input
-world_handed input parts are (Err bad) is told = absurd (none_some bad told)
+world_handed input parts are (Err bad) is told = absurd (none-some bad told)
 world_handed input parts are (Ok w) is told =
     record { parts = parts; world = w; history = told.0; told = told.1; are_parts = are; is_world = is; spelled = told.2 }
 
 no_world_handed : (input : List ℕ) (bad : Option (ℕ × ℕ)) → IsBadFrom bad (λ (found : Option (ℕ × ℕ)). found ≡ Some (no_history input)) None → Handed input
-no_world_handed input None told = absurd (none_some (no_history input) told)
-no_world_handed input (Some bad) told = absurd (none_some bad told)
+no_world_handed input None told = absurd (none-some (no_history input) told)
+no_world_handed input (Some bad) told = absurd (none-some bad told)
 
 parts_handed : (input : List ℕ) (parts : Option Parts) → parts_of input ≡ parts → IsBadHanded parts input None → Handed input
 parts_handed input None are told = no_world_handed input (bad_world (world_reading input)) told
@@ -33,7 +31,7 @@ pub handed_in : (input : List ℕ) → IsFirstBad Check input None → Handed in
 handed_in input good = by (is_over asking Check input) refl
   where
     by : (over : Bool) → is_over asking Check input ≡ over → Handed input
-    by true is = absurd (none_some (0, 9) (told_of _ asking Check input true is None good))
+    by true is = absurd (none-some (0, 9) (told_of _ asking Check input true is None good))
     by false is = parts_handed input (parts_of input) refl (told_of _ asking Check input false is None good)
 
 -- the status of an answer that is this one

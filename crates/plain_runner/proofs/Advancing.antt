@@ -29,7 +29,7 @@ use Rattle.calm_laws.proofs.Shared.{clock_is}
 
 -- The clock is ready to move at any time.
 
-played_plain : (w : World) (ps : List Play) → played w name.Clock IsPlain ps ≡ IsPlain
+pub played_plain : (w : World) (ps : List Play) → played w name.Clock IsPlain ps ≡ IsPlain
 played_plain w [] = refl
 played_plain w (p ∷ ps) = ap (λ (s : Actor). played w name.Clock s ps) (one (clock_reply p.work.event)) ∙ played_plain w ps
   where
@@ -37,7 +37,7 @@ played_plain w (p ∷ ps) = ap (λ (s : Actor). played w name.Clock s ps) (one (
     one None = refl
     one (Some r) = refl
 
-clock_plain : (w : World) (h : List Entry) → (after w h).actors name.Clock ≡ IsPlain
+pub clock_plain : (w : World) (h : List Entry) → (after w h).actors name.Clock ≡ IsPlain
 clock_plain w h = state_is_fold w h name.Clock ∙ played_plain w (works w h name.Clock)
 
 clock_ready : (w : World) (h : List Entry) (now m : ℕ) (t : Turn) → IsMoving t m

@@ -98,7 +98,7 @@ one_more_entry [] k lt = absurd (omega (arith, lt))
 one_more_entry (y ∷ h) zero lt = (y, refl, refl)
 one_more_entry (y ∷ h) (suc k) lt = let rest = one_more_entry h k (omega (arith, lt)) in (rest.0, rest.1, ap (λ (xs : List Entry). y ∷ xs) rest.2)
 
-move_within : (w : World) (net : Net) (e : Event) → IsInTime net w e → net.moment ≤ w.end → moment_after net.moment e ≤ w.end
+pub move_within : (w : World) (net : Net) (e : Event) → IsInTime net w e → net.moment ≤ w.end → moment_after net.moment e ≤ w.end
 move_within w net (event.Move m) in_time before = subst (λ (n : ℕ). n ≤ w.end) (sym in_time.1) (within_last w.end _)
 move_within w net _ in_time before = before
 

@@ -28,6 +28,7 @@ use Rattle.plain_runner.specs.Callers.{GoesOn, HasRole, IsCaller, IsEntryOf, IsS
 use Rattle.plain_runner.specs.Turns.{AreOwn, IsOwn, IsTurn, OfDuty, ask_of, asks_of, may_turn, may_turn_by}
 use Rattle.plain_runner.proofs.Replies.{before_last, duty_replies, next_replies}
 use Rattle.net_base.proofs.Shared.{script_is}
+use Rattle.net_base.proofs.Members.{first_of, none_first}
 
 -- What comes next.
 
@@ -49,20 +50,12 @@ next_alike w IsNobody h later c same = refl
 
 -- Whether it may record.
 
-first_is : (ds : List Duty) (d : Duty) → slice_get ds 0 ≡ Some d → ds ≡ d ∷ drop 1 ds
-first_is [] d is = absurd (none-some d is)
-first_is (e ∷ ds) d is = ap (λ (f : Duty). f ∷ ds) (same_Some e d is)
-
-none_is : (ds : List Duty) → slice_get ds 0 ≡ None → ds ≡ []
-none_is [] is = refl
-none_is (e ∷ ds) is = absurd (none-some e (sym is))
-
 pub owes_first : (w : World) (h : List Entry) (c : ℕ) (k : Caller) (d : Duty) → IsCaller w h c k → slice_get k.owed.list 0 ≡ Some d
     → owed w h c ≡ d ∷ drop 1 k.owed.list
-owes_first w h c k d kept is = sym kept.owes ∙ first_is k.owed.list d is
+owes_first w h c k d kept is = sym kept.owes ∙ first_of k.owed.list d is
 
 pub owes_none : (w : World) (h : List Entry) (c : ℕ) (k : Caller) → IsCaller w h c k → slice_get k.owed.list 0 ≡ None → owed w h c ≡ []
-owes_none w h c k kept is = sym kept.owes ∙ none_is k.owed.list is
+owes_none w h c k kept is = sym kept.owes ∙ none_first k.owed.list is
 
 pub may_duty : (w : World) (h : List Entry) (c : ℕ) (k : Caller) (d : Duty) (now : ℕ) → IsCaller w h c k → slice_get k.owed.list 0 ≡ Some d
     → now ≡ (after w h).moment

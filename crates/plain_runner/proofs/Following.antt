@@ -106,7 +106,7 @@ followed_so w r new x y f tracks history caller asked = record {
 
 -- No move.
 
-no_move : (x : Entry) → ((m : ℕ) → x.event ≡ event.Move m → ⊥) → IsMove x.actor x.event → ⊥
+pub no_move : (x : Entry) → ((m : ℕ) → x.event ≡ event.Move m → ⊥) → IsMove x.actor x.event → ⊥
 no_move x other = by_event x.actor x.event refl
   where
     by_event : (a : ActorName) (e : Event) → x.event ≡ e → IsMove a e → ⊥
@@ -123,7 +123,7 @@ grown_follows w r new x y f other g =
     may : MayFollow w r.history.entries y
     may = last_follows w r.history.entries y (subst (IsLegal w) g.history_is g.tracks.history.legal)
 
-some_step : (o : Option (Step Actor)) → IsSome (option_map (λ (s : Step Actor). s.outcome) o) → is_some o ≡ true
+pub some_step : (o : Option (Step Actor)) → IsSome (option_map (λ (s : Step Actor). s.outcome) o) → is_some o ≡ true
 some_step (Some s) is = refl
 some_step None is = absurd (false≢true is)
 

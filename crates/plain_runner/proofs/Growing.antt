@@ -36,7 +36,7 @@ use Rattle.plain_runner.proofs.Replies.{one_entry_more}
 -- The actor.
 
 -- what is ready is there
-has_by : (b : Bool) (o : Option (Step Actor)) → is_some (when b o) ≡ true → b ≡ true
+pub has_by : (b : Bool) (o : Option (Step Actor)) → is_some (when b o) ≡ true → b ≡ true
 has_by true o ready = refl
 has_by false o ready = absurd (false≢true ready)
 

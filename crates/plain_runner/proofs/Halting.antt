@@ -19,6 +19,7 @@ use Rattle.history_laws.proofs.Shared.{after_push, at_push, by_entries, timed_ta
 use Rattle.calm_laws.proofs.Shared.{Kind, OfScript, OfCourier, OfClock, clock_is, clock_waits, courier_is, is_calm, kind_of}
 use Rattle.net_base.proofs.Shared.{none_range, not_below, some_range, script_is, within_last}
 use Rattle.plain_runner.proofs.Recorded.{step_moment}
+use Rattle.plain_runner.proofs.Bounds.{move_within}
 
 -- The moment is never past the end.
 
@@ -26,11 +27,6 @@ abbrev due_and_awaited : World → Net → List ℕ
 due_and_awaited w net =
     filter_map (λ (a : ActorName). due_of (net.actors a)) (conversations w)
     ++ filter_map (λ (c : ℕ). awaited_moment (next_of w (caller_of w c) net.past c)) (callers w)
-
-event_within : (w : World) (net : Net) (e : Event) → IsInTime net w e → net.moment ≤ w.end → moment_after net.moment e ≤ w.end
-event_within w net (event.Move m) timed before = let e : least w.end (due_and_awaited w net) ≤ w.end = within_last w.end (due_and_awaited w net) in omega
-    (arith, timed.1, e)
-event_within w net _ timed before = before
 
 pub moment_within : (w : World) (h : List Entry) → IsLegal w h → IsTimed w h → moment w h ≤ w.end
 moment_within w h legal timed = by_entries w (λ (k : List Entry). IsTimed w k → moment w k ≤ w.end) (λ none. omega arith) push h legal timed
@@ -43,7 +39,7 @@ moment_within w h legal timed = by_entries w (λ (k : List Entry). IsTimed w k �
         let comes : IsInTime (after w k) w x.event = subst (λ (p : List Entry). IsInTime (after w p) w x.event) front (timed (length k) x (at_push k x)) in
         let now : moment w (k ++ x ∷ []) ≡ moment_after (moment w k) x.event = ap (λ (net : Net). net.moment) (after_push w k x)
         ∙ step_moment w (after w k) x (step_of w (after w k) x) may.is_ready in
-        subst (λ (m : ℕ). m ≤ w.end) (sym now) (event_within w (after w k) x.event comes was)
+        subst (λ (m : ℕ). m ≤ w.end) (sym now) (move_within w (after w k) x.event comes was)
 
 -- Limits.
 

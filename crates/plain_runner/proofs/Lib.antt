@@ -8,9 +8,9 @@ pub mod Could
 pub mod Targets
 pub mod Advancing
 pub mod Following
-mod Bounds
+pub mod Bounds
 mod CallerLaws
-mod Growing
+pub mod Growing
 mod NoBytes
 mod Replies
 mod Ticks

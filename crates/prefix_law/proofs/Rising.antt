@@ -39,13 +39,9 @@ use Rattle.history_laws.proofs.Shared.{after_push, by_entries, legal_take, one_m
 use Rattle.prefix_law.proofs.Untils.{UntilAt, FineNext, fine_position}
 use Rattle.prefix_law.proofs.Waits.{Beyond}
 use Rattle.net_base.proofs.Shared.{in_front, in_back, in_parts, there_at, same_actor_is, same_itself}
+use Rattle.net_base.proofs.Members.{in_flat}
 
 -- Lists.
-
-in_flat : {A B : Type 0} (f : A → List B) (xs : List A) (x : A) (y : B) → In x xs → In y (f x) → In y (flat_map f xs)
-in_flat f [] x y there in_f = absurd there
-in_flat f (z ∷ xs) x y (inl is) in_f = in_front y (f z) (flat_map f xs) (subst (λ u. In y (f u)) is in_f)
-in_flat f (z ∷ xs) x y (inr there) in_f = in_back y (f z) (flat_map f xs) (in_flat f xs x y there in_f)
 
 -- each is beyond
 abbrev pub Above : ℕ → List ℕ → Type 0

@@ -3,6 +3,7 @@ use Rattle.std.proofs.Common.{◌≡◌, ℕ, zero, suc, ◌+◌, ◌-◌, ◌<�
 use Rattle.std.proofs.lemmas.Bool.{true≢false, false≢true, lt-ltb}
 use Rattle.std.proofs.lemmas.Bool.Decides.{nat_tests}
 use Rattle.std.proofs.lemmas.Option.{none-some, same_Some}
+use Rattle.std.proofs.lemmas.List.{append-nil}
 use Rattle.net_base.specs.declared.left.Left.{Left}
 use Rattle.net_base.specs.declared.reply.Reply.{Reply}
 use Rattle.net_base.specs.declared.world.Script.{Script}
@@ -26,16 +27,9 @@ use Rattle.step_task.specs.Leaving.{after_one, leaves_so}
 use Rattle.step_task.specs.StepTasks.{StandsFor, asks, after, after_all, begun, leaves, left_by as left_by_task}
 use Rattle.step_task.specs.StepLaws.{asks_alike, asks_so, begun_asks, begun_stands, moves_so}
 use Rattle.script_player.specs.Players.{Playing, kept, position_after, next_after, Plays, Knows, InStep, Between, IsAtBy, IsAt, begun_by, begun_in, request_by, request_of, asked_by, asked_at, with_room, prepared_by, prepared, expected_by, expected_in, heard_by, heard, left_by, left}
+use Rattle.net_base.proofs.Members.{append_one, none_is}
 
 -- Lists.
-
-append_nothing : (xs : List Reply) → xs ++ [] ≡ xs
-append_nothing [] = refl
-append_nothing (x ∷ xs) = ap (λ ys. x ∷ ys) (append_nothing xs)
-
-append_one : (xs : List Reply) (r : Reply) (more : List Reply) → (xs ++ r ∷ []) ++ more ≡ xs ++ r ∷ more
-append_one [] r more = refl
-append_one (x ∷ xs) r more = ap (λ ys. x ∷ ys) (append_one xs r more)
 
 drop_at : (k : ℕ) (ss : List Step) (s : Step) → slice_get ss k ≡ Some s → drop k ss ≡ s ∷ drop (suc k) ss
 drop_at k [] s is = absurd (none-some s is)
@@ -107,7 +101,7 @@ heads zone s rs p t q step is = subst (λ (o : Option Request). Heads s.host p.h
 at_event : (zone : Tuples) (s : Script) (rs said : List Reply) (l : Left) (play : Play) (at : Step) (rest : List Step) (ask : Ask) → head play ≡ Some ask → Plays zone s rs said l play at rest
     → position_after zone s rs ≡ record { next = Some ask; left = at ∷ rest }
 at_event zone s rs said l (Asks a e next) at rest ask is plays =
-    ap (λ (xs : List Reply). position_after zone s xs) (sym (append_nothing rs)) ∙ plays [] ∙ ap (λ (o : Option Ask). record { next = o; left = at ∷ rest }) is
+    ap (λ (xs : List Reply). position_after zone s xs) (sym (append-nil rs)) ∙ plays [] ∙ ap (λ (o : Option Ask). record { next = o; left = at ∷ rest }) is
 at_event zone s rs said l (Ends names) at rest ask is plays = absurd (none-some ask is)
 
 -- there is a request where it isn't through
@@ -124,7 +118,7 @@ step_next zone s rs p t step =
 -- no step is left
 none_left : (zone : Tuples) (s : Script) (rs : List Reply) (p : Playing) → Between zone s rs p → slice_get s.steps p.finished ≡ None → position_after zone s rs ≡ record { next = None; left = [] }
 none_left zone s rs p between is =
-    ap (λ (xs : List Reply). position_after zone s xs) (sym (append_nothing rs)) ∙ between.leaves [] ∙ ap (λ (ss : List Step). position s.host ss (kept p) []) (drop_none p.finished s.steps is)
+    ap (λ (xs : List Reply). position_after zone s xs) (sym (append-nil rs)) ∙ between.leaves [] ∙ ap (λ (ss : List Step). position s.host ss (kept p) []) (drop_none p.finished s.steps is)
 
 next_is : (zone : Tuples) (s : Script) (rs : List Reply) (p : Playing) (t : Option StepTask) (o : Option Step) → p.task ≡ t → slice_get s.steps p.finished ≡ o → IsAtBy zone s rs p t → asked_at s.host (begun_by p t o) ≡ next_after zone s rs
 next_is zone s rs p (Some t) o task is at = ap (λ (u : Option StepTask). asked_by s.host p.holdings.names (request_by p.holdings.names u)) task ∙ step_next zone s rs p t at
@@ -235,10 +229,6 @@ moved zone s rs p t step e ask r knows is fit =
       plays = plays_on zone s rs step.said p.left step.play step.step step.rest heading.0 r heading.1 step.plays;
     }
 
-none_is : (o : Option Request) → is_none o ≡ true → o ≡ None
-none_is None is = refl
-none_is (Some q) is = absurd (false≢true is)
-
 -- the step goes on, or the next one comes
 goes_on : (zone : Tuples) (s : Script) (rs : List Reply) (p : Playing) (t : StepTask) (step : InStep zone s rs p t) (r : Reply) (b : Holdings) → Moved zone s rs p t step r b.names
     → (through : Bool) → is_none (asks (after t r) b.names) ≡ through → (l : Left) → l ≡ (if through then leaves (after t r) p.left else p.left)
@@ -272,7 +262,7 @@ goes_on zone s rs p t step r b moves true is l same =
       leaves = λ later. moves.plays later
           ∙ (ap (λ (x : Play). position_by (stands x later) (step.step ∷ step.rest)
           (λ (names : Names) (rest : List Reply). position s.host step.rest (record { names = names; left = left_after p.left step.step (said ++ first_replies x later) }) rest)) ends
-          ∙ (ap (λ (xs : List Reply). position s.host step.rest (record { names = b.names; left = left_after p.left step.step xs }) later) (append_nothing said)
+          ∙ (ap (λ (xs : List Reply). position s.host step.rest (record { names = b.names; left = left_after p.left step.step xs }) later) (append-nil said)
           ∙ (ap (λ (x : Left). position s.host step.rest (record { names = b.names; left = x }) later) left_is_so
           ∙ ap (λ (ss : List Step). position s.host ss (record { names = b.names; left = l }) later) (sym more.1))));
       within = omega (arith, more.0);

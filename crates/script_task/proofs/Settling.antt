@@ -12,7 +12,7 @@ use Rattle.script_task.specs.declared.effect.Effect.TheVariants.{Keeps}
 use Rattle.script_task.specs.Effects.{effect_of, opens_as, closes, opened, settles}
 use Rattle.net_base.specs.Requests.{settled, bound_after}
 
-without_free : (called : List ℕ) (bound : List Bound) → fid_among called bound ≡ None → without called bound ≡ bound
+pub without_free : (called : List ℕ) (bound : List Bound) → fid_among called bound ≡ None → without called bound ≡ bound
 without_free called [] free = refl
 without_free called (b ∷ bs) free = by (bytes_eq called b.called) refl free (without_free called bs)
   where
@@ -21,7 +21,7 @@ without_free called (b ∷ bs) free = by (bytes_eq called b.called) refl free (w
     by true is free rest = absurd (search (rules, tests, free))
     by false is free rest = ap (λ (xs : List Bound). b ∷ xs) (rest free)
 
-unbind_free : (called : List ℕ) (names : Names) → fid_of called names ≡ None → unbind called names ≡ names
+pub unbind_free : (called : List ℕ) (names : Names) → fid_of called names ≡ None → unbind called names ≡ names
 unbind_free called names free = ap (λ (xs : List Bound). record names { bound = xs }) (without_free called names.bound free)
 
 closed : (called : List ℕ) (b : Holdings) (o : Option Fid) (r : Reply) → fid_of called b.names ≡ o → (settles (closes called o) (opened (closes called o) r) b).names ≡ unbind called b.names

@@ -1,5 +1,5 @@
 pub mod OwnReplies
-mod Plays
+pub mod Plays
 mod Walks
 mod Fits
 mod Answering

@@ -26,6 +26,7 @@ use Rattle.script_task.specs.Planning.{ask_of}
 use Rattle.net_base.specs.Requests.{bound_after, head, planned, request_play, settled}
 use Rattle.script_task.specs.Holdings.{Holdings}
 use Rattle.session_answers.specs.Served.{IsServed, Plays, asked, is_grant}
+use Rattle.script_task.proofs.Settling.{without_free, unbind_free}
 
 -- what a play does by its first event
 data Ahead (after : Reply → Names) : Play → Type 0 where
@@ -36,7 +37,7 @@ data Ahead (after : Reply → Names) : Play → Type 0 where
       → ((x : Reply) → next x ≡ if_accepted x (Asks b f last) (Ends (after x))) → ((x y : Reply) → last y ≡ Ends (after x)) → is_grant e ≡ true
       → Ahead after (Asks a e next)
 
-same_ends : (x : Reply) (names : Names) → if_accepted x (Ends names) (Ends names) ≡ Ends names
+pub same_ends : (x : Reply) (names : Names) → if_accepted x (Ends names) (Ends names) ≡ Ends names
 same_ends x names = by (is_accepted x)
   where
     by : (v : Bool) → cond v (Ends names) (Ends names) ≡ Ends names
@@ -101,23 +102,12 @@ read_ahead h names called count = by (fid_of called names)
         (misuses h called names)
         (One _ _ _ (event_no f f.file) (λ x. refl)) (One _ _ _ refl (λ x. refl))
 
-without_same : (called : List ℕ) (bound : List Bound) → fid_among called bound ≡ None → without called bound ≡ bound
-without_same called [] none = refl
-without_same called (b ∷ bs) none = by (bytes_eq called b.called) refl none (λ e. without_same called bs e)
-  where
-    by : (v : Bool) → bytes_eq called b.called ≡ v → cond v (Some b.fid) (fid_among called bs) ≡ None → (fid_among called bs ≡ None → without called bs ≡ bs) → without called (b ∷ bs) ≡ b ∷ bs
-    by true is e later = absurd (cc)
-    by false is e later = rw is (ap (λ (xs : List Bound). b ∷ xs) (later e))
-
-unbound_same : (called : List ℕ) (names : Names) → fid_of called names ≡ None → unbind called names ≡ names
-unbound_same called names none = ap (λ (xs : List Bound). record names { bound = xs }) (without_same called names.bound none)
-
 close_ahead : (h : ℕ) (names : Names) (called : List ℕ) → Ahead (settled names (asked (step.Close called))) (request_play h names (asked (step.Close called)))
 close_ahead h names called = by (fid_of called names) refl
   where
     by : (o : Option Fid) → fid_of called names ≡ o → Ahead (λ (x : Reply). unbind called names)
         (on_fid o (uses h called names) (λ (f : Fid). ends_with (conversation_of h f) (event.Close f.generation) (unbind called names)))
-    by None none = One _ _ _ refl (λ x. ap Ends (sym (unbound_same called names none)))
+    by None none = One _ _ _ refl (λ x. ap Ends (sym (unbind_free called names none)))
     by (Some f) found = One _ _ _ refl (λ x. refl)
 
 open_ahead : (h : ℕ) (names : Names) (called path : List ℕ) (m : Mode) → Ahead (settled names (asked (step.Open called path (Some m)))) (request_play h names (asked (step.Open called path (Some m))))

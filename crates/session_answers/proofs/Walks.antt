@@ -5,15 +5,11 @@ use Rattle.std.proofs.lemmas.List.{at_drop_more, drop_all}
 use Rattle.net_base.specs.declared.names.Node.{Node}
 use Rattle.net_base.specs.declared.ninep.Qid.{Qid}
 use Rattle.net_base.specs.SessionFiles.{qid_of, step_to, walked}
+use Rattle.session_script.proofs.Walks.{next_name}
 
 -- the qids so far, and those of what is left
 abbrev pub passed : List Qid → Node → List (List ℕ) → List Qid
 passed qids at names = qids ++ map qid_of (walked at names)
-
-next_name : (names : List (List ℕ)) (i : ℕ) (name : List ℕ) → i < length names → name ≡ get_or names i name → drop i names ≡ name ∷ drop (i + 1) names
-next_name names i name lt is =
-    at_drop_more (λ (xs : List (List ℕ)). xs) names i name lt
-    ∙ ap (λ (x : List ℕ). x ∷ drop (i + 1) names) (sym is)
 
 passes : (qids : List Qid) (at : Node) (names : List (List ℕ)) (i : ℕ) (name : List ℕ) (o : Option Node) → i < length names → name ≡ get_or names i name
     → step_to at name ≡ o → passed qids at (drop i names) ≡ qids ++ map qid_of (option_map_or (λ (next : Node). next ∷ walked next (drop (i + 1) names)) o [])

@@ -6,7 +6,7 @@ use Rattle.net_base.specs.declared.names.Node.{Node}
 use Rattle.net_base.specs.SessionFiles.{reached, step_to}
 
 -- the next name, and those behind it
-next_name : (names : List (List ℕ)) (i : ℕ) (name : List ℕ) → i < length names → name ≡ get_or names i name → drop i names ≡ name ∷ drop (i + 1) names
+pub next_name : (names : List (List ℕ)) (i : ℕ) (name : List ℕ) → i < length names → name ≡ get_or names i name → drop i names ≡ name ∷ drop (i + 1) names
 next_name names i name lt is =
     at_drop_more (λ (xs : List (List ℕ)). xs) names i name lt
     ∙ ap (λ (x : List ℕ). x ∷ drop (i + 1) names) (sym is)

@@ -3,6 +3,7 @@ use Rattle.std.proofs.Common.{◌≡◌, ℕ, zero, suc, ◌+◌, ◌<◌, ◌�
 use Rattle.std.proofs.lemmas.Bool.Decides.{nat_tests}
 use Rattle.std.proofs.lemmas.Bool.{true≢false, lt-ltb, lt-leb}
 use Rattle.std.proofs.lemmas.Option.{none-some}
+use Rattle.std.proofs.lemmas.List.{append-nil}
 use Rattle.net_base.specs.declared.left.Left.{Left}
 use Rattle.net_base.specs.declared.reply.Reply.{Reply}
 use Rattle.net_base.specs.declared.world.Script.{Script}
@@ -23,16 +24,9 @@ use Rattle.step_task.specs.StepLaws as step_laws
 use Rattle.step_task.specs.StepTasks as step
 use Rattle.whole_script.specs.ScriptLaws.{begins, ended_play, step_heads}
 use Rattle.whole_script.specs.ScriptTasks.{Scripting, finished_in, AtStep, AtEnd, begun_at, begun_by, progress, goes_on, Kept, asks, first_asked, after, heard, told_by, is_played, left_by, after_all, AllFit, then_play, plays_of, plays_behind, Plays}
+use Rattle.net_base.proofs.Members.{append_one}
 
 -- Replies.
-
-append_nothing : (xs : List Reply) → xs ++ [] ≡ xs
-append_nothing [] = refl
-append_nothing (x ∷ xs) = ap (λ ys. x ∷ ys) (append_nothing xs)
-
-append_one : (xs : List Reply) (r : Reply) (more : List Reply) → (xs ++ r ∷ []) ++ more ≡ xs ++ r ∷ more
-append_one [] r more = refl
-append_one (x ∷ xs) r more = ap (λ ys. x ∷ ys) (append_one xs r more)
 
 -- The play of the steps is the script's.
 
@@ -57,7 +51,7 @@ step_ties : (h : ℕ) (left : Left) (s : Step) (ss : List Step) → ((k : Holds)
     → (said : List Reply) (p : Play) (rs : List Reply)
     → Ties (position_by (stands p rs) (s ∷ ss) (behind_at h ss left s (said ++ first_replies p rs))) (rest (then_play said p (plays_behind h ss left s)) rs)
 step_ties h left s ss later said (Ends names) rs =
-    subst (λ (xs : List Reply). Ties (behind_at h ss left s xs names rs) (rest (plays_behind h ss left s names said) rs)) (sym (append_nothing said))
+    subst (λ (xs : List Reply). Ties (behind_at h ss left s xs names rs) (rest (plays_behind h ss left s names said) rs)) (sym (append-nil said))
     (later (record { names = names; left = left_after left s said }) rs)
 step_ties h left s ss later said (Asks a e next) [] = record { next_is = refl; left_is = lt-ltb 0 (suc (length ss)) (omega arith) }
 step_ties h left s ss later said (Asks a e next) (r ∷ rs) =
@@ -121,7 +115,7 @@ adds_by h rs more n names left t behind s said p at told leaves true is fit =
     let there : finished_in (after_all (begun_at (n + 1) (step.leaves t left) behind) rs) + length (behind_at h behind left s said names rs).left ≡ (n + 1) + length behind =
     subst (λ (l : Left). finished_in (after_all (begun_at (n + 1) (step.leaves t left) behind) rs) + length (position h behind (record { names = names; left = l }) rs).left ≡ (n + 1) + length behind) leaves next in
     let all : finished_in (after_all (begun_at (n + 1) (step.leaves t left) behind) rs) + length (behind_at h behind left s (said ++ []) names rs).left ≡ (n + 1) + length behind =
-    subst (λ (xs : List Reply). finished_in (after_all (begun_at (n + 1) (step.leaves t left) behind) rs) + length (behind_at h behind left s xs names rs).left ≡ (n + 1) + length behind) (sym (append_nothing said)) there in
+    subst (λ (xs : List Reply). finished_in (after_all (begun_at (n + 1) (step.leaves t left) behind) rs) + length (behind_at h behind left s xs names rs).left ≡ (n + 1) + length behind) (sym (append-nil said)) there in
     let same : (n + 1) + length behind ≡ n + suc (length behind) = omega arith in
     subst (λ (x : Play).
     finished_in (after_all (begun_at (n + 1) (step.leaves t left) behind) rs) + length (position_by (stands x rs) (s ∷ behind) (behind_at h behind left s (said ++ first_replies x rs))).left ≡ n + suc (length behind)) (sym over)
@@ -169,7 +163,7 @@ starts zone s ss left is none =
     (subst (λ (xs : List Step). Plays zone s [] (no_names zone) (begun_at 0 nothing_left xs)) (sym is) (starts_at zone s))
 
 pub finished_right : (zone : Tuples) (s : Script) (rs : List Reply) (names : Names) (t : Scripting) → Plays zone s rs names t → finished_in t ≡ finished_by zone rs s
-finished_right zone s rs names t at = subst (λ (xs : List Reply). finished_in t ≡ finished_by zone xs s) (append_nothing rs) (at.counts [] tt)
+finished_right zone s rs names t at = subst (λ (xs : List Reply). finished_in t ≡ finished_by zone xs s) (append-nil rs) (at.counts [] tt)
 
 -- What the fields stand for.
 

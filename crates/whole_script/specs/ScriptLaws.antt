@@ -24,12 +24,9 @@ use Rattle.step_task.specs.StepLaws as step_laws
 use Rattle.step_task.specs.StepTasks as step
 use Rattle.whole_script.specs.ScriptTasks.{Scripting, finished_in, AtStep, AtEnd, begun_at, goes_on, asks, after, after_all, then_play, plays_behind, plays_of, StandsFor, Plays, Goes}
 use Rattle.whole_script.specs.Wholes.{AsksThere, Comes, GoesThere, PlaysThere}
+use Rattle.net_base.proofs.Members.{append_one, none_is}
 
 -- Plays, one after another.
-
-none_is : (o : Option Request) → is_none o ≡ true → o ≡ None
-none_is None is = refl
-none_is (Some q) is = absurd (false≢true is)
 
 abbrev Later : Type 0
 Later = Names → List Reply → Play
@@ -109,10 +106,6 @@ moves_so h names (AtStep n left t behind) p q r at asked fit =
 moves_so h names (AtEnd n left) p q r at asked fit = absurd (none-some q asked)
 
 -- The script goes on.
-
-append_one : (xs : List Reply) (r : Reply) (more : List Reply) → (xs ++ r ∷ []) ++ more ≡ xs ++ r ∷ more
-append_one [] r more = refl
-append_one (x ∷ xs) r more = ap (λ ys. x ∷ ys) (append_one xs r more)
 
 continues_on : (zone : Tuples) (s : Script) (rs : List Reply) (p : Play) (r : Reply) → Continues zone s rs p → Continues zone s (rs ++ r ∷ []) (follow p r)
 continues_on zone s rs p r goes =

@@ -13,7 +13,3 @@ parts_first separator text i within none here =
     rw add-one (ap (λ rest. take i text ++ rest) (sym (drop-cons text i 0 within)) ∙ take-append-drop i text) in
     ap (parts_at separator) (sym whole)
     ∙ slice_split_at (λ byte. byte == separator) (take i text) (get_or text i 0) (drop (i + 1) text) none here
-
--- there is always a part
-pub some_part : (separator : ℕ) (text : List ℕ) → 0 < length (parts_at separator text)
-some_part separator text = omega (arith, length-slice_split (λ byte. byte == separator) text)

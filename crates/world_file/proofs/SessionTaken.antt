@@ -22,6 +22,7 @@ use Rattle.world_file.specs.declared.fault.WorldError.TheVariants as error
 use Rattle.world_file.specs.SessionText.{Closes, Extends, Feeds, Judges, OpensSession, Other, Passes, Row, Says, SaysFrom, Told, as_script, bad_stream, extended, host_of_last, is_step_read, last_stream, opened_at, opening_told, other_verdict, with_sessions}
 use Rattle.world_file.specs.SessionTold.{BundleBad, ClosesBad, IsClosed, LeadsOn, SaysBad, Taken, TakenAs, session_at}
 use Rattle.world_file.specs.Told.{IsSmall, Tells, TellsAt, TellsCause, going}
+use Rattle.world_text.proofs.WorldRefusals.{goes-bad}
 
 abbrev Outcome : Type 0
 Outcome = Result SessionWorld (ℕ × ℕ)
@@ -78,9 +79,6 @@ other_unclosed old new n line error.Memory bad = tt
 other_unclosed old new n line (error.Bad l c) bad = λ behind cs. closes_bad old _ l c bad.0 bad.1 bad.2
 
 -- ---- other lines
-
-goes-bad : (e : Draft) (c : LineCause) → Goes e ≡ Bad c → ⊥
-goes-bad e c f = cc
 
 other_leads : (d e : Draft) (text : List ℕ) (o : Option ℕ) → other_verdict o d text ≡ Goes e → LeadsOn d e
 other_leads d e text None goes = (text, goes)

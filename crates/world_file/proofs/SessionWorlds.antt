@@ -26,6 +26,7 @@ use Rattle.world_text.specs.declared.line.WorldLine.{WorldLine}
 use Rattle.world_text.specs.declared.line.WorldLine.TheVariants as line
 use Rattle.world_file.specs.SessionText.{Closes, Extends, Feeds, Follows, IsStreamOf, Judges, OpensSession, Other, Passes, Row, Says, SaysFrom, Told, as_script, bad_stream, extended, host_of_last, is_step_read, last_stream, opened_at, opening_told, other_verdict, row_of, with_bytes, with_sessions}
 use Rattle.world_file.proofs.SessionLines.{Grows, grows, hosts_of, map-at_last, opened, opens}
+use Rattle.world_text.proofs.WorldRefusals.{goes-bad}
 
 -- ---- lists
 
@@ -248,9 +249,6 @@ went told text e k whole goes = record {
   apart = k.apart;
   whole = whole;
 }
-
-goes-bad : (e : Draft) (c : LineCause) → Goes e ≡ Bad c → ⊥
-goes-bad e c f = cc
 
 begins-bad : (w : World) (c : LineCause) → Begins w ≡ Bad c → ⊥
 begins-bad w c f = cc

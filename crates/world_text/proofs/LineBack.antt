@@ -38,6 +38,7 @@ use Rattle.world_text.specs.WorldSpelling.{fate_word, frames_spelled, is_line, s
 use Rattle.world_text.proofs.Controls.{dotted_is_without}
 use Rattle.world_text.specs.LineFit.{fit_frames, is_fit, is_frame, is_rate}
 use Rattle.world_text.proofs.WorldLists.{list-without}
+use Rattle.net_base.proofs.Texts.{some_part}
 
 -- Words without a byte.
 
@@ -108,10 +109,6 @@ frames-free s p (frames.Range m n) fit =
     let low = p.low in
     All-append (λ (x : ℕ). (x == s) ≡ false) (decimal m) (45 ∷ decimal n) (number-free s p 1 18446744073709551615 m (omega arith) first.0)
     (without_one s 45 (decimal n) (ne_eqb 45 s (λ is. omega (arith, is, low))) (number-free s p 1 18446744073709551615 n (omega arith) last.0))
-
--- a text has a first part
-some_part : (b : ℕ) (xs : List ℕ) → 0 < length (parts_at b xs)
-some_part b xs = let len = length-slice_split (λ (x : ℕ). x == b) xs in omega (arith, len)
 
 -- Lines whose words are all plain: each but those of a text.
 

@@ -20,18 +20,16 @@ use Rattle.world_text.specs.LineCauses.{number_of}
 use Rattle.world_text.specs.VersionLines.{at_causes, begins_at, first_bad_version, is_at_line, last_moment, later_versions, moment_of, own_lines, version_causes, versions_in, with_version}
 use Rattle.world_text.specs.WorldSpelling.{IsGoodBundle, LaterText, line_of_moment, lines_of_later, version_said}
 use Rattle.net_base.proofs.Shared.{number-back, number_in-spelled}
+use Rattle.net_base.proofs.Members.{no_cons}
 
 -- Causes.
 
-none-cons : {A : Type 0} (x : A) (xs : List A) → x ∷ xs ≡ [] → ⊥
-none-cons x xs e = let n = ap (λ ys. length ys) e in absurd (omega (arith, n))
-
 cause-none : (n : ℕ) (b : Bool) (rest : List ℕ) → cause n b ++ rest ≡ [] → (b ≡ false) × (rest ≡ [])
-cause-none n true rest e = absurd (none-cons n rest e)
+cause-none n true rest e = absurd (no_cons n rest e)
 cause-none n false rest e = (refl, e)
 
 only-cause : (n : ℕ) (b : Bool) → cause n b ≡ [] → b ≡ false
-only-cause n true e = absurd (none-cons n [] e)
+only-cause n true e = absurd (no_cons n [] e)
 only-cause n false e = refl
 
 least-none : (causes : List ℕ) → least causes ≡ None → causes ≡ []
@@ -49,7 +47,7 @@ good-line own line lines e =
     let parts = told-none (length own + 1) (least (causes_of (has_tuple own) line)) (first_bad causes_of (own ++ line ∷ []) lines) e in
     (least-none (causes_of (has_tuple own) line) parts.0, parts.1)
 
-good-more : (own : List (List ℕ)) (line : List ℕ) (lines : List (List ℕ)) → causes_of (has_tuple own) line ≡ [] → first_bad causes_of (own ++ line ∷ []) lines ≡ None
+pub good-more : (own : List (List ℕ)) (line : List ℕ) (lines : List (List ℕ)) → causes_of (has_tuple own) line ≡ [] → first_bad causes_of (own ++ line ∷ []) lines ≡ None
     → first_bad causes_of own (line ∷ lines) ≡ None
 good-more own line lines none rest = ap (λ (cs : List ℕ). told (length own + 1) (least cs) (first_bad causes_of (own ++ line ∷ []) lines)) none ∙ rest
 
@@ -155,7 +153,7 @@ own-more before line free =
     omega (arith, more, longer, within) in
     ap (λ k. drop k (before ++ line ∷ [])) place ∙ drop-append-le (length before - suffix_len (λ x. not (is_at_line x)) before) before (line ∷ []) (omega arith)
 
-last-more : (o : Option ℕ) (xs : List ℕ) (n : ℕ) → last_or o (xs ++ n ∷ []) ≡ Some n
+pub last-more : (o : Option ℕ) (xs : List ℕ) (n : ℕ) → last_or o (xs ++ n ∷ []) ≡ Some n
 last-more o [] n = refl
 last-more o (x ∷ xs) n = last-more (Some x) xs n
 
@@ -261,7 +259,7 @@ split before (line ∷ lines) good =
   where
     begins : (o : Option ℕ) → moment_of line ≡ o → is_at_line line ≡ true → at_causes (last_moment before) o ≡ []
         → Split (last_moment (before ++ line ∷ [])) (own_lines (before ++ line ∷ [])) lines → Split (last_moment before) (own_lines before) (line ∷ lines)
-    begins None is at none s = absurd (none-cons (number_of line_cause.WrongArgument) [] none)
+    begins None is at none s = absurd (no_cons (number_of line_cause.WrongArgument) [] none)
     begins (Some moment) is at none s = split-at before line lines moment at is (only-cause (number_of line_cause.EarlyVersion) (nat_le moment (last_moment before)) none) s
 
     by : (b : Bool) → is_at_line line ≡ b → cond b (at_causes (last_moment before) (moment_of line)) (causes_of (has_tuple (own_lines before)) line) ≡ []

@@ -24,6 +24,7 @@ use Rattle.world_text.proofs.WorldLists.{all-at, all-if, apart-map, false-of-not
 use Rattle.world_text.proofs.WorldMediums.{all-found}
 use Rattle.world_text.proofs.WorldHosts.{FineHost, FineHosts, bare_route, count-said, good_net, ifaces, names-said, networks, routes, saids, starts}
 use Rattle.net_base.proofs.Shared.{equal_texts}
+use Rattle.net_base.proofs.Members.{length_map}
 
 -- Lists.
 
@@ -198,10 +199,6 @@ starts-fit lines fit = all-filter is_start start_said lines at
     at before (host.Route m) rest n e is = absurd (none-some n is)
     at before (host.Start start) rest n e is = ap is_start (sym (same_Some start n is)) ∙ all-at fit_host_line lines before (host.Start start) rest e fit
 
-length-map : {A B : Type 0} (f : A → B) (xs : List A) → length (map f xs) ≡ length xs
-length-map f [] = refl
-length-map f (x ∷ xs) = ap (λ n. suc n) (length-map f xs)
-
 ifaces-few : (ns : List (List ℕ)) (h : HostText) → length ns ≤ 4 → list_all (is_iface (length ns)) (ifaces ns h.under) ≡ true → all_apart same_medium (ifaces ns h.under) ≡ true → nat_le (length (ifaces ns h.under)) 4 ≡ true
 ifaces-few ns h small on apart =
     let numbers : List ℕ = map (λ (i : Iface). i.medium) (ifaces ns h.under) in
@@ -209,7 +206,7 @@ ifaces-few ns h small on apart =
     list_all-map (λ x. nat_lt x (length ns)) (λ (i : Iface). i.medium) (ifaces ns h.under)
     ∙ all-imply (is_iface (length ns)) (λ (i : Iface). nat_lt i.medium (length ns)) (λ i e. (and_parts (nat_lt i.medium (length ns)) (is_address i.ip && is_mask i.mask) e).0) (ifaces ns h.under) on in
     let few = few-below (length ns) numbers below (apart-map nat_eq (λ (i : Iface). i.medium) (ifaces ns h.under) ∙ apart) in
-    let len = length-map (λ (i : Iface). i.medium) (ifaces ns h.under) in
+    let len = length_map (λ (i : Iface). i.medium) (ifaces ns h.under) in
     le-leb (length (ifaces ns h.under)) 4 (omega (arith, few, len, small))
 
 pub host-of-lines : (ns : List (List ℕ)) (h : HostText) → length ns ≤ 4 → FineHost ns h → is_host (length ns) (host_said ns h) ≡ true

@@ -38,6 +38,7 @@ use Rattle.world_text.proofs.WorldLed.{FineWorld, Led, begun, names-fit, of_host
 use Rattle.world_text.proofs.WorldScripts.{script_group}
 use Rattle.world_text.proofs.VersionTexts.{versions-back}
 use Rattle.world_text.proofs.WorldTexts.{going, goes-on, leads-all, reading-lines}
+use Rattle.net_base.proofs.Members.{length_map}
 
 -- From lines to texts.
 
@@ -130,10 +131,6 @@ media-names n (s ∷ media) e =
     let number = and_parts (s.number == n) _ parts.0 in
     and_from (is_name s.name) (list_all is_name (medium_names media)) (and_parts (is_name s.name) _ number.1).0 (media-names (n + 1) media parts.1)
 
-length-map : {A B : Type 0} (f : A → B) (xs : List A) → length (map f xs) ≡ length xs
-length-map f [] = refl
-length-map f (x ∷ xs) = ap (λ n. suc n) (length-map f xs)
-
 seed-fits : (s : ℕ) → nat_lt s (2 ^ 64) ≡ true → is_within 0 18446744073709551615 s ≡ true
 seed-fits s e = and_from (nat_le 0 s) (nat_le s 18446744073709551615) (zero_le s) (upto s e)
   where
@@ -182,7 +179,7 @@ fine-world w media hosts scripts t =
     let media_ends = and_parts (nat_le 1 (length w.media)) (nat_le (length w.media) 4) is.some_media in
     let hosts_ends = and_parts (nat_le 1 (length w.hosts)) (nat_le (length w.hosts) 8) is.some_hosts in
     let media_length = ap (λ (xs : List MediumSpec). length xs) t.media_are in
-    let names_length : length ns ≡ length ms = length-map (λ (s : MediumSpec). s.name) ms in
+    let names_length : length ns ≡ length ms = length_map (λ (s : MediumSpec). s.name) ms in
     let hosts_length = ap (λ (xs : List HostSpec). length xs) hosts_are in
     let texts_length = count-said ns hosts in
     let lines_length = count-named media 0 media in
@@ -216,9 +213,9 @@ fine-world w media hosts scripts t =
       some_hosts = omega (arith, some_hosts, hosts_length, texts_length);
       host_names_fit = names-fit (length ns) (saids ns hosts) hosts_fit;
       scripts_fine = record {
-        fit = ap (λ n. list_all (is_script n) (map (script_said (host_names (saids ns hosts))) scripts)) (length-map (λ (h : HostSpec). h.name) (saids ns hosts) ∙ sym hosts_length)
+        fit = ap (λ n. list_all (is_script n) (map (script_said (host_names (saids ns hosts))) scripts)) (length_map (λ (h : HostSpec). h.name) (saids ns hosts) ∙ sym hosts_length)
             ∙ (ap (list_all (is_script (length w.hosts))) (sym scripts_are) ∙ is.scripts);
-        few = let n = length-map (script_said (host_names (saids ns hosts))) scripts in
+        few = let n = length_map (script_said (host_names (saids ns hosts))) scripts in
             let same = ap (λ (xs : List Script). length xs) scripts_are in
             let few = leb-true (length w.scripts) 32 is.few_scripts in omega (arith, n, same, few);
       };

@@ -193,7 +193,7 @@ cuts-first : (line rest : List ℕ) → is_empty line ≡ false → is_line line
 cuts-first line rest some whole (inl none) = ([], [], ap (λ (xs : List ℕ). cuts_of (line ++ xs)) none ∙ (ap cuts_of (append-nil line) ∙ cuts-last line some whole))
 cuts-first line rest some whole (inr (more, is)) = (more, cuts_of more, ap (λ (xs : List ℕ). cuts_of (line ++ xs)) is ∙ cuts-line line more whole)
 
-goes-bad : (d : Draft) (c : LineCause) → Goes d ≡ Bad c → ⊥
+pub goes-bad : (d : Draft) (c : LineCause) → Goes d ≡ Bad c → ⊥
 goes-bad d c e = cc
 
 bad-some : (d : Draft) (line : List ℕ) (c : LineCause) → line_verdict d line ≡ Bad c → is_empty line ≡ false

@@ -35,6 +35,8 @@ use Rattle.world_text.proofs.WorldHosts.{FineHosts, bare_text, count-said, host-
 use Rattle.world_text.proofs.WorldHostForms.{hosts-of-lines}
 use Rattle.world_text.proofs.WorldScripts.{FineScripts, empty_text, script-after, script-fits, script_draft, scripts-none, scripts_said, step-after, step-fits, with_one}
 use Rattle.world_text.proofs.WorldLed.{begun, of_media}
+use Rattle.net_base.proofs.Members.{length_map}
+use Rattle.net_base.proofs.NumberTexts.{within-is}
 
 -- Lines so far.
 
@@ -477,21 +479,11 @@ some-named (medium.Medium called mtu ∷ media) k some = omega arith
 some-named (medium.Rates called loss twice later ∷ media) k some = absurd (false≢true (k.behind [] (medium.Rates called loss twice later) media refl).0)
 some-named (medium.Fate called f x ∷ media) k some = absurd (false≢true (k.behind [] (medium.Fate called f x) media refl))
 
-within-is : (least most n : ℕ) → least ≤ n → n ≤ most → is_within least most n ≡ true
-within-is least most n low high = and_from (nat_le least n) (nat_le n most) (le-is least n low) (le-is n most high)
-  where
-    le-is : (a b : ℕ) → a ≤ b → nat_le a b ≡ true
-    le-is a b h = grind (arith, nat_tests)
-
 seed-small : (s : ℕ) → is_within 0 18446744073709551615 s ≡ true → nat_lt s (2 ^ 64) ≡ true
 seed-small s e = by (and_parts (nat_le 0 s) (nat_le s 18446744073709551615) e).1
   where
     by : nat_le s 18446744073709551615 ≡ true → nat_lt s (2 ^ 64) ≡ true
     by h = grind (arith, nat_tests)
-
-length-map : {A B : Type 0} (f : A → B) (xs : List A) → length (map f xs) ≡ length xs
-length-map f [] = refl
-length-map f (x ∷ xs) = ap (λ n. suc n) (length-map f xs)
 
 ready-whole : (ls : List WorldLine) (d : Draft) (k : Stands ls d) → 1 ≤ length k.hosts → IsReady (world_of (stands_draft k.kind_at k.end_at k.seed_at k.media k.hosts k.scripts))
 ready-whole ls d k some dbs timed databases =
@@ -501,13 +493,13 @@ ready-whole ls d k some dbs timed databases =
     let named = some-named k.media k.media_fine media_some in
     let count = count-named k.media 0 k.media in
     let are = media-of-lines k.media k.media_fine in
-    let same_media : length (medium_names ms) ≡ length ms = length-map (λ (m : MediumSpec). m.name) ms in
-    let same_hosts : length (host_names hs) ≡ length hs = length-map (λ (h : HostSpec). h.name) hs in
+    let same_media : length (medium_names ms) ≡ length ms = length_map (λ (m : MediumSpec). m.name) ms in
+    let same_hosts : length (host_names hs) ≡ length hs = length_map (λ (h : HostSpec). h.name) hs in
     let few_media = are.few in
     let hosted = hosts-of-lines (medium_names ms) k.hosts (omega (arith, few_media, same_media)) k.hosts_fine in
     let few_hosts = hosted.few in
     let count_hosts = count-said (medium_names ms) k.hosts in
-    let count_scripts = length-map (script_said (host_names hs)) k.scripts in
+    let count_scripts = length_map (script_said (host_names hs)) k.scripts in
     let few_scripts = k.scripts_fine.few in
     let w : World = record (world_of (script_draft k.kind_at k.end_at k.seed_at ms (filter_map rated_name k.media) hs k.scripts)) { dbs = dbs } in
     let is : IsWorld w = record {

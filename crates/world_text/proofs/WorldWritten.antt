@@ -34,6 +34,7 @@ use Rattle.world_text.proofs.WorldLed.{Led, begun, of_host, of_media, of_script,
 use Rattle.world_text.proofs.WorldRead.{SaidBy, fine-world}
 use Rattle.world_text.proofs.WorldCanon.{canon-media, media_lines}
 use Rattle.net_base.proofs.Shared.{same_text}
+use Rattle.net_base.proofs.Members.{length_map}
 
 -- Places by name.
 
@@ -255,18 +256,14 @@ scripts-same ns (s ∷ ss) apart all =
 
 -- Worlds.
 
-length-map : {A B : Type 0} (f : A → B) (xs : List A) → length (map f xs) ≡ length xs
-length-map f [] = refl
-length-map f (x ∷ xs) = ap (λ n. suc n) (length-map f xs)
-
 -- what the canonical lines of a world say is the world
 canon-said : (w : World) → IsWorld w → SaidBy w (media_lines w.media) (map (host_text (medium_names w.media)) w.hosts) (map (script_text (host_names w.hosts)) w.scripts)
 canon-said w is =
     let ns : List (List ℕ) = medium_names w.media in
     let hns : List (List ℕ) = host_names w.hosts in
     let m = canon-media w.media is.media is.media_named in
-    let media_length : length ns ≡ length w.media = length-map (λ (s : MediumSpec). s.name) w.media in
-    let hosts_length : length hns ≡ length w.hosts = length-map (λ (h : HostSpec). h.name) w.hosts in
+    let media_length : length ns ≡ length w.media = length_map (λ (s : MediumSpec). s.name) w.media in
+    let hosts_length : length hns ≡ length w.hosts = length_map (λ (h : HostSpec). h.name) w.hosts in
     let hosts_fit : list_all (is_host (length ns)) w.hosts ≡ true = ap (λ n. list_all (is_host n) w.hosts) media_length ∙ is.hosts in
     let scripts_fit : list_all (is_script (length hns)) w.scripts ≡ true = ap (λ n. list_all (is_script n) w.scripts) hosts_length ∙ is.scripts in
     record {

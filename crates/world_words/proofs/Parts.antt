@@ -12,10 +12,7 @@ use Rattle.net_base.specs.declared.world.Step.TheVariants as step
 use Rattle.world_text.specs.LineReading.{cs_of, frames_of, host_of, kept, of_one, of_two, open_of, rwrite_of, write_of}
 use Rattle.world_text.specs.WorldWords.{Three, Two, four, joined, mode_named, one, three, two}
 use Rattle.world_text.specs.declared.line.WorldLine.TheVariants as line
-
--- there is always a part
-pub some_part : (separator : ℕ) (word : List ℕ) → 0 < length (parts_at separator word)
-some_part separator word = let len = length-slice_split (λ byte. byte == separator) word in omega (arith, len)
+use Rattle.net_base.proofs.Texts.{some_part}
 
 pub some_word : (rest : List ℕ) → parts_at 32 rest ≡ [] → ⊥
 some_word rest e = let some = some_part 32 rest in let n = ap (λ (ws : List (List ℕ)). length ws) e in absurd (omega (arith, some, n))

@@ -5,15 +5,16 @@ use Rattle.net_base.specs.Next.{zone_of}
 use Rattle.net_base.specs.Stamped.{In}
 use Rattle.journal.specs.Rule.{Held}
 use Rattle.net_guests.specs.Visits.{AreFresh, IsFresh}
-use Rattle.host_net.proofs.Freshly.{all_numbers, fresh_more, given_own, kept_later, some_versions}
+use Rattle.host_net.proofs.Freshly.{fresh_more, given_own, kept_later, some_versions}
 use Rattle.host_net.proofs.net.guests_of.Goals as goal
+use Rattle.journal.proofs.Steps.{in-callers}
 
 pub loop-caller-init : goal.loop-caller-init
 loop-caller-init g c = (
   c.requires.seen,
   λ d le lt.
       subst (λ (hs : List Held). In (number.Caller d, []) hs) (sym c.requires.held)
-      (all_numbers g.J.Naming.run.roster.callers d
+      (in-callers g.J.Naming.run.roster.callers d
       (subst (λ (n : ℕ). d < n) (c.caller_count-callers.ensures ∙ (ap callers_in (sym c.requires.world) ∙ sym c.requires.callers)) lt)),
   ap length c.in_ok-guests.ensures.items,
   subst (AreFresh (zone_of g.J.Placing.world) 0) (sym c.in_ok-guests.ensures.items) tt,

@@ -2,10 +2,11 @@ use Rattle.std.proofs.Common.{◌≢◌, [], ap, sym, subst, ◌∙◌}
 use Rattle.duties.specs.Queue.{work_of_duty}
 use Rattle.host_net.specs.declared.player.Played.{Played}
 use Rattle.host_net.specs.Playing.{PlaysOn}
-use Rattle.net_guests.proofs.Shared.{first_of, first_some}
+use Rattle.net_guests.proofs.Shared.{first_some}
 use Rattle.host_net.proofs.Counting.{counts_stay}
 use Rattle.host_net.proofs.Keeping.{duty_keeps, duty_plays, duty_stays, playing}
 use Rattle.host_net.proofs.player.Net+J+WorldActor+J.play_duty.Goals as goal
+use Rattle.net_base.proofs.Members.{first_of}
 
 pub invariant_of-player : goal.invariant_of-player
 invariant_of-player g c =
