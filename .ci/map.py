@@ -1,8 +1,9 @@
 #!/usr/bin/env python3
 """Whether docs/MAP.md shows the layers of crates.txt and every module of src/, specs/ and proofs/ with its first sentence.
 
-It also tells a crate that stands on one that comes after it in crates.txt, and where the sections of docs/PROVED.md don't have the order
-of crates.txt, each by the first crate that its heading names. Prints each fault, and ends with 1 where there is one.
+It also tells a crate that stands on one that comes after it in crates.txt, where the sections of docs/PROVED.md don't have the order
+of crates.txt, each by the first crate that its heading names, and where a crate cites the proofs of another by more than that one's module
+Shared. Prints each fault, and ends with 1 where there is one.
 
 With --write the two sections that are made here, the layers and the modules, are written anew, and docs/PROVED.md is brought in order.
 """
@@ -150,6 +151,19 @@ def path_faults(lines):
             yield f"docs/MAP.md speaks of {crate}/{kind}/{name}, which isn't there"
 
 
+def foreign_proofs():
+    """Imports of another crate's proofs that aren't of its module Shared, which hands on what others may cite."""
+    rows = [name for _, crates in layers() for name in crates]
+    for crate in rows:
+        for folder, _, files in os.walk(os.path.join(TOP, "crates", crate)):
+            for file in (it for it in files if it.endswith((".antt", ".rt"))):
+                path = os.path.relpath(os.path.join(folder, file), TOP)
+                text = "\n".join(read(path)) if f"{os.sep}out{os.sep}" not in path else ""
+                for other, module in re.findall(r"(?:use Rattle\.(\w+)\.proofs\.(\w+))", text) + re.findall(r"\b(\w+)::proofs::(\w+)", text):
+                    if other in rows and other != crate and module != "Shared":
+                        yield f"{path} cites {other}/proofs/{module}, which isn't Shared"
+
+
 def write(path, lines):
     with open(os.path.join(TOP, path), "w", encoding="utf-8") as file:
         file.write("\n".join(lines).rstrip("\n") + "\n")
@@ -160,6 +174,7 @@ def faults():
     right = with_made(lines)
     yield from order_faults()
     yield from path_faults(lines)
+    yield from foreign_proofs()
     yield from (f"docs/MAP.md hasn't this line: {line}" for line in right if line not in lines)
     yield from (f"docs/MAP.md has this line, or has it elsewhere: {line}" for line in lines if line not in right)
     if lines[:-1] != right[:-1] or proved[:-1] != in_order(proved):
