@@ -206,7 +206,7 @@ impl Conv {
             } => self.file(*generation, *file, *count),
             Event::Read { generation, count } => self.read(*generation, *count),
             Event::Write { generation, text } => self.write(now, *generation, text),
-            Event::Hangup { generation } => Ok(self.hangup(now, *generation)),
+            Event::Hangup { generation } => Ok(self.hang_up(now, *generation)),
             Event::Ttl { generation, n } => Ok(self.set_ttl(*generation, *n)),
             Event::Tos { generation, n } => Ok(self.set_tos(*generation, *n)),
             Event::Ctl { generation, text } => Ok(self.refuse(*generation, text)),

@@ -233,7 +233,7 @@ impl Conv {
     }
 
     /// Hangs up.
-    pub(super) fn hangup(&mut self, now: u64, generation: u64) -> Option<Outcome>
+    pub(super) fn hang_up(&mut self, now: u64, generation: u64) -> Option<Outcome>
         requires { now < 2 ^ 63 }
         ensures step { spec.in_generation generation self.old.conv (Some (spec.hung_up self.old.conv.core now (spec.left_or_ok (spec.core_name self.old.conv.core)) self.old.conv self.old.conv)) ≡ step_to self.new.conv result }
         ensures slot { self.new.slot ≡ self.old.slot }
@@ -246,11 +246,11 @@ impl Conv {
             StateName::Listening => ReplyAndCopy::left(),
             _ => ReplyAndCopy::ok(),
         };
-        Some(self.hang_up(now, was_over, answer))
+        Some(self.end_hangs_up(now, was_over, answer))
     }
 
     // Its end hangs up.
-    fn hang_up(&mut self, now: u64, was_over: bool, answer: ReplyAndCopy) -> Outcome
+    fn end_hangs_up(&mut self, now: u64, was_over: bool, answer: ReplyAndCopy) -> Outcome
         requires { now < 2 ^ 63 }
         ensures step { (before : spec.Conv) → spec.is_over before ≡ was_over → spec.hung_up self.old.conv.core now answer before self.old.conv ≡ record { state = self.new.conv; outcome = result } }
         ensures slot { self.new.slot ≡ self.old.slot }
@@ -261,7 +261,7 @@ impl Conv {
                 self.turned(was_over, answer, message)
             }
             Core::Udp(end) => {
-                end.hangup();
+                end.hang_up();
                 self.left(was_over, answer, None)
             }
         }
@@ -282,7 +282,7 @@ impl Conv {
         let was_over = self.is_over();
         self.opens -= 1;
         if self.opens == 0 {
-            Some(self.hang_up(now, was_over, ReplyAndCopy::ok()))
+            Some(self.end_hangs_up(now, was_over, ReplyAndCopy::ok()))
         } else {
             Some(self.left(was_over, ReplyAndCopy::ok(), None))
         }
