@@ -9,16 +9,6 @@ pub record Dealing (zone : Tuples) (total n : ℕ) (left : List Visit) (len : �
   pub many : n + length left ≡ total
   pub len_is : len ≡ length left
 
-pub dealing : (zone : Tuples) (vs : List Visit) (n : ℕ) (left : List Visit) (len : ℕ) → AreFresh zone 0 vs → n ≡ 0 → left ≡ vs → len ≡ length left
-    → Dealing zone (length vs) n left len
-dealing zone vs n left len fresh none same len_is =
-    let from_here : (k : ℕ) → k ≡ 0 → AreFresh zone k vs = λ k zero. subst (λ (i : ℕ). AreFresh zone i vs) (sym zero) fresh in
-    record {
-      fresh = subst (λ (l : List Visit). AreFresh zone n l) (sym same) (from_here n none);
-      many = omega (arith, none, ap length same);
-      len_is = len_is;
-    }
-
 module _ (zone : Tuples) (total n : ℕ) (old new : List Visit) (v : Visit) (len : ℕ) (deals : Dealing zone total n old len) (next : old ≡ v ∷ new) where
   front : AreFresh zone n (v ∷ new)
   front = subst (λ (l : List Visit). AreFresh zone n l) next deals.fresh
@@ -36,6 +26,3 @@ module _ (zone : Tuples) (total n : ℕ) (old new : List Visit) (v : Visit) (len
     many = omega (arith, more, deals.many, ap length next);
     len_is = omega (arith, shorter, deals.len_is, ap length next);
   }
-
-pub all_dealt : (zone : Tuples) (total n : ℕ) (left : List Visit) (len : ℕ) → Dealing zone total n left len → len ≡ 0 → n ≡ total
-all_dealt zone total n left len deals none = omega (arith, none, deals.many, deals.len_is)

@@ -116,10 +116,6 @@ module _ (db : List (List (List NdbPair))) (me : List ℕ) (nets : List Proto) (
       at [] none = absurd (omega (arith, ap length (h ∙ no_lines db query.service (t ∷ texts) (net ∷ named) none)))
       at (port ∷ ports) some_port = refl
 
--- `*` is written as it is
-pub any_text : (host : List ℕ) → bytes_eq host (codes "*") ≡ true → codes "*" ≡ host
-any_text host e = sym (grind (arith, bytes_eq-Decides host (codes "*"), e))
-
 -- where there is a target, there is a text
 pub some_texts : (targets : List Target) → 0 < length targets → 0 < length (target_texts targets)
 some_texts [] some = absurd (omega arith)

@@ -238,10 +238,6 @@ word_spots db word e =
     spots_numbers (name_attr word) word Address db
     ∙ sym (ap (λ b. cond b (option_to_list (read_address word)) (numbers_found (name_attr word) word Address db)) e)
 
-pub word_spelled : (db : Db) (word : List ℕ) (o : Option ℕ) → is_numeric word ≡ true → read_address word ≡ o → word_addresses db word ≡ option_to_list o
-word_spelled db word o e read =
-    ap (λ b. cond b (option_to_list (read_address word)) (numbers_found (name_attr word) word Address db)) e ∙ ap option_to_list read
-
 word_cost : (db : Db) (word : List ℕ) → is_numeric word ≡ false → word_found db word ≡ found (name_attr word) word db
 word_cost db word e = ap (λ b. cond b 0 (found (name_attr word) word db)) e
 
@@ -285,16 +281,3 @@ seen_cost g words i d initial now after within so_far one = omega (arith, so_far
 pub seen_within : (g : List ℕ → ℕ) (words : List (Bor (List ℕ))) (i : ℕ) (d : Bor (List ℕ)) (initial now after : ℕ) → i < length words → now ≤ initial + sum_by g (words_seen (take i words)) → after ≤ now + g (get_or words i d).now → after ≤ initial + sum_by g (words_seen words)
 seen_within g words i d initial now after within so_far one =
     omega (arith, seen_cost g words i d initial now after within so_far one, sum_by-take-le g (words_seen words) (i + 1), ap (sum_by g) (take-map (λ (w : Bor (List ℕ)). w.now) (i + 1) words))
-
--- nothing was read yet
-pub no_tuples : (db : Db) (tuples ips : List ℕ) → tuples ≡ [] → TuplesRead db tuples ips
-no_tuples db tuples ips none place e = absurd (never (ap (list_any (nat_eq place)) none) e)
-  where
-    never : list_any (nat_eq place) tuples ≡ false → list_any (nat_eq place) tuples ≡ true → ⊥
-    never f t = cc
-
-pub no_spots : (db : Db) (spots : List Spot) (ips : List ℕ) → spots ≡ [] → SpotsRead db spots ips
-no_spots db spots ips none spot e = absurd (never (ap (list_any (same_spot spot)) none) e)
-  where
-    never : list_any (same_spot spot) spots ≡ false → list_any (same_spot spot) spots ≡ true → ⊥
-    never f t = cc

@@ -56,16 +56,6 @@ front_is_read message labels e =
 
 -- ---- the question
 
-asked : List ℕ → ℕ → List ℕ → Question
-asked message behind text = record {
-  id = word_at 0 message;
-  flags = word_at 2 message;
-  name = text;
-  kind = word_at behind message;
-  class = word_at (behind + 2) message;
-  end = behind + 4;
-}
-
 -- two questions with the same parts are the same
 same_question : (q : Question) (message text : List ℕ) (behind : ℕ) → q.id ≡ word_at 0 message → q.flags ≡ word_at 2 message → q.name ≡ text → q.kind ≡ word_at behind message → q.class ≡ word_at (behind + 2) message → q.end ≡ behind + 4
     → q ≡ record { id = word_at 0 message; flags = word_at 2 message; name = text; kind = word_at behind message; class = word_at (behind + 2) message; end = behind + 4 }

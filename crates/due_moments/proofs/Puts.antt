@@ -16,10 +16,6 @@ before_within k (d ∷ ds) = by_test (nat_lt (place_of d) k) (before_within k ds
 
 -- What is put there.
 
-none_front : (ds : List Due) → take 0 ds ≡ []
-none_front [] = refl
-none_front (d ∷ ds) = refl
-
 at_front : (o : Option Due) (ds : List Due) → option_to_list o ++ ds ≡ take 0 ds ++ option_to_list o ++ drop 0 ds
 at_front o [] = refl
 at_front o (d ∷ ds) = refl

@@ -19,22 +19,6 @@ has_kept w ks h ip are = (are h ip).1
 abbrev pub AreSoFar : World → List HostWays → Type 0
 AreSoFar w ks = (h : ℕ) (k : HostWays) → slice_get ks h ≡ Some k → AreWaysOf w h k
 
-pub none_so_far : (w : World) → AreSoFar w []
-none_so_far w h k is = absurd (none-some k is)
-
-in_pushed : (ks : List HostWays) (y : HostWays) (h : ℕ) (k : HostWays) → slice_get (ks ++ y ∷ []) h ≡ Some k → (slice_get ks h ≡ Some k) ⊎ ((h ≡ length ks) × (y ≡ k))
-in_pushed [] y zero k is = inr (refl, same_Some y k is)
-in_pushed [] y (suc h) k is = absurd (none-some k is)
-in_pushed (z ∷ ks) y zero k is = inl is
-in_pushed (z ∷ ks) y (suc h) k is = elim (in_pushed ks y h k is) [ inl there ↦ inl there | inr last ↦ inr (ap suc last.0, last.1) ]
-
-pub one_more : (w : World) (ks : List HostWays) (n : ℕ) (y : HostWays) → length ks ≡ n → AreSoFar w ks → AreWaysOf w n y → AreSoFar w (ks ++ y ∷ [])
-one_more w ks n y count so_far new h k is =
-    elim (in_pushed ks y h k is) [
-      | inl there ↦ so_far h k there
-      | inr last ↦ subst (λ (i : HostWays). AreWaysOf w h i) last.1 (subst (λ (i : ℕ). AreWaysOf w i y) (sym (last.0 ∙ count)) new)
-    ]
-
 -- both, where the h-th host is kept or there is none
 at_host : (w : World) (ks : List HostWays) (h ip : ℕ) (o : Option HostWays) → slice_get ks h ≡ o → length ks ≡ length w.hosts → AreSoFar w ks
     → (way_at ks h ip ≡ way w h ip) × (has_at ks h ip ≡ has_address w h ip)

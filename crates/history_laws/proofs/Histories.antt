@@ -66,13 +66,6 @@ timed_push w h x timed in_time k y is =
           subst (λ (p : List Entry). IsInTime (after w p) w y.event) (sym here) (subst (λ (z : Entry). IsInTime (after w h) w z.event) last.1 in_time)
     ]
 
--- its parts
-pub legal_front : {ts : Tasks} (w : World) (h : List Entry) (x : Entry) → IsLegalBy ts w (h ++ x ∷ []) → IsLegalBy ts w h × MayFollowBy ts w h x
-legal_front {ts = ts} w h x legal = (
-  λ k y is. subst (λ (p : List Entry). MayFollowBy ts w p y) (take-append-le k h (x ∷ []) (omega (arith, slice_get_within h k y is))) (legal k y (before_push h x y k is)),
-  subst (λ (p : List Entry). MayFollowBy ts w p x) (take_at h (x ∷ []) (length h) refl) (legal (length h) x (at_push h x)),
-)
-
 -- The states of actors.
 
 -- where the entry is this actor's own

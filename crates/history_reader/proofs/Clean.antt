@@ -24,10 +24,6 @@ pub free_both : (s : ℕ) (xs ys : List ℕ) → IsFree s xs → IsFree s ys →
 free_both s [] ys fx fy = fy
 free_both s (x ∷ xs) ys fx fy = (fx.0, free_both s xs ys fx.1 fy)
 
-pub all_free_both : (s : ℕ) (xs ys : List (List ℕ)) → AreFree s xs → AreFree s ys → AreFree s (xs ++ ys)
-all_free_both s [] ys fx fy = fy
-all_free_both s (x ∷ xs) ys fx fy = (fx.0, all_free_both s xs ys fx.1 fy)
-
 free_digit : (s d : ℕ) → s < 48 → IsFree s ((48 + d) ∷ [])
 free_digit s d low = (ne_eqb (48 + d) s (λ is. omega (arith, is, low)), tt)
 

@@ -17,18 +17,6 @@ is_courier w c place is past within =
     same : c - length w.scripts ≡ place
     same = omega (arith, is)
 
-pub is_clock : (w : World) (c place : ℕ) → place ≡ c - length w.scripts → length w.scripts ≤ c → place ≡ length w.media → other_caller w c ≡ IsClock
-is_clock w c place is past at =
-    let before : nat_lt c (clock_number w) ≡ false = le-ltb c (clock_number w) (omega (arith, is, past, at)) in
-    let here : (c == clock_number w) ≡ true = grind (arith, nat_tests) in
-    rw (before, here) refl
-
-pub is_nobody : (w : World) (c place : ℕ) → place ≡ c - length w.scripts → length w.scripts ≤ c → length w.media < place → other_caller w c ≡ IsNobody
-is_nobody w c place is past behind =
-    let before : nat_lt c (clock_number w) ≡ false = le-ltb c (clock_number w) (omega (arith, is, past, behind)) in
-    let here : (c == clock_number w) ≡ false = grind (arith, nat_tests) in
-    rw (before, here) refl
-
 pub is_no_script : (w : World) (c : ℕ) → length w.scripts ≤ c → caller_of w c ≡ other_caller w c
 is_no_script w c past =
     ap (λ (o : Option Script). option_map_or (λ (t : Script). IsScript t) o (other_caller w c)) (slice_get_past w.scripts c past)

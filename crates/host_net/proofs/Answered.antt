@@ -130,15 +130,6 @@ answers_next w ps n a x lt is all = λ h are.
     (answered_in w (visits ps) h is.0.visit x s.0 are (visit_in is.0 ps is.1) is.3 (ap (caller_of w) is.2 ∙ script)) in
     omega (arith, all h are, one, answered_more w h n s.0 s.1)
 
-pub answers_first : (w : World) (vs : List Visit) → AnswersTo w vs 0 0
-answers_first w vs = λ h are. zero-add (answered_steps w h)
-
-pub answers_all : (w : World) (vs : List Visit) (n a : ℕ) → length w.scripts ≤ n → AnswersTo w vs n a → (h : List Entry) → AreAfter w vs h
-    → a ≡ answered_steps w h
-answers_all w vs n a le all h are =
-    let none : answered_from w h n ≡ 0 = ap (λ (xs : List Script). sum_by (answered_by w h) (enumerate_from n xs)) (past_all w.scripts n le) in
-    omega (arith, all h are, none)
-
 -- The player of a script.
 
 not_both : (c : ℕ) (xs ys : List ℕ) → NotIn c xs → NotIn c ys → NotIn c (xs ++ ys)

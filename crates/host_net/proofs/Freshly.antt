@@ -28,20 +28,10 @@ pub kept_later : (c d : ℕ) (hs : List Held) → c < d → In (number.Caller d,
     → In (number.Caller d, []) (filter (λ (h : Held). not (same_number h.0 (number.Caller c))) hs)
 kept_later c d hs lt there = in_filter (λ (h : Held). not (same_number h.0 (number.Caller c))) (number.Caller d, []) hs there (apart c d lt)
 
-less : (d n : ℕ) → d < suc n → (d == n) ≡ false → d < n
-less d n lt e = grind (arith, nat_tests)
-
 -- one guest more
 pub fresh_more : (zone : Tuples) (n : ℕ) (vs : List Visit) (v : Visit) → AreFresh zone n vs → IsFresh zone (n + length vs) v → AreFresh zone n (vs ++ v ∷ [])
 fresh_more zone n [] v are is = (subst (λ (k : ℕ). IsFresh zone k v) (omega arith) is, tt)
 fresh_more zone n (x ∷ vs) v are is = (are.0, fresh_more zone (n + 1) vs v are.1 (subst (λ (k : ℕ). IsFresh zone k v) (omega arith) is))
-
--- the last of them
-pub fresh_last : (zone : Tuples) (n : ℕ) (vs : List Visit) (v : Visit) → AreFresh zone n (vs ++ v ∷ []) → AreFresh zone n vs × IsFresh zone (n + length vs) v
-fresh_last zone n [] v are = (tt, subst (λ (k : ℕ). IsFresh zone k v) (omega arith) are.0)
-fresh_last zone n (x ∷ vs) v are =
-    let rest = fresh_last zone (n + 1) vs v are.1 in
-    ((are.0, rest.0), subst (λ (k : ℕ). IsFresh zone k v) (omega arith) rest.1)
 
 -- Databases.
 
@@ -54,24 +44,3 @@ pub some_versions : (w : World) (vs : List Version) → IsWorld w → vs ≡ w.d
 some_versions w vs is same = subst (λ (l : List Version). 0 < length l) (sym same) (timed_some w.dbs is.versions_timed)
 
 -- Scripts.
-
-abbrev script_of : Script → Caller → Script
-script_of t (IsScript s) = s
-script_of t _ = t
-
-abbrev is_script : Caller → Bool
-is_script (IsScript s) = true
-is_script _ = false
-
-other_script : (w : World) (c : ℕ) → is_script (other_caller w c) ≡ false
-other_script w c = by_courier (nat_lt c (clock_number w)) (c == clock_number w)
-  where
-    by_courier : (a b : Bool) → is_script (if a then IsCourier (c - first_courier w) else (if b then IsClock else IsNobody)) ≡ false
-    by_courier true b = refl
-    by_courier false true = refl
-    by_courier false false = refl
-
--- a script of the world stands at its number
-pub host_by : (w : World) (c : ℕ) (o : Option Script) (s : Script) → option_map_or (λ (t : Script). IsScript t) o (other_caller w c) ≡ IsScript s → o ≡ Some s
-host_by w c None s is = absurd (true≢false (sym (ap is_script is) ∙ other_script w c))
-host_by w c (Some t) s is = ap (λ (q : Caller). Some (script_of t q)) is

@@ -226,12 +226,3 @@ module _ (ts : Tasks) (w : World) (m : ℕ) (old new : Visit) (same : IsSame old
       (unready_next ts w old new same (record { actor = name.Medium m; event = event.Take }) unready stays take_next))
 
 -- The clock waits for the calm.
-
-pub clock_waits : (ts : Tasks) (w : World) (v : Visit) → caller_of w v.caller ≡ IsClock → v.owed ≡ [] → IsWaiting ts w v
-clock_waits ts w v clock free =
-    let nothing : next_by ts w (entries v.sight.seen) v.caller ≡ None = ap (λ (k : Caller). next_of_by ts w k (entries v.sight.seen) v.caller) clock in
-    inr (subst (λ (ds : List Duty). IsUnready ts w v ds) (sym free) (λ ask comes. absurd (none-some ask (sym nothing ∙ comes))))
-
--- a turn that came to nothing
-pub waits_from : {T : Type 0} (ts : Tasks) (w : World) (old new : Playing T) (result : Played) → PlaysOn ts w old result new → result ≡ played.Waits → IsWaiting ts w new.visit
-waits_from ts w old new result plays is = (subst (λ (r : Played). PlaysOn ts w old r new) is plays).1

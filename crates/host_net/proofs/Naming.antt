@@ -33,18 +33,6 @@ clock_of w c le ge lt =
     let is : c ≡ clock_number w = omega (arith, le, ge, lt) in
     by_script w c None (slice_get_past w.scripts c le) ∙ by_number w c false true (not_below c (clock_number w) is) (eq-eqb c (clock_number w) is)
 
-abbrev is_clock : Caller → Bool
-is_clock IsClock = true
-is_clock _ = false
-
-clock_number_by : (w : World) (c : ℕ) (o : Option Script) (a b : Bool) → (c == clock_number w) ≡ b
-    → is_clock (option_map_or (λ (s : Script). IsScript s) o (if a then IsCourier (c - first_courier w) else (if b then IsClock else IsNobody))) ≡ true
-    → c ≡ clock_number w
-clock_number_by w c (Some s) a b is clock = absurd (true≢false (sym clock))
-clock_number_by w c None true b is clock = absurd (true≢false (sym clock))
-clock_number_by w c None false true is clock = eqb-true c (clock_number w) is
-clock_number_by w c None false false is clock = absurd (true≢false (sym clock))
-
 -- there is one clock
 pub one_clock : (w : World) (a b : ℕ) → caller_of w a ≡ IsClock → caller_of w b ≡ IsClock → a ≡ b
 one_clock w a b first second = clock_at w a first ∙ sym (clock_at w b second)

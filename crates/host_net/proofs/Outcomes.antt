@@ -45,16 +45,6 @@ use Rattle.host_net.proofs.Continuing.{own_stays}
 
 -- A player stays one where its caller recorded nothing.
 
-by_from : (c n : ℕ) (log : List Noted) → by (entries log) c ≡ map (λ (y : ℕ × Noted). y.1.entry) (at_from (number.Caller c) n log)
-by_from c n [] = refl
-by_from c n (x ∷ log) = by_test (by_from c (n + 1) log) (x.entry.caller == c)
-  where
-    by_test : by (entries log) c ≡ map (λ (y : ℕ × Noted). y.1.entry) (at_from (number.Caller c) (n + 1) log) → (b : Bool)
-        → (if b then x.entry ∷ by (entries log) c else by (entries log) c)
-        ≡ map (λ (y : ℕ × Noted). y.1.entry) (if b then (n, x) ∷ at_from (number.Caller c) (n + 1) log else at_from (number.Caller c) (n + 1) log)
-    by_test rest true = ap (λ (l : List Entry). x.entry ∷ l) rest
-    by_test rest false = rest
-
 module _ {T : Type 0} (Goes : Option Asking → Tuples → Script → List Reply → Names → T → Type 0) (ts : Tasks) (w : World) where
   pub player_stays : (old new : Visit) (who : Role) (t : T) (lost : Bool) → IsPlayer Goes ts w old who t lost → new.caller ≡ old.caller
       → new.names ≡ old.names → Stays w old.caller old.sight new.sight → IsPlayer Goes ts w new who t lost

@@ -29,15 +29,6 @@ abbrev ClockOnly : Caller → Type 0
 ClockOnly IsClock = Unit {0}
 ClockOnly _ = ⊥
 
-at_tests : (n c m : ℕ) (b t : Bool) → (c == n) ≡ t → ClockOnly (if b then IsCourier m else (if t then IsClock else IsNobody)) → c ≡ n
-at_tests n c m true t e none = absurd none
-at_tests n c m false true e is = grind (arith, nat_tests, e)
-at_tests n c m false false e none = absurd none
-
-at_script : (w : World) (c : ℕ) (s : Option Script) → ClockOnly (option_map_or (λ (x : Script). IsScript x) s (other_caller w c)) → c ≡ clock_number w
-at_script w c (Some s) none = absurd none
-at_script w c None is = at_tests (clock_number w) c (c - first_courier w) (nat_lt c (clock_number w)) (c == clock_number w) refl is
-
 -- a script is no clock
 pub no_script : (w : World) (c : ℕ) (s : Script) → caller_of w c ≡ IsClock → caller_of w c ≡ IsScript s → ⊥
 no_script w c s clock script = subst ClockOnly (sym clock ∙ script) tt
@@ -50,9 +41,6 @@ standings_more ts w [] vs [] rest one two = two
 standings_more ts w [] vs (s ∷ ss) rest one two = absurd one
 standings_more ts w (u ∷ us) vs [] rest one two = absurd one
 standings_more ts w (u ∷ us) vs (s ∷ ss) rest one two = (one.0, standings_more ts w us vs ss rest one.1 two)
-
-pub adds_none : (ts : Tasks) (w : World) (ss : List Standing) → Adds ts w [] ss ss
-adds_none ts w ss = record { added = []; behind = sym (append-nil ss); standings = tt }
 
 pub adds_on : (ts : Tasks) (w : World) (us vs : List Visit) (old mid new : List Standing) → Adds ts w us old mid → Adds ts w vs mid new → Adds ts w (us ++ vs) old new
 adds_on ts w us vs old mid new one two =

@@ -101,18 +101,6 @@ accepts_hears_ack now m e =
     same_number : acked_to now (number e.start m.ack e.acked) (hears now (accepts m e)) ≡ hears_ack now m (accepts m e)
     same_number = ap (λ (e' : End). acked_to now (number e'.start m.ack e'.acked) (hears now (accepts m e))) (sym (accepts_both m e))
 
--- it leaves what was got
-pub hears_ack_got : (now : ℕ) (m : IlMsg) (e : End) → (hears_ack now m e).got ≡ e.got
-hears_ack_got now m e = got_of (number e.start m.ack e.acked) (hears now e)
-  where
-    got_if : (k : ℕ) (e' : End) (b : Bool) → (if b then moves now (acks now k e') else e').got ≡ e'.got
-    got_if k e' true = refl
-    got_if k e' false = refl
-
-    got_of : (o : Option ℕ) (e' : End) → (acked_to now o e').got ≡ e'.got
-    got_of None e' = refl
-    got_of (Some k) e' = got_if k e' (nat_le k (length e'.sent))
-
 -- Nothing is accepted.
 
 -- the message has no number

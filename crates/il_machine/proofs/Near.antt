@@ -9,10 +9,6 @@ pub wider : (low high low' high' : ℕ) (es : List Early) → low' ≤ low → h
 wider low high low' high' [] below above h = tt
 wider low high low' high' (x ∷ xs) below above h = (omega (arith, h.0), omega (arith, h.1), h.2, wider low high low' high' xs below above h.3)
 
--- the first message has this number or not
-abbrev pub first_has : ℕ → Early → Bool
-first_has k x = x.number == k
-
 other_first : (k : ℕ) (x : Early) (xs : List Early) (b : Bool) → (x.number == k) ≡ b → early_at k (x ∷ xs) ≡ None → (b ≡ false) × (early_at k xs ≡ None)
 other_first k x xs false is none = (refl, (rw is at none))
 other_first k x xs true is none = absurd (let h = rw is at none in cc)

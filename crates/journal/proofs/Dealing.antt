@@ -60,12 +60,6 @@ take_length l zero le = refl
 take_length [] (suc i) le = absurd (omega arith)
 take_length (x ∷ xs) (suc i) le = let r = take_length xs i (omega arith) in ap suc r
 
-take_all : (l : List ActorName) (i : ℕ) → length l ≤ i → take i l ≡ l
-take_all [] zero le = refl
-take_all [] (suc i) le = refl
-take_all (x ∷ xs) zero le = absurd (omega arith)
-take_all (x ∷ xs) (suc i) le = let r = take_all xs i (omega arith) in ap (λ (t : List ActorName). x ∷ t) r
-
 drop_all : (l : List ActorName) (i : ℕ) → length l ≤ i → drop i l ≡ []
 drop_all [] zero le = refl
 drop_all [] (suc i) le = refl
@@ -136,9 +130,6 @@ caller_below (suc n) m le c es (inr i) = caller_below n m (omega arith) c es i
 
 pub all_dealt : (callers : ℕ) (actors : List ActorName) (i : ℕ) (v : View) (books : List Volume) → Dealt callers actors i v books → length actors ≤ i → v.held ≡ caller_numbers callers
 all_dealt callers actors i v books d le = d.held ∙ ap (λ (l : List ActorName). caller_numbers callers ++ actor_numbers l) (drop_all actors i le) ∙ append-nil (caller_numbers callers)
-
-pub all_books : (callers : ℕ) (actors : List ActorName) (i : ℕ) (v : View) (books : List Volume) → Dealt callers actors i v books → length actors ≤ i → AreBlank 0 actors books
-all_books callers actors i v books d le = subst (λ (l : List ActorName). AreBlank 0 l books) (take_all actors i le) d.books_are
 
 pub first_pass : (table : TableId) (s : Seat (Unit {0}) View) (callers : ℕ) (actors : List ActorName) (i : ℕ) (books : List Volume) → IsSeat table s → Dealt callers actors i s.me.0 books → length actors ≤ i → callers ≤ 37
     → IsPass table s (replicate 37 0)

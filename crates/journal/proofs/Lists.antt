@@ -132,11 +132,6 @@ longer_right log xs ys e p = ⊎_elim
     (λ t. t.0 ∙ e)
     (longer_is xs ys)
 
-pub set_past : {A : Type 0} (l : List A) (n : ℕ) (x : A) → length l ≤ n → set l n x ≡ l
-set_past [] n x le = refl
-set_past (y ∷ l) zero x le = absurd (omega arith)
-set_past (y ∷ l) (suc n) x le = let r = set_past l n x (omega arith) in ap (λ t. y ∷ t) r
-
 -- what is set beyond the end changes nothing
 pub set_outside : {A : Type 0} (xs : List A) (n : ℕ) (x : A) → length xs ≤ n → slice_set xs n x ≡ xs
 set_outside [] n x le = refl

@@ -71,12 +71,6 @@ closed_by ls ps log all long at =
 
 -- Places that are noted.
 
-kept_at : (ls : List (List Stamped)) (es : List Stamped) (k at : ℕ) (e : Stamped) → in_list (slice_get ls k) at ≡ Some e
-    → in_list (slice_get (ls ++ es ∷ []) k) at ≡ Some e
-kept_at [] es k at e is = absurd (none-some e is)
-kept_at (l ∷ ls) es zero at e is = is
-kept_at (l ∷ ls) es (suc k) at e is = kept_at ls es k at e is
-
 last_at : (ls : List (List Stamped)) (es : List Stamped) (at : ℕ) (e : Stamped) → slice_get es at ≡ Some e
     → in_list (slice_get (ls ++ es ∷ []) (length ls)) at ≡ Some e
 last_at [] es at e is = is
@@ -110,15 +104,6 @@ in_take (y ∷ es) (suc j) x e is (inr i) = ⊎_elim (λ k. inl (inr k)) (λ sam
 abbrev pub PlacedSo : List (List Stamped) → List Stamped → ℕ → List Place → Type 0
 PlacedSo ls es j ps = (e : Stamped) → IsLeft e ls ⊎ In e (take j es) → e.stamp < length ps
     → IsPlaced (ls ++ es ∷ []) ps e.stamp
-
-pub placed_first : (ls : List (List Stamped)) (es : List Stamped) (ps : List Place) → ArePlaced ls ps → PlacedSo ls es 0 ps
-placed_first ls es ps placed e (inl i) lt =
-    let t = placed e i lt in record {
-      place = t.place;
-      noted = t.noted;
-      is = record { entry = t.is.entry; stands = kept_at ls es t.place.list t.place.at t.is.entry t.is.stands; stamp_is = t.is.stamp_is };
-    }
-placed_first ls es ps placed e (inr i) lt = absurd i
 
 module _ (ls : List (List Stamped)) (es : List Stamped) (j : ℕ) (ps ps' : List Place) (x : Stamped) (k : ℕ)
     (is : slice_get es j ≡ Some x) (behind : length ls ≡ k) (set : ps' ≡ slice_set ps x.stamp record { list = k; at = j })

@@ -13,16 +13,6 @@ use Rattle.wire_text.specs.Datagram.{IsPacket, between, il_packet, udp_packet, p
 use Rattle.wire_text.proofs.Shared.{spells_header, spells_payload, spells_sport, spells_dport, spells_message, spells_fields, spells_datagram, spells_il_body, spells_udp_body}
 use Rattle.medium.specs.Spelled.{HasBody, IsSpelled}
 
--- the header and the body of a packet make it one that has a spelling
-pub whole : (p : Packet) → IsHeader (header_for p) → HasBody p → IsPacket p
-whole p h b = record {
-  src = record { ip = h.src; port = b.sport };
-  dst = record { ip = h.dst; port = b.dport };
-  ttl = h.ttl;
-  tos = h.tos;
-  body = b.body;
-}
-
 -- spelled bytes spell a header and a payload
 pub ipv4_in : (bytes : List ℕ) → IsSpelled bytes → SpellsIpv4 (header_for (packet_of bytes)) (body_bytes (packet_of bytes).src (packet_of bytes).dst (packet_of bytes).body) bytes
 ipv4_in bytes s =

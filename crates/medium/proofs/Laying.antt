@@ -83,11 +83,6 @@ laid_state m to p bytes short fits e =
     (lays_frame m.queue m.held m.laid (fate_of m.seed m.spec (m.laid + 1)) (record { number = m.laid + 1; to = to; bytes = bytes })
     ∙ ap (λ (x : Packet). (lays (fate_of m.seed m.spec (m.laid + 1)) (record { frame = m.laid + 1; to = to; packet = x }) (medium_of m)).state) again)
 
-pub laid_reply : (m : OnMedium) (to : ℕ) (p : Packet) → datagram_length p.body ≤ m.spec.mtu → reply.Laid (m.laid + 1) ≡ (puts m.spec m.seed (Some to) p (medium_of m)).outcome.reply
-laid_reply m to p short =
-    let small : nat_lt m.spec.mtu (datagram_length p.body) ≡ false = le-ltb m.spec.mtu (datagram_length p.body) short in
-    rw small refl
-
 -- a header that is written in front of a body
 pub framed : (p : Packet) (h : Ipv4) (carried out new : List ℕ) → h ≡ header_for p → carried ≡ body_bytes p.src p.dst p.body → 20 ≤ length out → length carried ≡ length out - 20
     → new ≡ summed false (20 + (length out - 20)) h ++ drop 20 (put_mid 20 (length out - 20) out carried) → new ≡ spelling p

@@ -140,9 +140,3 @@ adds_both old r new first second all one two are = record {
       (append_assoc offered first second ∙ ap (λ (more : List (List ℕ)). offered ++ more) are)
       (two.took start (offered ++ first) (one.took start offered took));
 }
-
--- each record has bytes
-pub record_some : (owner : List ℕ) (kind : ℕ) (told entry : List ℕ) → entry ≡ record_bytes owner kind told → 0 < length entry
-record_some owner kind told entry is =
-    let size = ap (λ (xs : List ℕ). length xs) is in
-    omega (arith, size, length-append owner (record_bytes [] kind told))

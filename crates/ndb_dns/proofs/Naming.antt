@@ -25,21 +25,6 @@ none_long count bytes long = by (is_label (take count bytes) && length (take cou
         let parts = and_parts (is_label (take count bytes)) (length (take count bytes) == count) is in
         absurd (omega (arith, long, label_few (take count bytes) parts.0, eqb-true (length (take count bytes)) count parts.1))
 
-pub none_short : (count : ℕ) (bytes : List ℕ) → length bytes < count → label_of (count ∷ bytes) ≡ None
-none_short count bytes short = by (is_label (take count bytes) && length (take count bytes) == count) refl
-  where
-    by : (fits : Bool) → (is_label (take count bytes) && length (take count bytes) == count) ≡ fits → cond fits (Some (take count bytes)) None ≡ None
-    by false is = refl
-    by true is =
-        let parts = and_parts (is_label (take count bytes)) (length (take count bytes) == count) is in
-        let size = eqb-true (length (take count bytes)) count parts.1 in
-        let whole = ap (λ (xs : List ℕ). length xs) (take-append-drop count bytes) in
-        absurd (omega (arith, short, size, whole, length-append (take count bytes) (drop count bytes)))
-
-pub none_bad : (count : ℕ) (bytes label : List ℕ) → label ≡ take count bytes → is_label label ≡ false → label_of (count ∷ bytes) ≡ None
-none_bad count bytes label is bad =
-    ap (λ (b : Bool). cond (b && length (take count bytes) == count) (Some (take count bytes)) None) (sym (ap is_label is) ∙ bad)
-
 pub some_label : (count : ℕ) (bytes label : List ℕ) → label ≡ take count bytes → length label ≡ count → is_label label ≡ true → label_of (count ∷ bytes) ≡ Some label
 some_label count bytes label is size valid =
     ap (λ (b : Bool). cond b (Some (take count bytes)) None)
@@ -71,14 +56,6 @@ label_stands (count ∷ bytes) label e = by (is_label (take count bytes) && leng
 -- a label that stands in front is read
 pub stands_label : (label behind : List ℕ) → is_label label ≡ true → label_of (label_bytes label ++ behind) ≡ Some label
 stands_label label behind valid = some_label (length label) (label ++ behind) label (sym (take_at label behind (length label) refl)) refl valid
-
--- what is behind a label is shorter
-pub shorter : (bytes label behind : List ℕ) → label_of bytes ≡ Some label → behind ≡ behind_label label bytes → length behind < length bytes
-shorter bytes label behind e is =
-    let stands = label_stands bytes label e in
-    let size = ap (λ (xs : List ℕ). length xs) stands.front in
-    let rest = ap (λ (xs : List ℕ). length xs) is in
-    omega (arith, size, rest, length-append (label_bytes label) (behind_label label bytes))
 
 -- ---- labels in a row
 

@@ -137,27 +137,7 @@ module _ {Z : Type 0} where
   no_first_name items names first are =
       ap first_of (sym are) ∙ slice_get-map vec_items items 0 ∙ ap (option_map vec_items) (sym first)
 
-pub first_is_valid : (names : List (List ℕ)) (name : List ℕ) → first_of names ≡ Some name → list_all is_valid names ≡ true → is_valid name ≡ true
-first_is_valid [] name first all = absurd (none-some name first)
-first_is_valid (one ∷ names) name first all =
-    ap is_valid (sym (same_Some one name first)) ∙ (and_parts (is_valid one) (list_all is_valid names) all).0
-
 -- ---- records of addresses
-
-pub ip_step : (owner : List ℕ) (ips : List ℕ) (i d : ℕ) (entry : List ℕ) → i < length ips → entry ≡ address_record owner (get_or ips i d) → map (address_record owner) (take i ips) ++ entry ∷ [] ≡ map (address_record owner) (take (i + 1) ips)
-ip_step owner ips i d entry within is =
-    ap (λ (e : List ℕ). map (address_record owner) (take i ips) ++ e ∷ []) is ∙ sym (map_more (address_record owner) ips i d within)
-
-some_is : {A : Type 0} (x : A) (xs : List A) → (length (x ∷ xs) == 0) ≡ false
-some_is x xs = ne_eqb (suc (length xs)) 0 (λ (e : suc (length xs) ≡ 0). omega (arith, e))
-
-pub no_addresses : (name : List ℕ) (db : Db) (ips : List ℕ) → ips ≡ addresses_named name db → (length ips == 0) ≡ true → alias_records db (alias_of name db) ≡ address_records db name
-no_addresses name db [] are none = ap (λ (those : List ℕ). or_where_empty (map (address_record asked) those) (alias_records db (alias_of name db))) are
-no_addresses name db (ip ∷ ips) are none = absurd (false≢true (sym (some_is ip ips) ∙ none))
-
-pub some_addresses : (name : List ℕ) (db : Db) (ips : List ℕ) → ips ≡ addresses_named name db → (length ips == 0) ≡ false → map (address_record asked) ips ≡ address_records db name
-some_addresses name db [] are some = absurd (true≢false some)
-some_addresses name db (ip ∷ ips) are some = ap (λ (those : List ℕ). or_where_empty (map (address_record asked) those) (alias_records db (alias_of name db))) are
 
 -- ---- pairs that no tuple has
 
@@ -175,27 +155,6 @@ pub spots_cost : (attr value : List ℕ) (db : Db) (spots : List Spot) → spots
 spots_cost attr value db spots are = ap (λ (those : List Spot). length those) are ∙ spots_count attr value db
 
 -- ---- messages
-
-pub is_answered : (db : Db) (message : List ℕ) → 12 ≤ length message → word_at 2 message < 2 ^ 15 → dns_answer db message ≡ Some (answer_read db message (question_of message))
-is_answered db message header query =
-    ap (λ (b : Bool). cond b (Some (answer_read db message (question_of message))) None)
-    (and_from (nat_le 12 (length message)) (nat_lt (word_at 2 message) 32768) (le-leb 12 (length message) header) (lt-ltb (word_at 2 message) 32768 query))
-
-pub short_is_not : (db : Db) (message : List ℕ) → length message < 12 → None ≡ dns_answer db message
-short_is_not db message short =
-    sym (ap (λ (b : Bool). cond (b && nat_lt (word_at 2 message) 32768) (Some (answer_read db message (question_of message))) None) (lt-leb 12 (length message) short))
-
-pub response_is_not : (db : Db) (message : List ℕ) → 2 ^ 15 ≤ word_at 2 message → None ≡ dns_answer db message
-response_is_not db message response =
-    sym (ap (λ (b : Bool). cond b (Some (answer_read db message (question_of message))) None)
-    (and_right (nat_le 12 (length message)) (nat_lt (word_at 2 message) 32768) (le-ltb (word_at 2 message) 32768 response)))
-
-pub answered : (db : Db) (message : List ℕ) (q : Question) (reply : List ℕ) → IsQuery message → question_of message ≡ Some q → reply ≡ reply_of message q (rcode_of db q) (records_of db q) → Some reply ≡ dns_answer db message
-answered db message q reply query asks is =
-    ap Some is ∙ sym (is_answered db message query.0 query.1 ∙ ap (λ (o : Option Question). Some (answer_read db message o)) asks)
-
-pub looks_asked : (db : Db) (message : List ℕ) (q : Question) → question_of message ≡ Some q → most_looks db message ≡ looks_of db q
-looks_asked db message q asks = ap (λ (o : Option Question). option_map_or (looks_of db) o 0) asks
 
 -- ---- keys
 
@@ -216,10 +175,3 @@ code_known db key o spots is are some =
 pub records_unknown : (db : Db) (kind : ℕ) (key : Key) (o : Option Key) (spots : List Spot) → Some key ≡ o → spots ≡ spots_with key.attr key.value db → (length spots == 0) ≡ true → [] ≡ records_found db kind o
 records_unknown db kind key o spots is are none =
     sym (ap (records_found db kind) (sym is) ∙ ap (λ (b : Bool). cond b [] (records_beside db kind key.attr key.value)) (unknown db key spots true are none))
-
-pub records_known : (db : Db) (kind : ℕ) (key : Key) (o : Option Key) (spots : List Spot) → Some key ≡ o → spots ≡ spots_with key.attr key.value db → (length spots == 0) ≡ false → records_beside db kind key.attr key.value ≡ records_found db kind o
-records_known db kind key o spots is are some =
-    sym (ap (records_found db kind) (sym is) ∙ ap (λ (b : Bool). cond b [] (records_beside db kind key.attr key.value)) (unknown db key spots false are some))
-
-pub looks_are : (db : Db) (q : Question) (key : Key) → Some key ≡ key_of q → looks_beside db q.kind key.attr key.value ≡ looks_of db q
-looks_are db q key is = ap (looks_for db q.kind) is

@@ -11,9 +11,6 @@ use Rattle.ndb_dns.proofs.Spelling.{Bytes, begin_with_run, both_valid, leads_val
 
 -- ---- labels in front
 
-pub adds_none : (bytes text : List ℕ) → label_of bytes ≡ None → length text ≤ 253 → AddsLabels bytes text bytes text
-adds_none bytes text none short = record { labels = []; runs = (refl, none); adds = record { told = refl; short = short } }
-
 pub adds_more : (bytes label behind text more rest now : List ℕ) → label_of bytes ≡ Some label → behind ≡ behind_label label bytes → more ≡ with_label text label → AddsLabels behind more rest now → AddsLabels bytes text rest now
 adds_more bytes label behind text more rest now is behind_is told adds = record {
   labels = label ∷ adds.labels;
@@ -48,24 +45,6 @@ too_long_behind bytes label behind text more is behind_is told long = λ labels 
         omega (arith, long labels rest these, size)
 
 -- ---- a run
-
-pub adds_run : (message : List ℕ) (place : ℕ) (front text rest now : List ℕ) (run : Run) → front ≡ drop place message → AddsLabels front text rest now → (last : End) → ending place rest ≡ Some last → run.end ≡ length message - length rest + last.len → run.target ≡ last.target → AddsRun message place text now run
-adds_run message place front text rest now run is adds last ends past points = record {
-  labels = adds.labels;
-  stands = record {
-    rest = rest;
-    last = last;
-    runs = subst (λ (bs : List ℕ). Runs bs adds.labels rest) is adds.runs;
-    ends = ends;
-    past = past;
-    points = points;
-  };
-  adds = adds.adds;
-}
-
-pub no_run_long : (message : List ℕ) (place : ℕ) (front text : List ℕ) → front ≡ drop place message → AreTooLong front text → HasNoRun message place text
-no_run_long message place front text is long = λ labels run stands.
-    long labels stands.rest (subst (λ (bs : List ℕ). Runs bs labels stands.rest) (sym is) stands.runs)
 
 pub no_run_end : (message : List ℕ) (place : ℕ) (front text rest now : List ℕ) → front ≡ drop place message → AddsLabels front text rest now → ending place rest ≡ None → HasNoRun message place text
 no_run_end message place front text rest now is adds none = λ labels run stands.

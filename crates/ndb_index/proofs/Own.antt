@@ -57,10 +57,6 @@ or_turned true false = refl
 or_turned false true = refl
 or_turned false false = refl
 
-pub cond_or : (a b : Bool) → cond a true b ≡ (a || b)
-cond_or true b = refl
-cond_or false b = refl
-
 pub any_more : {X : Type 0} (test : X → Bool) (xs : List X) (i : ℕ) (x : X) (now after : Bool) → i < length xs → x ≡ get_or xs i x → now ≡ list_any test (take i xs) → after ≡ (test x || now) → after ≡ list_any test (take (i + 1) xs)
 any_more test xs i x now after within here so_far put =
     put

@@ -17,6 +17,3 @@ flat-next tuple n line out new h here step is =
     ∙ ap line_text (ap (λ (l : List NdbPair). flat (take n tuple) ++ l) (here ∙ sym (append-nil (get_or tuple n [])))
     ∙ sym (flat_map-append (λ (l : List NdbPair). l) (take n tuple) (get_or tuple n [] ∷ []))
     ∙ ap flat (sym (take_more tuple n [] h)))
-
-pub flat-all : (tuple : List (List NdbPair)) (n : ℕ) (out : List ℕ) → length tuple ≤ n → out ≡ line_text (flat (take n tuple)) → out ≡ line_text (flat tuple)
-flat-all tuple n out all is = is ∙ ap (λ (t : List (List NdbPair)). line_text (flat t)) (take_all n tuple all)

@@ -62,9 +62,6 @@ on-next first line n pair names new h is en so =
     ∙ names_append names (files_on (pair ∷ [])) (files_on (drop (n + 1) line))
     ∙ ap (λ (ns : Names). with_names ns (files_on (drop (n + 1) line))) (sym en)
 
-pub on-all : (first : Names) (line : List NdbPair) (n : ℕ) (names : Names) → length line ≤ n → OnLine first line n names → names ≡ with_names first (files_on line)
-on-all first line n names all so = sym (so ∙ ap (λ (ps : List NdbPair). with_names names (files_on ps)) (drop_all n line all))
-
 -- The names in a tuple.
 
 abbrev pub files_in_tuple : List (List NdbPair) → Names
@@ -83,6 +80,3 @@ in-next tuple n line names new h is en so =
     ∙ ap (λ (l : List NdbPair). with_names names (files_on l ++ files_in_tuple (drop (n + 1) tuple))) (sym is)
     ∙ names_append names (files_on line) (files_in_tuple (drop (n + 1) tuple))
     ∙ ap (λ (ns : Names). with_names ns (files_in_tuple (drop (n + 1) tuple))) (sym en)
-
-pub in-all : (tuple : List (List NdbPair)) (n : ℕ) (names : Names) → length tuple ≤ n → InTuple tuple n names → names ≡ each_once (files_in_tuple tuple)
-in-all tuple n names all so = sym (so ∙ ap (λ (lines : List (List NdbPair)). with_names names (files_in_tuple lines)) (drop_all n tuple all))

@@ -11,14 +11,6 @@ more-push (p ∷ pairs) pair =
     ap (λ (text : List ℕ). codes " " ++ (pair_text p ++ text)) (more-push pairs pair)
     ∙ ap (λ (text : List ℕ). codes " " ++ text) (sym (append_assoc (pair_text p) (more_pairs pairs) (codes " " ++ pair_text pair)))
 
-nothing : (pairs : List NdbPair) → length (line_text pairs) ≡ 0 → pairs ≡ []
-nothing [] none = refl
-nothing (p ∷ pairs) none =
-    absurd (omega (arith, none, length-append (pair_text p) (more_pairs pairs), length-append p.attr (codes "=" ++ value_text p.value), length-append (codes "=") (value_text p.value)))
-
-push-first : (pairs : List NdbPair) (pair : NdbPair) → pairs ≡ [] → pair_text pair ≡ line_text (pairs ++ pair ∷ [])
-push-first pairs pair none = sym (append-nil (pair_text pair)) ∙ ap (λ (ps : List NdbPair). line_text (ps ++ pair ∷ [])) (sym none)
-
 pub next-more : (out blank new : List ℕ) (pairs : List NdbPair) (pair : NdbPair) → out ≡ line_text pairs → (length out ≡ 0 → ⊥) → blank ≡ out ++ codes " " → new ≡ blank ++ pair_text pair → new ≡ line_text (pairs ++ pair ∷ [])
 next-more out blank new [] pair is some eb en = absurd (some (ap (λ (text : List ℕ). length text) is))
 next-more out blank new (p ∷ pairs) pair is some eb en =

@@ -248,15 +248,6 @@ tells-of Memory m o bad h f = tt
 tells-of (Bad line cause) m None bad h f = absurd (some_none (sym h))
 tells-of (Bad line cause) m (Some c) bad h f = f c refl ∙ h
 
--- the same at equal values
-pub moved : (lines : List (List ℕ)) (m n : ℕ) (closed closed' : List File) (name name' : List ℕ) (whole whole' : List (List (List NdbPair))) (last last' : List (List NdbPair)) → Read lines m closed name whole last → n ≡ m → closed' ≡ closed → name' ≡ name → whole' ≡ whole → last' ≡ last → Read lines n closed' name' whole' last'
-moved lines m n closed closed' name name' whole whole' last last' r en ec ea ew el =
-    subst (λ (k : ℕ). Read lines k closed' name' whole' last') (sym en)
-    (subst (λ (c : List File). Read lines m c name' whole' last') (sym ec)
-    (subst (λ (a : List ℕ). Read lines m closed a whole' last') (sym ea)
-    (subst (λ (w : List (List (List NdbPair))). Read lines m closed name w last') (sym ew)
-    (subst (λ (l : List (List NdbPair)). Read lines m closed name whole l) (sym el) r))))
-
 -- what a text without a bad line reads as
 pub reading-is : (text : List ℕ) → bad_line text ≡ None → reading text ≡ Some (database (lines_of text))
 reading-is text h = ap (λ (o : Option (ℕ × ℕ)). cond (is_none o) (Some (database (lines_of text))) None) h

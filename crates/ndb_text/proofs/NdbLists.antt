@@ -4,11 +4,6 @@ use Rattle.std.specs.List.{list_any, before_first, after_last, suffix_len}
 use Rattle.std.proofs.lemmas.List.Sums.{suffix_len_is}
 use Rattle.ndb_text.proofs.NdbPlain.{or_false, or_false_first, or_false_rest, one_add}
 
-pub none-weaker : {X : Type 0} (p q : X → Bool) (xs : List X) → ((x : X) → p x ≡ false → q x ≡ false) → list_any p xs ≡ false → list_any q xs ≡ false
-none-weaker p q [] f h = refl
-none-weaker p q (x ∷ xs) f h =
-    or_false _ _ (f x (or_false_first (p x) (list_any p xs) h)) (none-weaker p q xs f (or_false_rest (p x) (list_any p xs) h))
-
 pub before_first-none : {X : Type 0} (p : X → Bool) (xs : List X) → list_any p xs ≡ false → before_first p xs ≡ xs
 before_first-none p [] h = refl
 before_first-none p (x ∷ xs) h =

@@ -22,9 +22,6 @@ pub on-no : (attr : List ℕ) (line : List NdbPair) (n : ℕ) (pair : NdbPair) (
     → before ≡ first ++ values_on attr (take n line) → before ≡ first ++ values_on attr (take (n + 1) line)
 on-no attr line n pair first before h here named so_far = so_far ∙ ap (λ (vs : List (List ℕ)). first ++ vs) (sym (on_less attr line n pair h here named))
 
-pub on-all : (attr : List ℕ) (line : List NdbPair) (n : ℕ) (first values : List (List ℕ)) → length line ≤ n → values ≡ first ++ values_on attr (take n line) → values ≡ first ++ values_on attr line
-on-all attr line n first values all so_far = so_far ∙ ap (λ (ps : List NdbPair). first ++ values_on attr ps) (take_all n line all)
-
 pub in-next : (attr : List ℕ) (tuple : List (List NdbPair)) (n : ℕ) (line : List NdbPair) (first before after : List (List ℕ)) → n < length tuple → line ≡ get_or tuple n [] → after ≡ before ++ values_on attr line
     → before ≡ first ++ values_in attr (take n tuple) → after ≡ first ++ values_in attr (take (n + 1) tuple)
 in-next attr tuple n line first before after h here put so_far =
@@ -33,9 +30,6 @@ in-next attr tuple n line first before after h here put so_far =
     ∙ append_assoc first (values_in attr (take n tuple)) (values_on attr line)
     ∙ ap (λ (l : List NdbPair). first ++ (values_in attr (take n tuple) ++ values_on attr l)) here
     ∙ ap (λ (vs : List (List ℕ)). first ++ vs) (sym (in_more attr tuple n (get_or tuple n []) h (own-default tuple n (get_or tuple n []) [] h refl)))
-
-pub in-all : (attr : List ℕ) (tuple : List (List NdbPair)) (n : ℕ) (first values : List (List ℕ)) → length tuple ≤ n → values ≡ first ++ values_in attr (take n tuple) → values ≡ first ++ values_in attr tuple
-in-all attr tuple n first values all so_far = so_far ∙ ap (λ (ls : List (List NdbPair)). first ++ values_in attr ls) (take_all n tuple all)
 
 -- the first that passes a test
 pub first-here : {X : Type 0} (test : X → Bool) (xs : List X) (i : ℕ) (x d : X) → i < length xs → find test (take i xs) ≡ None → x ≡ get_or xs i d → test x ≡ true → Some x ≡ find test xs

@@ -150,21 +150,6 @@ pub want_at : {E : Type 0} (r : Result Outcome E) (v : Numbered) (a : ActorName)
 want_at (Ok o) v a now work x is wants = tt
 want_at (Err e) v a now work x is wants = subst (λ (o : Option Kept). IfSome o (λ (y : Kept). ActorMayWant y.kind now work)) (sym is) wants
 
-found_can : (v : Numbered) (a : ActorName) (x : Kept) (now : ℕ) (work : Work) (can : CanStep v a now work) → slice_get v.actors (number_of v.hosts v.media a) ≡ Some x → Found can.world can.states a x
-found_can v a x now work can is = found can.world v can.states a x can.are (named can.world v can.states a can.are can.has) is
-
-pub small_at : (v : Numbered) (a : ActorName) (x : Kept) (now : ℕ) (work : Work) → CanStep v a now work → slice_get v.actors (number_of v.hosts v.media a) ≡ Some x → IsSmall (state_of x)
-small_at v a x now work can is = subst IsSmall (sym (found_can v a x now work can is).in_state) can.small
-
-pub ready_at : (v : Numbered) (a : ActorName) (x : Kept) (now : ℕ) (work : Work) → CanStep v a now work → slice_get v.actors (number_of v.hosts v.media a) ≡ Some x → IsReady x now work
-ready_at v a x now work can is =
-    let f = found_can v a x now work can is in (
-      can.world,
-      f.of_world,
-      ap (λ (b : ActorName). is_some (actor_step can.world b (state_of x) now work)) f.called
-          ∙ (ap (λ (s : Actor). is_some (actor_step can.world a s now work)) f.in_state ∙ can.ready),
-    )
-
 -- At first.
 
 get_push : {A : Type 0} (xs : List A) (y x : A) (k : ℕ) → slice_get (xs ++ y ∷ []) k ≡ Some x → (slice_get xs k ≡ Some x) ⊎ ((k ≡ length xs) × (y ≡ x))
@@ -172,9 +157,6 @@ get_push [] y x zero is = inr (refl, same_Some y x is)
 get_push [] y x (suc k) is = absurd (none-some x is)
 get_push (z ∷ xs) y x zero is = inl is
 get_push (z ∷ xs) y x (suc k) is = elim (get_push xs y x k is) [ inl there ↦ inl there | inr here ↦ inr (ap suc here.0, here.1) ]
-
-pub none_first : (w : World) → AreFirst w 0 []
-none_first w = record { count = refl; place = λ k x is. absurd (none-some x is) }
 
 pub one_more : (w : World) (n : ℕ) (xs : List Kept) (y : Kept) → AreFirst w n xs → IsActorOf w y → has_actor w y.name ≡ true → number_in w y.name ≡ n → state_of y ≡ opening_actor w.timers y.name
     → AreFirst w (n + 1) (xs ++ y ∷ [])

@@ -25,9 +25,6 @@ any-here test (x ∷ xs) (suc i) d h this = by (test x) (any-here test xs i d (o
     by true e = refl
     by false e = e
 
-pub any-none : {X : Type 0} (test : X → Bool) (xs : List X) (i : ℕ) → length xs ≤ i → list_any test (take i xs) ≡ false → list_any test xs ≡ false
-any-none test xs i h none = ap (list_any test) (sym (take_all i xs h)) ∙ none
-
 pub any-next : {X : Type 0} (test : X → Bool) (xs : List X) (i : ℕ) (d : X) → i < length xs → list_any test (take i xs) ≡ false → test (get_or xs i d) ≡ false → list_any test (take (i + 1) xs) ≡ false
 any-next test xs i d h none this =
     let e : i + 1 ≡ suc i = omega arith in

@@ -33,9 +33,6 @@ shown_more : (w : World) (h : List Entry) (x : Entry) (medium : Option ℕ)
 shown_more w h x medium =
     ap (filter (is_shown medium)) (laid_more w (opening_net w) h x) ∙ filter-append (is_shown medium) (frames w h) (laid_by (after w h) x)
 
-records : List Frame → List ℕ
-records fs = flat_map packet_record (map seen fs)
-
 records-append : (fs gs : List Frame)
     → flat_map packet_record (map seen (fs ++ gs)) ≡ flat_map packet_record (map seen fs) ++ flat_map packet_record (map seen gs)
 records-append fs gs = ap (λ (ps : List Seen). flat_map packet_record ps) (map-append seen fs gs) ∙ flat_map-append packet_record (map seen fs) (map seen gs)

@@ -88,13 +88,3 @@ pub planned_away : (h : ℕ) (names : Names) (q : Request) (ask : Ask) → plann
 planned_away h names q ask is = head_away (request_play h names q) ask (request_away h names q) is
 
 -- Room.
-
-room_if : (b : Holdings) (called : List ℕ) → b.reserved ≡ Some called → (bound : Bool) (o : Option Fid)
-    → HasRoom b (if bound then None else option_map (λ (f : Fid). called) o)
-room_if b called is true o = tt
-room_if b called is false None = tt
-room_if b called is false (Some f) = is
-
--- there is room for the name of an open
-pub room_for : (b : Holdings) (called path : List ℕ) (m : Mode) (r : Reply) → b.reserved ≡ Some called → HasRoom b (newly_opened b.names called path m r)
-room_for b called path m r is = room_if b called is (is_bound b.names called) (opened_fid m (openable (walk path) m) r)

@@ -44,13 +44,6 @@ none_more xs = ([], append-nil xs)
 
 -- A look.
 
-pub looks_on : (w : World) (r : Roster) (v : Visit) (p p' : Sight) (front : ℕ) → Looked r p front p' → IsWith w r v p
-    → StaysGuest w r v.caller p v.owed p' → IsWith w r v p'
-looks_on w r v p p' front look is stays =
-    let held : In (number.Caller v.caller, is.guest.list) p'.held =
-    subst (λ (hs : List Held). In (number.Caller v.caller, is.guest.list) hs) (sym look.held) is.guest.held in
-    with_more w r v p is p' stays look.before held (look.lists (number.Caller v.caller) is.guest.list is.guest.held)
-
 -- A number goes over.
 
 module _ (w : World) (r : Roster) (c : ℕ) (p q p' q' : Sight) (h : HandsOver r c p q p' q') where

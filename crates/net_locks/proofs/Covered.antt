@@ -51,10 +51,6 @@ own_more : (past : List Noted) (x : Noted) (stamp : ℕ) → length past ≡ sta
 own_more past x stamp at_stamp es alone =
     own_last 0 past x ∙ (ap (λ (l : List (ℕ × Noted)). l ++ (0 + length past, x) ∷ []) alone ∙ ap (λ (k : ℕ). es ++ (k, x) ∷ []) {x = 0 + length past} {y = stamp} (omega (arith, at_stamp)))
 
--- no entry of its own more
-pub covers_still : (c : ℕ) (p p' : Sight) (m : Marks) → own c p' ≡ own c p → Covers (own c p) m → Covers (own c p') m
-covers_still c p p' m alone covers = subst (λ (l : List (ℕ × Noted)). Covers l m) (sym alone) covers
-
 -- one that was noted
 pub covers_noted : (w : World) (r : Roster) (c now : ℕ) (a : ActorName) (work : Work) (cites : Option ℕ) (p p' : Sight) (ds : List Duty) → IsGuest w r c p ds
     → (stamp : ℕ) (o : Outcome) → Records w r a c now work cites p stamp o p' → (noted_at : ActorName) → noted_at ≡ a → (m m' : Marks)

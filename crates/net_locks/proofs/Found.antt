@@ -154,9 +154,6 @@ or_true a b is = is ∙ sym (ap (λ (x : Bool). x || b) is)
 pub or_false : (a b : Bool) → a ≡ false → b ≡ (a || b)
 or_false a b is = sym (ap (λ (x : Bool). x || b) is)
 
-pub finds_none : (goes full : ℕ → Bool) → Finds goes full [] (record { least = None; full = false })
-finds_none goes full = record { least_is = λ c there. absurd there; full_is = λ c there. absurd there }
-
 -- one more of those that stand in a row
 pub callers_more : (ss : List Standing) (i : ℕ) (s : Standing) → i < length ss → s ≡ get_or ss i s → callers_of (take (i + 1) ss) ≡ callers_of (take i ss) ++ s.caller ∷ []
 callers_more ss i s lt is =

@@ -334,7 +334,3 @@ module _ (w : World) (r : Roster) (log : List Noted) (ss : List Standing) (from 
   caught_up only within ds are =
       are ∙ same_map (mixed (noted_net w log).actors (noted_net w (take from log)).actors (all_touched ss)) (due_at (noted_net w log).actors) (conversations w)
       (λ b there. let one = only b there in one_still b (ap is_conversation one.3) within)
-
--- nothing was viewed yet
-pub none_mixed : (w : World) (now old : ActorName → Actor) (ds : List Due) → ds ≡ dues_of w old → AreMixed w now old [] ds
-none_mixed w now old ds are = are

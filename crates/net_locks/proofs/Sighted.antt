@@ -50,10 +50,6 @@ holds_all ts w r p ss stand c lt =
 
 -- What is seen of an actor.
 
--- an actor that the world hasn't is never ready
-pub absent : (w : World) (a : ActorName) (s : Actor) (now : ℕ) (work : Work) → has_actor w a ≡ false → false ≡ is_some (actor_step w a s now work)
-absent w a s now work none = sym (ap (λ (b : Bool). is_some (when b (table_step w a s now work))) none)
-
 module _ (w : World) (p p' : Sight) (same : p' ≡ p) (at_lock a : ActorName) (is : at_lock ≡ a) where
   -- whether a work is ready at it
   pub ready_seen : (now : ℕ) (work : Work) (b : Bool) → b ≡ is_some (answer_in w (state_at (opening w) (answer_in w) at_lock p'.seen) now work)

@@ -34,10 +34,6 @@ same_address ip other small low e =
     let d = same_byte_text (ip % 256) (other % 256) (omega arith) (omega arith) (ap (λ ps. get_or ps 3 []) parts) in
     omega arith
 
--- any address is written as none is
-pub any_is_no_address : (ip : ℕ) → ip < 2 ^ 32 → codes "*" ≡ address_text ip → ⊥
-any_is_no_address ip small e = omega (arith, ap length (ap (parts_at 46) e ∙ address_parts ip small))
-
 -- an address and a port, cut at the mark between them
 cut_line : (address : List ℕ) (port : ℕ) → IsWithout 33 address → port < 2 ^ 16 → parts_at 33 (address ++ 33 ∷ decimal port) ≡ address ∷ decimal port ∷ []
 cut_line address port clean small = cut_at 33 address (decimal port) (decimal port ∷ []) clean (one_part 33 (decimal port) (decimal_without port 33 (omega arith) (omega arith)))

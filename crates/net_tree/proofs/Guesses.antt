@@ -79,9 +79,6 @@ walk_kept path n is =
     sym (checked_kept path (node_of (parts path)))
     ∙ (ap (λ o. checked path o) is ∙ ap (λ b. if b && bytes_eq path (path_of n) then Some n else None) (kept_fits (node_of (parts path)) n is))
 
-pub walk_nowhere : (path : List ℕ) → kept (node_of (parts path)) ≡ None → walk path ≡ None
-walk_nowhere path is = sym (checked_kept path (node_of (parts path))) ∙ ap (λ o. checked path o) is
-
 -- Fronts.
 
 -- what stands behind the front decides

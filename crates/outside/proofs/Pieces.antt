@@ -17,26 +17,12 @@ consumes_more (Some xs) None new first second a b = absurd a
 consumes_more (Some xs) (Some left) None first second a b = absurd b
 consumes_more (Some xs) (Some left) (Some rest) first second a b = a ∙ ap (λ more. first ++ more) b ∙ sym (append_assoc first second rest)
 
--- pieces taken before a read that took nothing
-pub consumes_kept : (old between new : Option (List ℕ)) (bytes : List ℕ) → Consumes old between bytes → Keeps between new → Consumes old new bytes
-consumes_kept None between new bytes a b = tt
-consumes_kept (Some xs) None new bytes a b = absurd a
-consumes_kept (Some xs) (Some left) None bytes a b = absurd b
-consumes_kept (Some xs) (Some left) (Some rest) bytes a b = a ∙ ap (λ more. bytes ++ more) (sym b)
-
 -- a piece given after others
 pub appends_more : (old between new : Option (List ℕ)) (first second : List ℕ) → Appends old between first → Appends between new second → Appends old new (first ++ second)
 appends_more None between new first second a b = tt
 appends_more (Some xs) None new first second a b = absurd a
 appends_more (Some xs) (Some held) None first second a b = absurd b
 appends_more (Some xs) (Some held) (Some holds) first second a b = b ∙ ap (λ (front : List ℕ). front ++ second) a ∙ append_assoc xs first second
-
--- pieces given before a write that gave nothing
-pub appends_kept : (old between new : Option (List ℕ)) (bytes : List ℕ) → Appends old between bytes → Keeps between new → Appends old new bytes
-appends_kept None between new bytes a b = tt
-appends_kept (Some xs) None new bytes a b = absurd a
-appends_kept (Some xs) (Some held) None bytes a b = absurd b
-appends_kept (Some xs) (Some held) (Some holds) bytes a b = b ∙ a
 
 -- a piece given from the place where the pieces before it ended
 pub appends_next : (old between new : Option (List ℕ)) (xs : List ℕ) (done n : ℕ) → Appends old between (take done xs) → Appends between new (take n (take (length xs - done) (drop done xs))) → Appends old new (take (done + n) xs)

@@ -35,19 +35,6 @@ use Rattle.net_base.proofs.Members.{first_of, none_first}
 pub next_of_script : (w : World) (h : List Entry) (c : ℕ) (s : Script) → slice_get w.scripts c ≡ Some s → next w h c ≡ next_after (zone_of w) s (own_replies h c)
 next_of_script w h c s is = ap (λ (k : Called). next_of w k h c) (script_is w c s is)
 
-pub next_of_courier : (w : World) (h : List Entry) (c m : ℕ) → caller_of w c ≡ IsCourier m → next w h c ≡ next_of w (IsCourier m) h c
-next_of_courier w h c m is = ap (λ (k : Called). next_of w k h c) is
-
-pub next_of_clock : (w : World) (h : List Entry) (c : ℕ) → caller_of w c ≡ IsClock → next w h c ≡ None
-next_of_clock w h c is = ap (λ (k : Called). next_of w k h c) is
-
--- it goes by the replies to its own events
-next_alike : (w : World) (k : Called) (h later : List Entry) (c : ℕ) → own_replies later c ≡ own_replies h c → next_of w k later c ≡ next_of w k h c
-next_alike w (IsScript s) h later c same = ap (λ (rs : List Reply). (position s.host s.steps (at_first (zone_of w)) rs).next) same
-next_alike w (IsCourier m) h later c same = refl
-next_alike w IsClock h later c same = refl
-next_alike w IsNobody h later c same = refl
-
 -- Whether it may record.
 
 pub owes_first : (w : World) (h : List Entry) (c : ℕ) (k : Caller) (d : Duty) → IsCaller w h c k → slice_get k.owed.list 0 ≡ Some d
@@ -89,49 +76,6 @@ may_not w h c k past kept is next = sym (may_next w h c k past kept is ∙ ap (�
 
 -- Its turn is taken.
 
-asked_duty : (k : Called) (o : Option Ask) (ds rest : List Duty) (d : Duty) (x : Entry) → ds ≡ d ∷ rest
-    → record { actor = d.actor; event = d.event } ≡ asked_by x → IsAsked ds k o x
-asked_duty k o ds rest d x is same = subst (λ (es : List Duty). IsAsked es k o x) (sym is) same
-
-pub turn_of_duty : (w : World) (h : List Entry) (c : ℕ) (ds : List Duty) (d : Duty) (t : Turn) → OfDuty d t → owed w h c ≡ d ∷ ds → IsTurn w h c t
-turn_of_duty w h c ds d t of is =
-    record {
-      asked = λ x actor event. asked_duty (caller_of w c) (next w h c) (owed w h c) ds d x is (same_ask d t x of actor event);
-      cited = of.cites ∙ sym (ap cites_of is);
-      given = ap (λ (work : Work). work.with) of.work ∙ sym (ap with_of is);
-    }
-  where
-    same_ask : (d : Duty) (t : Turn) (x : Entry) → OfDuty d t → x.actor ≡ t.actor → x.event ≡ t.work.event
-        → record { actor = d.actor; event = d.event } ≡ asked_by x
-    same_ask d t x of actor event =
-        let a : d.actor ≡ x.actor = sym (actor ∙ of.actor) in
-        let e : d.event ≡ x.event = sym (event ∙ ap (λ (work : Work). work.event) of.work) in
-        rw (a, e) refl
-
-asked_next : (w : World) (k : Called) (h : List Entry) (c : ℕ) (x : Entry) → next_of w k h c ≡ Some (asked_by x) → IsNext k (next_of w k h c) x
-asked_next w (IsScript s) h c x is = is
-asked_next w (IsCourier m) h c x is = is
-asked_next w IsClock h c x is = absurd (none-some _ is)
-asked_next w IsNobody h c x is = is
-
-asked_own : (w : World) (k : Called) (h : List Entry) (c : ℕ) (ds : List Duty) (x : Entry) → ds ≡ [] → next_of w k h c ≡ Some (asked_by x)
-    → IsAsked ds k (next_of w k h c) x
-asked_own w k h c ds x none is = subst (λ (es : List Duty). IsAsked es k (next_of w k h c) x) (sym none) (asked_next w k h c x is)
-
-pub turn_of_next : (w : World) (h : List Entry) (c : ℕ) (t : Turn) → owed w h c ≡ [] → Some (ask_of t) ≡ next w h c → IsOwn t → IsTurn w h c t
-turn_of_next w h c t none is own =
-    record {
-      asked = λ x actor event. asked_own w (caller_of w c) h c (owed w h c) x none (sym is ∙ same_ask t x actor event);
-      cited = own.none ∙ sym (ap cites_of none);
-      given = own.nothing ∙ sym (ap with_of none);
-    }
-  where
-    same_ask : (t : Turn) (x : Entry) → x.actor ≡ t.actor → x.event ≡ t.work.event → Some (ask_of t) ≡ Some (asked_by x)
-    same_ask t x actor event = rw (actor, event) refl
-
-nothing_left : (ds : List Duty) → ds ≡ [] → ds ≡ drop 1 ds
-nothing_left ds is = is ∙ sym (ap (drop 1) is)
-
 -- it may record only where there is a turn
 pub some_next : (w : World) (h : List Entry) (c : ℕ) (k : Caller) → (after w h).past ≡ h → IsCaller w h c k → slice_get k.owed.list 0 ≡ None
     → may_turn w h c ≡ true → IsSome k.next
@@ -142,34 +86,6 @@ some_next w h c k past kept is may = by_next k.next refl
     by_next (Some t) some = subst (λ (o : Option Turn). IsSome o) (sym some) refl
 
 -- It goes on.
-
-role_alike : (w : World) (h later : List Entry) (c : ℕ) (r : Role) (before : ℕ) → own_replies later c ≡ own_replies h c → HasRole w h c r before
-    → HasRole w later c r before
-role_alike w h later c (role.Script s p) before same at =
-    record {
-      is = at.is;
-      at = subst (λ (rs : List Reply). IsAt (zone_of w) s.now rs p) (sym same) at.at;
-      before_is = at.before_is ∙ ap (λ (rs : List Reply). finished_by (zone_of w) (take (length rs - 1) rs) s.now) (sym same);
-    }
-role_alike w h later c (role.Courier m) before same at = at
-role_alike w h later c role.Clock before same at = at
-
--- after a duty
-pub goes_owed : (old : Caller) (cites : Option ℕ) (reply : Reply) → is_some cites ≡ true
-    → GoesOn old (record old { entries = old.entries + 1 }) cites reply
-goes_owed old None reply some = absurd (false≢true some)
-goes_owed old (Some n) reply some =
-    record {
-      owed_stays = refl;
-      entries_is = refl;
-      goes = λ w h c x turns is.
-          let same = duty_replies h x c n is.caller_is is.cites_is in
-          record {
-            role_is = role_alike w h (h ++ x ∷ []) c old.role old.before same turns.role_is;
-            next_is = turns.next_is refl ∙ sym (next_alike w (caller_of w c) h (h ++ x ∷ []) c same);
-            own = turns.own refl;
-          };
-    }
 
 -- a player takes a reply that fits
 abbrev pub Tells : Script → Playing → Playing → Reply → Type 0

@@ -23,11 +23,6 @@ use Rattle.plain_runner.proofs.Bounds.{move_within}
 
 -- The moment is never past the end.
 
-abbrev due_and_awaited : World → Net → List ℕ
-due_and_awaited w net =
-    filter_map (λ (a : ActorName). due_of (net.actors a)) (conversations w)
-    ++ filter_map (λ (c : ℕ). awaited_moment (next_of w (caller_of w c) net.past c)) (callers w)
-
 pub moment_within : (w : World) (h : List Entry) → IsLegal w h → IsTimed w h → moment w h ≤ w.end
 moment_within w h legal timed = by_entries w (λ (k : List Entry). IsTimed w k → moment w k ≤ w.end) (λ none. omega arith) push h legal timed
   where

@@ -26,9 +26,6 @@ put_same f p new q is = rw is refl
 
 -- All sides talk.
 
-abbrev pub Talk : (Pair → Side) → Type 0
-Talk side = (p : Pair) → Holds (side p) (side (mirror p))
-
 -- one of them takes a step
 pub talk_put : (side : Pair → Side) (p : Pair) (new : Side) → same_pair p (mirror p) ≡ false → ((q : Pair) → Holds (side q) (side (mirror q))) → Stepped (side p) (side (mirror p)) new
     → (q : Pair) → Holds (put_at side p new q) (put_at side p new (mirror q))

@@ -92,7 +92,3 @@ trace w h = trace_of w (opening_net w) opening_trace h
 pub record HasPlaces (w : World) : Type 0 where
   pub one_host : (h h' ip : ℕ) → has_address w h ip ≡ true → has_address w h' ip ≡ true → h ≡ h'
   pub own_source : (h ip : ℕ) (out : Way) → way w h ip ≡ Some out → has_address w h out.source ≡ true
-
--- the end of a pair as it last stood
-abbrev pub end_of : World → List Entry → Pair → End
-end_of w h p = ((trace w h).side p).end

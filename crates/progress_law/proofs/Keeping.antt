@@ -64,10 +64,6 @@ in_rest : {A : Type 0} (x : A) (xs : List A) → In x (drop 1 xs) → In x xs
 in_rest x [] there = there
 in_rest x (y ∷ xs) there = inr there
 
-each_rest : (P : Duty → Type 0) (ds : List Duty) → Each P ds → Each P (drop 1 ds)
-each_rest P [] all = tt
-each_rest P (d ∷ ds) all = all.1
-
 later_rest : (R : Duty → Duty → Type 0) (ds : List Duty) → Later R ds → Later R (drop 1 ds)
 later_rest R [] all = tt
 later_rest R (d ∷ ds) all = all.1

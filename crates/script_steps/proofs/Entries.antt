@@ -38,9 +38,6 @@ one_further w h old new n x lt is before now = record {
       now.history_is ∙ ap (λ (p : List Entry). p ++ x ∷ []) before.history_is ∙ taken h n x lt is ∙ ap (λ (k : ℕ). take k h) e;
 }
 
-pub all_of : (w : World) (h : List Entry) (r : Runner) (n : ℕ) → length h ≤ n → Followed w (take n h) r → Followed w h r
-all_of w h r n le f = record { tracks = f.tracks; history_is = f.history_is ∙ take_all n h le }
-
 -- its caller is one of the run's
 pub has_caller : (w : World) (r : Runner) (x : Entry) → Follows w r x → x.caller < length r.callers.items
 has_caller w r x f = omega (arith, f.may.is_known.1, f.tracks.callers_are.count)

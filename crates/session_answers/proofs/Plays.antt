@@ -68,9 +68,6 @@ put_ahead h names f text file.Local = controlled_ahead h names f text (control.r
 put_ahead h names f text file.Remote = controlled_ahead h names f text (control.read text)
 put_ahead h names f text file.Status = controlled_ahead h names f text (control.read text)
 
-use_ahead : (h : ℕ) (called : List ℕ) (after : Reply → Names) (names : Names) → ((x : Reply) → names ≡ after x) → Ahead after (uses h called names)
-use_ahead h called after names same = One _ _ _ refl (λ x. ap Ends (same x))
-
 write_ahead : (h : ℕ) (names : Names) (called text : List ℕ) → Ahead (settled names (asked (step.Writex called text))) (request_play h names (asked (step.Writex called text)))
 write_ahead h names called text = by (fid_of called names)
   where

@@ -83,20 +83,3 @@ same_state table old found was names before a b c =
     ap (λ (x : Table). known_so x found names) a ∙ ap (λ (x : Found). known_so old x names) b ∙ ap (λ (x : Names). known_so old was x) c
 
 -- ---- answers
-
--- a message without a step
-pub told_served : (h : ℕ) (s now : State) (m : Tmsg) (answer : List ℕ) (rs : List Reply) → step_of s.table m ≡ None → told s m ≡ Gives answer now
-    → outcome (serves_by h s m (step_of s.table m)) rs ≡ served (Some answer) now rs
-told_served h s now m answer rs none gives =
-    ap (λ (o : Option Step). outcome (serves_by h s m o) rs) none ∙ ap (λ (d : Doing State). outcome d rs) gives
-
--- its step was played to its end
-pub play_served : (h : ℕ) (s now : State) (m : Tmsg) (played : Step) (names : Names) (x : Reply) (answer : List ℕ) (rs left : List Reply)
-    → Plays h s.names played rs names (Some x) left → by_last s m names (Some x) ≡ Gives answer now
-    → outcome (serves_by h s m (Some played)) rs ≡ served (Some answer) now left
-play_served h s now m played names x answer rs left plays gives = plays (by_last s m) ∙ ap (λ (d : Doing State). outcome d left) gives
-
--- .. or it waits
-pub play_waits : (h : ℕ) (s now : State) (m : Tmsg) (played : Step) (names : Names) (rs left : List Reply)
-    → Plays h s.names played rs names None left → outcome (serves_by h s m (Some played)) rs ≡ served None now left
-play_waits h s now m played names rs left plays = plays (by_last s m)

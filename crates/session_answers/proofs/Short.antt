@@ -95,23 +95,6 @@ grant_short pair start limit a b c d e f =
     (and_from (is_short (numeral start)) _ (number_short start e) (and_from (is_short (numeral limit)) true (number_short limit f) refl))))
     (omega arith)
 
-pub state_short : (s : StateName) → length (printed (reply.WrongState s)) ≤ longest_text
-state_short s = has_room (reply.WrongState s) (and_from (is_short (state_word s)) true (word s) refl) (omega arith)
-  where
-    word : (n : StateName) → is_short (state_word n) ≡ true
-    word name.Free = refl
-    word name.Reserved = refl
-    word name.Announced = refl
-    word name.Granted = refl
-    word name.Withdrawn = refl
-    word name.Closed = refl
-    word name.Syncer = refl
-    word name.Syncee = refl
-    word name.Established = refl
-    word name.Listening = refl
-    word name.Closing = refl
-    word name.Open = refl
-
 pub hungup_short : (c : Cause) → length (printed (reply.Hungup c)) ≤ longest_text
 hungup_short c = one_number (reply.Hungup c) (cause_number c) (codes "hungup") refl refl (few c)
   where
@@ -120,8 +103,3 @@ hungup_short c = one_number (reply.Hungup c) (cause_number c) (codes "hungup") r
     few cause.TimedOut = omega arith
     few cause.Hungup = omega arith
     few cause.ByPeer = omega arith
-
--- a word alone
-pub word_short : (x : Reply) (word : List ℕ) → reply_words x ≡ word ∷ [] → is_short word ≡ true → length (printed x) ≤ longest_text
-word_short x word is short =
-    has_room x (ap (λ (ws : List (List ℕ)). list_all is_short ws) is ∙ and_from (is_short word) true short refl) (omega (arith, ap (λ (ws : List (List ℕ)). length ws) is))

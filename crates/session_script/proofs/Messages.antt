@@ -65,14 +65,6 @@ one_beginning k m n bytes p q a b =
     ∙ drop-append_seam (t_bytes n) q in
     (same_spelled m n a.spells b.spells fronts, rests)
 
--- a message that stands in front begins the bytes
-pub cut_begins : (k : ℕ) (m : Tmsg) (bytes front rest : List ℕ) → SpellsT m front → length front ≤ k → bytes ≡ front ++ rest → Begins k m bytes rest
-cut_begins k m bytes front rest s short whole = record {
-  spells = subst (SpellsT m) s.spelled s;
-  short = subst (λ (xs : List ℕ). length xs ≤ k) s.spelled short;
-  whole = whole ∙ ap (λ (xs : List ℕ). xs ++ rest) s.spelled;
-}
-
 -- .. and what begins the bytes is what their size cuts off
 pub front_spells : (k : ℕ) (m : Tmsg) (bytes rest : List ℕ) → Begins k m bytes rest → SpellsT m (take (little_number 4 bytes) bytes)
 front_spells k m bytes rest b =

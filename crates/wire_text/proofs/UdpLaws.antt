@@ -20,12 +20,6 @@ pub record IsSoundUdp (src dst : ℕ) (bytes : List ℕ) : Type 0 where
 pub sent_sum-fits : (bytes : List ℕ) → sent_sum (sum_of bytes) < 2 ^ 16
 sent_sum-fits bytes = let fits = sum_of-fits bytes in grind (arith, nat_tests)
 
-pub ports_again : (sum sport dport : ℕ) (text : List ℕ) → sport < 2 ^ 16 → dport < 2 ^ 16 → (sport_of (udp_with sum sport dport text) ≡ sport) × (dport_of (udp_with sum sport dport text) ≡ dport)
-ports_again sum sport dport text p q = (word_again sport p, word_again dport q)
-
-pub text_again : (sum sport dport : ℕ) (text : List ℕ) → udp_text (udp_with sum sport dport text) ≡ text
-text_again sum sport dport text = refl
-
 whole_again : (sum sport dport : ℕ) (text : List ℕ) → 8 + length text < 2 ^ 16 → udp_length (udp_with sum sport dport text) ≡ length (udp_with sum sport dport text)
 whole_again sum sport dport text fits = word_again (8 + length text) fits ∙ omega arith
 

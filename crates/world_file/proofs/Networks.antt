@@ -47,9 +47,6 @@ with_route_too keys h l are net mask =
     ∙ ap (λ b. list_any (is_network net mask) h.ifaces || b)
     (sym (list_any-append (leads_to net mask) h.routes (l ∷ []) ∙ or_end (list_any (leads_to net mask) h.routes) (leads_to net mask l)))))
 
-pub with_start_too : (keys : List (ℕ × ℕ)) (h : HostSpec) (n : ℕ) → AreNetworks keys h → AreNetworks keys (with_start n h)
-with_start_too keys h n are net mask = are net mask
-
 -- The set of networks.
 
 swap : (m n : ℕ) → (m == n) ≡ (n == m)

@@ -17,17 +17,6 @@ use Rattle.net_base.specs.declared.world.FateRange.{FateRange}
 use Rattle.net_base.specs.World.{overlap}
 use Rattle.world_file.specs.Indexed.{AreFound, AreIndexed, has_frames}
 
-not-overlap : (a b c d : ℕ) → (nat_le a b && nat_le c d) ≡ false → a ≤ b → c ≤ d → ⊥
-not-overlap a b c d e f g = by (nat_le a b) refl (nat_le c d) refl e
-  where
-    no : (m n : ℕ) → nat_le m n ≡ false → m ≤ n → ⊥
-    no m n h k = let lt : n < m = grind (arith, nat_tests) in omega (arith, lt, k)
-
-    by : (v : Bool) → nat_le a b ≡ v → (w : Bool) → nat_le c d ≡ w → (v && w) ≡ false → ⊥
-    by false ev w ew h = no a b ev f
-    by true ev false ew h = no c d ew g
-    by true ev true ew h = false≢true (sym h)
-
 is-overlap : (a b c d : ℕ) → a ≤ b → c ≤ d → (nat_le a b && nat_le c d) ≡ true
 is-overlap a b c d f g = grind (arith, nat_tests)
 
@@ -103,14 +92,6 @@ pub some_there : (find : ℕ → Option ℕ) (new : FateRange) (fates : List Fat
 some_there find new fates last first k at low high = framed new first last fates (k.stand last first at) low high
 
 -- One fate more.
-
-pub indexed_none : AreIndexed (λ last. None) []
-indexed_none = record {
-  listed = tt;
-  stand = λ last first e. absurd (none-some first e);
-  forward = λ last first e. absurd (none-some first e);
-  apart = λ last first other start e f lt. absurd (none-some first e);
-}
 
 same-or : (a b : ℕ) → (a ≡ b) ⊎ (a ≢ b)
 same-or a b = by (a == b) refl

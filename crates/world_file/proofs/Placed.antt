@@ -99,21 +99,3 @@ medium_none called f (s ∷ ms) past = by (bytes_eq called s.name) refl past (λ
         → (if b then f s else s) ∷ on_medium called f ms ≡ s ∷ ms
     by true e h later = absurd (h (omega arith))
     by false e h later = ap (λ xs. s ∷ xs) (later (λ lt. h (omega (arith, lt))))
-
--- a medium at the place of its name has no fate for these frames, where none of the name has
-pub unfated_at : (called : List ℕ) (new : FateRange) (ms : List MediumSpec) (d : MediumSpec) → place called ms < length ms → list_any (is_fated called new) ms ≡ false
-    → list_any (overlap new) (get_or ms (place called ms) d).fates ≡ false
-unfated_at called new [] d lt none = absurd (omega (arith, lt))
-unfated_at called new (s ∷ ms) d lt none =
-    let parts = or_parts (is_fated called new s) (list_any (is_fated called new) ms) none in by (bytes_eq called s.name) refl lt parts.0 (λ h. unfated_at called new ms d h parts.1)
-  where
-    by : (b : Bool) → bytes_eq called s.name ≡ b → cond (not b) (1 + place called ms) 0 < suc (length ms) → is_fated called new s ≡ false
-        → (place called ms < length ms → list_any (overlap new) (get_or ms (place called ms) d).fates ≡ false)
-        → list_any (overlap new) (get_or (s ∷ ms) (cond (not b) (1 + place called ms) 0) d).fates ≡ false
-    by true e h f later = sym (ap (λ v. v && list_any (overlap new) s.fates) e) ∙ f
-    by false e h f later = next (place called ms) h later
-      where
-        next : (n : ℕ) → 1 + n < suc (length ms) → (n < length ms → list_any (overlap new) (get_or ms n d).fates ≡ false) → list_any (overlap new) (get_or (s ∷ ms) (1 + n) d).fates ≡ false
-        next n h2 later2 =
-            let one : 1 + n ≡ suc n = omega arith in
-            ap (λ m. list_any (overlap new) (get_or (s ∷ ms) m d).fates) one ∙ later2 (omega (arith, h2))

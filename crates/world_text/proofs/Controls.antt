@@ -13,9 +13,6 @@ use Rattle.net_base.specs.declared.names.Ctl.TheVariants as ctl
 use Rattle.net_base.specs.ControlWords.{dotted, place, spelling, short_spelling, is_port, is_place, in_range, IsSpelled, Reads, newline, blank, first_word, is_word, without_newline, address_of, place_of, parts_of_place, connect_of, control_of, is_spelled, checked, said, read, bad_word, bad_argument}
 use Rattle.net_base.proofs.Shared.{IsWithout, decimal_without, one_part, cut_at, without_one, four_parts, dotted_without, value_of, or_true, same_text, equal_texts}
 
-abbrev octet : ℕ → ℕ → ℕ
-octet ip k = ip / 2 ^ k % 256
-
 -- Places.
 
 address_back : (ip : ℕ) → ip < 2 ^ 32 → address_of (slice_split (λ b. b == 46) (dotted ip)) ≡ Some ip

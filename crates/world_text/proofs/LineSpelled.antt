@@ -217,10 +217,6 @@ frames-are word f (k ∷ l ∷ []) parts e = by (frame_in k) refl (frame_in l) r
     by None ek p el g = absurd (none-some f g)
 frames-are word f (k ∷ l ∷ m ∷ words) parts e = absurd (none-some f e)
 
-if-some : {A : Type 0} (b : Bool) (x y : A) → (if b then Some x else None) ≡ Some y → (b ≡ true) × (x ≡ y)
-if-some true x y e = (refl, same_Some x y e)
-if-some false x y e = absurd (none-some y e)
-
 pub fate-is : (word : List ℕ) (x : Fate) → fate_named word ≡ Some x → word ≡ fate_word x
 fate-is word x e = by (bytes_eq word (codes "deliver")) refl (bytes_eq word (codes "lose")) refl (bytes_eq word (codes "twice")) refl (bytes_eq word (codes "later")) refl e
   where

@@ -235,10 +235,6 @@ media-same all n before (s ∷ rest) e fit apart =
 
 -- in their order
 
-names-of-fates : (called : List ℕ) (fs : List FateRange) → names (fate_lines called fs) ≡ []
-names-of-fates called [] = refl
-names-of-fates called (f ∷ fs) = names-of-fates called fs
-
 fates-behind : (called : List ℕ) (lines : List MediumLine) (fs : List FateRange) → EachBehind IsBehindMedium lines → SaysMedium called lines → EachBehind IsBehindMedium (lines ++ fate_lines called fs)
 fates-behind called lines [] each says = subst (EachBehind IsBehindMedium) (sym (append-nil lines)) each
 fates-behind called lines (f ∷ fs) each says =

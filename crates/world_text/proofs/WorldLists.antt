@@ -155,10 +155,6 @@ none-if f [] h = refl
 none-if f (x ∷ xs) h =
     ap (λ o. cons_option o (filter_map f xs)) (h [] x xs refl) ∙ none-if f xs (λ before y rest e. h (x ∷ before) y rest (ap (λ ys. x ∷ ys) e))
 
--- a test of an element that stands in the list
-pub any-at : {A : Type 0} (p : A → Bool) (xs before : List A) (x : A) (rest : List A) → xs ≡ before ++ x ∷ rest → p x ≡ true → list_any p xs ≡ true
-any-at p xs before x rest e here = ap (list_any p) e ∙ (any-insert p before x rest ∙ ap (λ b. b || list_any p (before ++ rest)) here)
-
 -- The last element.
 
 pub last-push : {A : Type 0} (o : Option A) (xs : List A) (x : A) → last_or o (xs ++ x ∷ []) ≡ Some x
@@ -222,11 +218,3 @@ without-none b [] none = λ k d lt. absurd (omega (arith, lt))
 without-none b (c ∷ word) none =
     let both = or_parts (c == b) (list_any (λ (x : ℕ). x == b) word) none in
     without_one b c word both.0 (without-none b word both.1)
-
--- a name has only the bytes of names
-pub name-without : (b : ℕ) (word : List ℕ) → is_name_byte b ≡ false → is_name word ≡ true → IsWithout b word
-name-without b [] none is = absurd (false≢true is)
-name-without b (c ∷ word) none is =
-    let first = and_parts (is_letter c) (list_all is_name_byte word && nat_lt (length word) 27) is in
-    let rest = and_parts (list_all is_name_byte word) (nat_lt (length word) 27) first.1 in
-    list-without is_name_byte b (c ∷ word) none (ap (λ v. (v || (is_within 48 57 c || (c == 45))) && list_all is_name_byte word) first.0 ∙ rest.0)

@@ -305,9 +305,6 @@ both_swap false false = refl
 pub same-overlap : (f g : FateRange) → overlap f g ≡ overlap g f
 same-overlap f g = both_swap (nat_le f.first g.last) (nat_le g.first f.last)
 
-pub not-true : (b : Bool) → b ≡ true → not b ≡ false
-not-true b e = ap not e
-
 le-from-lt : (n : ℕ) → nat_lt 1000 n ≡ false → nat_le n 1000 ≡ true
 le-from-lt n e = grind (arith, nat_tests)
 
@@ -316,9 +313,6 @@ lt-from-le n e = grind (arith, nat_tests)
 
 pub room-from : (m n : ℕ) → nat_le m n ≡ false → n < m
 room-from m n e = grind (arith, nat_tests)
-
-pub upto-is : (m n : ℕ) → n ≤ m → nat_lt m n ≡ false
-upto-is m n h = grind (arith, nat_tests)
 
 pub names-pushed : (lines : List MediumLine) (called : List ℕ) (mtu : ℕ) → names (lines ++ medium.Medium called mtu ∷ []) ≡ names lines ++ called ∷ []
 names-pushed lines called mtu = filter_map-append name_said lines (medium.Medium called mtu ∷ [])

@@ -13,19 +13,6 @@ are_few n names = nat_le (n + length names) 16 && list_all is_remote_name names
 
 -- ---- names
 
-pub bad_name : (n : ℕ) (name : List ℕ) (names : List (List ℕ)) → is_remote_name name ≡ false → are_few n (name ∷ names) ≡ false
-bad_name n name names bad = rw bad (and_none (nat_le (n + length (name ∷ names)) 16))
-
-pub last_name : (n : ℕ) (name : List ℕ) → n < 16 → is_remote_name name ≡ true → are_few n (name ∷ []) ≡ true
-last_name n name more good =
-    let few : nat_le (n + 1) 16 ≡ true = grind (arith, nat_tests, more) in
-    rw (few, good) refl
-
-pub next_name : (n : ℕ) (name : List ℕ) (names : List (List ℕ)) → is_remote_name name ≡ true → are_few n (name ∷ names) ≡ are_few (n + 1) names
-next_name n name names good =
-    let same : n + length (name ∷ names) ≡ (n + 1) + length names = omega arith in
-    rw (good, same) refl
-
 pub too_many : (names : List (List ℕ)) → 0 < length names → are_few 16 names ≡ false
 too_many names some =
     let many : nat_le (16 + length names) 16 ≡ false = grind (arith, nat_tests, some) in
@@ -38,15 +25,3 @@ none_counted names =
     rw same refl
 
 -- ---- paths
-
-abbrev net_name : List ℕ
-net_name = codes "net"
-
--- no second part stands there
-pub no_net : (path root : List ℕ) → parts_at 47 path ≡ root ∷ [] → is_remote_path path ≡ false
-no_net path root is = ap are_net is
-
--- the first two parts, and the parts behind them
-pub behind_net : (path root rest net : List ℕ) (names : List (List ℕ)) → parts_at 47 path ≡ root ∷ parts_at 47 rest → parts_at 47 rest ≡ net ∷ names
-    → is_remote_path path ≡ (bytes_eq root [] && (bytes_eq net net_name && (nat_le (length names) 16 && list_all is_remote_name names)))
-behind_net path root rest net names is behind = ap are_net (is ∙ ap (λ (parts : List (List ℕ)). root ∷ parts) behind)
