@@ -23,6 +23,7 @@ const UDP: u8 = 17;
 pub fn datagram_of(alloc: Global, packet: &Packet) -> Result<Octets, AllocError>
     requires { datagram_length packet.now.body < 2 ^ 16 }
     ensures spelled { IfOk result (λ bytes. bytes ≡ spelling packet.now) }
+    ensures count { IfOk result (λ bytes. length bytes ≡ datagram_length packet.now.body) }
     ensures fits { OnOk result (IsPacket packet.now) }
 {
     let mut bytes = vec![in alloc; 0u8; length_of(&packet.body)]?;

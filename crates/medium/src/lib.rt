@@ -6,4 +6,5 @@ mod fates;
 mod frame;
 mod medium;
 
+pub use datagram::datagram_of;
 pub use medium::{Laid, Medium};

@@ -1,13 +1,11 @@
 -- What an entry adds to a capture where a run follows a history.
-use Rattle.std.specs.Prelude.{◌≡◌, ℕ, ◌^◌, ◌<◌, ◌==◌, Bool, true, false, List, ◌++◌, filter, flat_map, map, Option, Some, None}
+use Rattle.std.specs.Prelude.{◌≡◌, ℕ, ◌==◌, Bool, true, false, List, ◌++◌, filter, flat_map, map, Option, Some, None}
 use Rattle.std.specs.List.{AllByRecursion}
 use Rattle.net_base.specs.declared.history.Entry.{Entry}
-use Rattle.net_base.specs.declared.packet.Packet.{Packet}
 use Rattle.net_base.specs.declared.world.World.{World}
 use Rattle.net_base.specs.Net.{after}
 use Rattle.plain_runner.specs.Followed.{Follows}
 use Rattle.plain_runner.specs.declared.runner.Runner.{Runner}
-use Rattle.wire_text.specs.Datagram.{IsBody}
 use Rattle.net_capture.specs.Capture.{Frame, IsReadBack, is_shown, laid_by, seen}
 use Rattle.net_capture.specs.Savefile.{packet_record}
 
@@ -16,12 +14,6 @@ abbrev pub is_on : Option ℕ → Option ℕ → Bool
 is_on shown None = false
 is_on None (Some m) = true
 is_on (Some wanted) (Some m) = m == wanted
-
--- ports and a body that have a spelling
-pub record HasBody (p : Packet) : Type 0 where
-  pub sport : p.src.port < 2 ^ 16
-  pub dport : p.dst.port < 2 ^ 16
-  pub body : IsBody p.body
 
 -- the frame that an entry laid after what a run recorded, if it is shown
 abbrev pub shown_at : World → Runner → Entry → Option ℕ → List Frame

@@ -13,8 +13,8 @@ ghost use Rattle.net_capture.specs.Capture.{IsReadBack, capture, medium_of, pack
 ghost use Rattle.net_capture.specs.Following.{Adds, CanFollow, is_on};
 ghost use Rattle.net_capture.specs.Savefile.{packet_record, seen_at};
 
-use crate::datagram::datagram_of;
 use crate::savefile::{file_header, put_packet};
+use medium::datagram_of;
 use net_base::{ActorName, Entry, History, Octets, Packet, Reply, With, World};
 use plain_runner::{Caller, Runner};
 use std::alloc::{AllocError, Global};
@@ -139,5 +139,5 @@ fn put_spelled(
 {
     packets_are_read();
     let bytes = datagram_of(alloc, packet)?;
-    put_packet(out, moment, &bytes)
+    put_packet(out, moment, bytes.as_slice())
 }

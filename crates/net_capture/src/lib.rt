@@ -2,7 +2,6 @@
 #![tactic(auto)]
 
 mod capture;
-mod datagram;
 mod law;
 mod savefile;
 
