@@ -206,7 +206,7 @@ module _ {T : Type 0} (asks : T → Names → Option Request) (after : T → Rep
       len_is = omega (arith, shorter, so_far.len_is);
     }
 
-  -- the same from what the calls of a round say
+  -- a player more is back, from what the calls of a round say
   pub backing_step : (ts : Tasks) (w : World) (all : List Visit) (x : Visit × PlaceTask T) (old new : List (Visit × PlaceTask T)) (len len' : ℕ) (vs vs' : List Visit)
       (back back' : List (Option T)) (c : ℕ) → Backing ts w all old len vs back → old ≡ x ∷ new → len' + 1 ≡ len → c ≡ x.0.caller → length back' ≡ length back
       → IfSome (own_task x.1) (λ t. c < length back → task_at back' c ≡ Some t) → IfNone (own_task x.1) (back' ≡ back)

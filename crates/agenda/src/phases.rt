@@ -62,7 +62,7 @@ pub fn run<R: Threads + Wait + Sync, G: Gate + Sync>(
     })
 }
 
-/// The same, with each entry where its actor's book has it.
+/// Runs a world, and leaves each entry where its actor's book has it.
 pub fn run_in_books<R: Threads + Wait + Sync, G: Gate + Sync>(
     rt: &R,
     alloc: Global,

@@ -21,7 +21,7 @@ abbrev pub Took : {C : Type 0} → Asking C → Bool → C → Intake → List �
 Took asking true asked intake input = IsRead asking asked intake input
 Took asking false asked intake input = IsUnread intake
 
--- the same, where the input was read to its end
+-- what a command took that read its input to the end
 abbrev pub TookAll : Bool → Intake → List ℕ → Type 0
 TookAll true intake input = IsInput intake.left input × IsAtEnd intake.rest
 TookAll false intake input = IsUnread intake

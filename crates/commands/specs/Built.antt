@@ -71,7 +71,7 @@ unless_bad (Some bad) answer = bad_input bad.0 bad.1
 abbrev pub cs_found : List ℕ → List ℕ → List ℕ → Answer
 cs_found sys query input = cs_answer (cs_list (bundle.database (lines_of input)) sys (Il ∷ Udp ∷ []) query)
 
--- the same over any input within the limit
+-- .. or the first bad line of an input within the limit
 abbrev pub cs_over : List ℕ → List ℕ → List ℕ → Answer
 cs_over sys query input = unless_bad (bundle.bad_line input) (cs_found sys query input)
 
@@ -86,7 +86,7 @@ query_lines attr value (Some other) db = all_beside attr value other db
 abbrev pub query_found : List ℕ → List ℕ → Option (List ℕ) → List ℕ → Answer
 query_found attr value other input = lines_answer (query_lines attr value other (bundle.database (lines_of input)))
 
--- the same over any input within the limit
+-- .. or the first bad line of an input within the limit
 abbrev pub query_over : List ℕ → List ℕ → Option (List ℕ) → List ℕ → Answer
 query_over attr value other input = unless_bad (bundle.bad_line input) (query_found attr value other input)
 
@@ -100,7 +100,7 @@ dns_lines word db = map hex_digits (option_to_list (option_and_then (dns_answer 
 abbrev pub dns_found : List ℕ → List ℕ → Answer
 dns_found word input = lines_answer (dns_lines word (bundle.database (lines_of input)))
 
--- the same over any input within the limit
+-- .. or the first bad line of an input within the limit
 abbrev pub dns_over : List ℕ → List ℕ → Answer
 dns_over word input = unless_bad (bundle.bad_line input) (dns_found word input)
 

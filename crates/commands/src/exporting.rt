@@ -89,7 +89,7 @@ fn export_told<R: Threads + Wait + Sync, G: Gate + Sync>(
     let mut world = told;
     translate_world(alloc, &mut world)?;
     let answer = export_world(rt, alloc, workers, &world.world, &world.sessions, gate);
-    // the same as above
+    // the program ends behind its one answer, and gives back all memory at once
     mem::forget(world);
     answer
 }
@@ -112,7 +112,7 @@ fn export_world<R: Threads + Wait + Sync, G: Gate + Sync>(
     match agenda::run_in_books(rt, alloc, world, workers, gate) {
         Ok(run) => {
             let answer = of_export(rt, alloc, workers, world, sessions, &run);
-            // the same as above
+            // the program ends behind its one answer, and gives back all memory at once
             mem::forget(run);
             answer
         }

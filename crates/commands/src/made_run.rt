@@ -47,7 +47,7 @@ fn run_made<R: Threads + Wait + Sync, G: Gate + Sync>(
     match agenda::run_in_books(rt, alloc, world, WORKERS, gate) {
         Ok(run) => {
             let answer = of_made_run(alloc, world, &run);
-            // the same as above
+            // the program ends behind its one answer, and gives back all memory at once
             mem::forget(run);
             answer
         }

@@ -56,7 +56,7 @@ fn run_world<R: Threads + Wait + Sync, G: Gate + Sync>(
     match agenda::run_in_books(rt, alloc, world, workers, gate) {
         Ok(run) => {
             let answer = of_run(rt, alloc, workers, world, &run);
-            // the same as above
+            // the program ends behind its one answer, and gives back all memory at once
             mem::forget(run);
             answer
         }

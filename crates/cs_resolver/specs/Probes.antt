@@ -17,7 +17,7 @@ use Rattle.ndb_index.specs.Index.{found, near_count}
 abbrev pub word_found : List (List (List NdbPair)) → List ℕ → ℕ
 word_found db word = if is_numeric word then 0 else found (name_attr word) word db
 
--- the same for all words of the host
+-- how many tuples the searches for all words of the host find
 abbrev pub host_found : List (List (List NdbPair)) → List ℕ → List ℕ → ℕ
 host_found db me host = if is_any host then 0 else sum_by (word_found db) (host_words db me host)
 

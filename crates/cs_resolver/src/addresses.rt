@@ -20,7 +20,7 @@ pub fn once_each(alloc: Global, numbers: Vec<u32>) -> Result<Vec<u32>, AllocErro
     many_once(alloc, &numbers)
 }
 
-/// The same of many numbers.
+/// Two numbers and more, each once.
 fn many_once(alloc: Global, numbers: &[u32]) -> Result<Vec<u32>, AllocError>
     ensures { IfOk result (λ once. once.items ≡ spec.once_each numbers.now) }
 {

@@ -256,7 +256,7 @@ pub fn answer_indexed(
     answer_by::<Brand>(alloc, index, me, nets, query, Blank::new(1))
 }
 
-/// The same by a counter of its own.
+/// Answers by a counter that no other call has.
 fn answer_by<L: Ledger>(
     alloc: Global,
     index: &Index,

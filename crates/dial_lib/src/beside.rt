@@ -118,7 +118,7 @@ pub fn open_beside(
     open_file(alloc, name, fid, file, Mode::Both)
 }
 
-/// The same in a mode.
+/// Opens a file beside this one in a mode.
 pub fn open_file(
     alloc: Global,
     name: &Octets,

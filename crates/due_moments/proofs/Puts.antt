@@ -55,7 +55,7 @@ holds_there k (d ∷ ds) one o = by_test (nat_lt (place_of d) k) one (λ rest. h
     by_test true is rest = ap (λ (l : List Due). d ∷ l) (rest is)
     by_test false is rest = at_head (place_of d == k) is ∙ at_front o ds
 
--- The same, where the list is known by several names.
+-- What is put, where the list is known by several names.
 module _ (k m : ℕ) (ds items : List Due) (is : items ≡ ds) (b : Bool) (first second : List Due) (one : first ≡ items) (two : second ≡ items)
     (count : m ≡ before k first) (told : b ≡ is_at k (slice_get second m)) where
   count_is : m ≡ before k ds

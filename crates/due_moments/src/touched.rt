@@ -90,7 +90,7 @@ impl Touched {
         }
     }
 
-    /// The same once more.
+    /// A copy, which covers what this one does.
     pub fn copy(&self, alloc: Global) -> Result<Touched, AllocError>
         ensures same { IfOk result (AreAlike self.now) }
         ensures covers { (own : List (ℕ × Noted)) → Covers own self.now → IfOk result (Covers own) }

@@ -12,7 +12,7 @@ use Rattle.net_base.specs.Duties.{Duty, follow_up, owes}
 abbrev pub asks : Home → Event → With → Reply → List Duty
 asks h e with answer = follow_up (name.Dir h.host h.proto) h.stamp e with answer
 
--- the same, whatever was given to the event
+-- what the directory is asked is added, whatever was given to the event
 abbrev pub AddsAsked : Home → Event → Reply → Queue → Queue → Type 0
 AddsAsked h e answer old new = (with : With) → Adds old new (asks h e with answer)
 

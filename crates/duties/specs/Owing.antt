@@ -32,7 +32,7 @@ Owes ks a stamp work o old new =
     (w : World) → AreWaysOfWorld w ks → (actors : ActorName → Actor) (step : Step Actor)
     → Gives w a work o step → (IsMove a work.event → ⊥) → Adds old new (duties w actors a stamp work step)
 
--- the same of a part of what is owed
+-- a part of what is owed is added, in each world of which the ways are
 abbrev pub AddsIn : List HostWays → Queue → Queue → (World → List Duty) → Type 0
 AddsIn ks old new added = (w : World) → AreWaysOfWorld w ks → Adds old new (added w)
 

@@ -29,7 +29,7 @@ impl Duties {
         }
     }
 
-    // The same of one conversation.
+    // Owes the tick of one conversation, if its moment has come.
     fn owe_tick(&mut self, stamp: u64, now: u64, due: Due)
         requires { 1 ≤ self.old.room }
         ensures list { Adds self.old self.new (tick_of stamp now due) }

@@ -127,7 +127,7 @@ exact_made p sp P exact make apart there back =
       bare = λ y fits. exact.bare (apart y) fits;
     }
 
--- the same with other words for what fits
+-- a reader is exact with other words for what fits, too
 pub exact_as : {X : Type 0} (p : Reader X) (sp : X → Words) (P Q : X → Type 0) → Exact X p sp P → ((x : X) → P x → Q x) → ((x : X) → Q x → P x) → Exact X p sp Q
 exact_as p sp P Q exact there back =
     record {
@@ -136,7 +136,7 @@ exact_as p sp P Q exact there back =
       bare = λ x fits. exact.bare x (back x fits);
     }
 
--- the same with other words for what is spelled
+-- .. and with other words for what is spelled
 pub exact_spelled : {X : Type 0} (p : Reader X) (sp sq : X → Words) (P : X → Type 0) → Exact X p sp P → ((x : X) → sp x ≡ sq x) → Exact X p sq P
 exact_spelled p sp sq P exact same =
     record {

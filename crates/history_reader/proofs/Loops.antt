@@ -98,7 +98,7 @@ pub any_calls : (read : spec.Calls) → length read.0 ≢ 0 → spec.some_calls 
 any_calls ([], words) some = absurd (some refl)
 any_calls (c ∷ calls, words) some = refl
 
--- the same by the answer that was given
+-- these calls, and then those that were read
 
 abbrev pub added : List Call → spec.Calls → spec.Calls
 added calls read = (calls ++ read.0, read.1)

@@ -34,7 +34,7 @@ impl<'a> Words<'a> {
         }
     }
 
-    /// The same words.
+    /// A second walk over these words.
     pub(crate) fn again(&self) -> Words<'a>
         ensures { result ≡ self.now }
     {

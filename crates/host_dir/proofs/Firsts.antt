@@ -36,7 +36,7 @@ first_from test all k (s ∷ ss) e = by (test s) refl (first_from test all (k + 
 pub first_is : (test : Slot → Bool) (slots : List Slot) → first_slot test 0 slots ≡ found_at slots (position_from test 0 slots)
 first_is test slots = first_from test slots 0 slots refl
 
--- the same, where the place is known
+-- the slot that is found, where its place is known
 pub first_was : (test : Slot → Bool) (slots : List Slot) (o : Option ℕ) → o ≡ position_from test 0 slots → first_slot test 0 slots ≡ found_at slots o
 first_was test slots o is = first_is test slots ∙ ap (found_at slots) (sym is)
 

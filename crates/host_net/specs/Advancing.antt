@@ -181,7 +181,7 @@ module _ {T : Type 0} where
   AreBack w now (p ∷ ps) (q ∷ qs) = (IsKept w p q × (q.visit.now ≡ now)) × AreBack w now ps qs
   AreBack w now _ _ = ⊥
 
-  -- the same of each group, whose clock stays
+  -- the players of each group are kept and have this moment, and its clock stays
   pub record IsBack (w : World) (now : ℕ) (old new : Grouped T) : Type 0 where
     pub players : AreBack w now old.players new.players
     pub clock_is : new.clock ≡ old.clock

@@ -119,7 +119,7 @@ abbrev pub Heard : {T : Type 0} → (T → Reply → T) → T → Bool → Turn 
 Heard after t lost (turn.Recorded stamp answer) result t' lost' = Told after t lost answer result t' lost'
 Heard after t lost answer result t' lost' = (result ≡ played_by answer) × (t' ≡ t) × (lost' ≡ lost)
 
--- the same caller at the same moment, whose task tells as much
+-- a player of this caller at this moment, whose task tells as much
 pub record IsSamePlayer {T : Type 0} (old new : Playing T) : Type 0 where
   pub caller : new.visit.caller ≡ old.visit.caller
   pub now : new.visit.now ≡ old.visit.now

@@ -164,7 +164,7 @@ impl<J: Naming + Placing> Net<J, WorldActor<J>> {
         self.advance_groups(rt, gate, world, standings.as_slice(), groups)
     }
 
-    // The same, where all callers stand so.
+    // Moves the clock on, where all callers stand so.
     fn advance_groups<R: Wait, G: Gate, T: WholeTask + Drop>(
         &self,
         rt: &R,

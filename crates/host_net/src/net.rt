@@ -112,7 +112,7 @@ impl<J: Naming + Placing> Net<J, WorldActor<J>> {
             .operate(rt, gate, &self.locks, request, &mut Spot::nowhere())
     }
 
-    // The same of a request that nobody needs any longer. The spot is then that of the actor, where the turn came so far.
+    // Plays a turn of a request that nobody needs any longer. The spot is then that of the actor, where the turn came so far.
     pub(crate) fn operate_at<R: Wait, G: Gate>(
         &self,
         rt: &R,
@@ -159,7 +159,7 @@ impl<J: Naming + Placing> Net<J, WorldActor<J>> {
         books.into_history(alloc)
     }
 
-    /// The same, with each entry where its actor's book has it.
+    /// Ends the run, and leaves each entry where its actor's book has it.
     pub fn finish_in_books(
         self,
         alloc: Global,

@@ -90,7 +90,7 @@ impl<J: Naming + Placing, T: WholeTask> Player<J, T> {
         }
     }
 
-    /// The same of a task that plays the script from its beginning, where no task is played in its place. It tells how many steps are
+    /// A player of a task that plays the script from its beginning, where no task is played in its place. It tells how many steps are
     /// answered.
     pub fn counting(world: &World, guest: Guest<J>, task: T) -> Player<J, T>
         requires world { J.world ≡ world.now }
@@ -353,7 +353,7 @@ impl<J: Naming + Placing> Net<J, WorldActor<J>> {
         played
     }
 
-    // The same, with the spot beside the player.
+    // Plays on, with the spot beside the player.
     fn play_task<R: Wait, G: Gate, T: WholeTask>(
         &self,
         rt: &R,

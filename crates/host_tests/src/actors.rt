@@ -75,7 +75,7 @@ fn play(rt: &impl Abort, alloc: Global, trial: &mut Trial, rows: &[Row]) -> Resu
     Ok(())
 }
 
-/// The same of fresh actors.
+/// Plays rows at fresh actors.
 fn plays(rt: &impl Abort, alloc: Global, rows: &[Row]) -> Result<(), AllocError> {
     let mut trial = Trial::new(alloc)?;
     let played = play(rt, alloc, &mut trial, rows);

@@ -328,7 +328,7 @@ fn play(
     Ok(())
 }
 
-/// The same at a fresh directory.
+/// Plays rows at a fresh directory.
 fn plays(
     rt: &impl Abort,
     alloc: Global,

@@ -130,7 +130,7 @@ enum Given {
     /// Its start and limit.
     Grant(u32, u32),
     Key(u32, u16),
-    /// The same of a birth, after its packet's destination.
+    /// Of a birth its packet's destination, then its start and limit.
     Birth(u32, u32, u32),
 }
 
@@ -188,7 +188,7 @@ fn asked_key(asked: Asked) -> (u8, u32, u64) {
     }
 }
 
-/// The same of what is given.
+/// What is given, in numbers.
 fn given_key(given: Given) -> (u8, u32, u32, u32) {
     match given {
         Given::Nothing => (0, 0, 0, 0),

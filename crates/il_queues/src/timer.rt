@@ -71,7 +71,7 @@ impl Timer {
         }
     }
 
-    /// The same timer again.
+    /// A copy of the timer.
     pub fn copied(&self) -> Timer
         ensures { result ≡ self.now }
     {

@@ -36,7 +36,7 @@ pub record Taken (v : View) (b : Volume) (w : View) : Type 0 where
   pub before : IsPrefix v.seen w.seen
   pub taken : In (number.Actor b.actor, b.list) w.held
 
--- the same of all these books, whose entries are these
+-- the seat has taken in the lists of all these books, whose entries are these
 pub record Gathered (v : View) (books : List Volume) (w : View) (entries : List Stamped) : Type 0 where
   pub kept : (k : Number) (es : List (ℕ × Noted)) → In (k, es) v.held → In (k, es) w.held
   pub before : IsPrefix v.seen w.seen

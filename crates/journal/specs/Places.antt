@@ -20,7 +20,7 @@ pub record IsThere (ls : List (List Stamped)) (p : Place) (n : ℕ) : Type 0 whe
   pub stands : there ls p ≡ Some entry
   pub stamp_is : entry.stamp ≡ n
 
--- the same of the place of that stamp
+-- the place that is noted for this stamp has its entry
 pub record IsPlaced (ls : List (List Stamped)) (ps : List Place) (n : ℕ) : Type 0 where
   pub place : Place
   pub noted : slice_get ps n ≡ Some place

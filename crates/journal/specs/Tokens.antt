@@ -117,7 +117,7 @@ pub record Looked (r : Roster) (p : Sight) (front : ℕ) (p' : Sight) : Type 0 w
   pub whole : HoldsAll r p → p'.seen ≡ p.seen
   pub lawful : Lawful r p'.seen
 
--- the same with a book, whose list is all of its actor at this front
+-- a pass looked with a book, whose list is all of its actor at this front
 pub record LookedWith (r : Roster) (b : Volume) (p : Sight) (front : ℕ) (b' : Volume) (p' : Sight) : Type 0 where
   pub look : Looked r p front p'
   pub book_before : IsPrefix b.seen p'.seen

@@ -30,7 +30,7 @@ impl<J: Naming> Journal<J> {
         closed.into_history(alloc)
     }
 
-    /// The same, with each entry where its book has it.
+    /// Closes the books, and leaves each entry where its book has it.
     pub fn close_in_books(
         self,
         alloc: Global,
@@ -77,7 +77,7 @@ impl<J: Naming> Journal<J> {
         Ok(())
     }
 
-    // The same for one book.
+    // Gathers the list of one book, and the places of its entries.
     fn gather_one(
         &self,
         all: &mut Token,

@@ -160,7 +160,7 @@ impl<J: Naming> Journal<J> {
         self.watch(&mut pass.seat)
     }
 
-    /// The same, while the book is at hand: its list is all of its actor at that front.
+    /// Looks while the book is at hand: its list is all of its actor at that front.
     pub fn look_with(&self, book: &mut Book<J>, pass: &mut Pass<J>) -> u64
         ensures { LookedWith J.run.roster book.old pass.old result book.new pass.new }
     {

@@ -29,7 +29,7 @@ pub fn dns_answer(
     answer_by::<Brand>(alloc, index, message, Blank::new(1))
 }
 
-/// The same by a counter of its own.
+/// Answers by a counter that no other call has.
 fn answer_by<L: Ledger>(
     alloc: Global,
     index: &Index,

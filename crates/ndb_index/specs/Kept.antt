@@ -19,7 +19,7 @@ spots_from place attr value [] = []
 spots_from place attr value (tuple ∷ tuples) =
     option_to_list (spot_in place attr value tuple) ++ spots_from (place + 1) attr value tuples
 
--- the same in a database, whose first tuple has the place 0
+-- the spots of a pair in a database, whose first tuple has the place 0
 abbrev pub spots_with : List ℕ → List ℕ → List (List (List NdbPair)) → List Spot
 spots_with attr value db = spots_from 0 attr value db
 

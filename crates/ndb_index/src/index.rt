@@ -70,7 +70,7 @@ impl Index {
         })
     }
 
-    /// The same for one who asks a few times: each search goes once over all pairs.
+    /// An index for one who asks a few times: each search goes once over all pairs.
     pub fn scanned(alloc: Global, db: Db) -> Result<Index, AllocError>
         ensures { IfOk result (λ index. index ≡ db) }
     {
@@ -173,7 +173,7 @@ impl Index {
         self.beside_by::<Brand>(alloc, place, attr, value, other, Blank::new(1))
     }
 
-    /// The same by a counter of its own.
+    /// Finds what stands beside a pair, by a counter that no other call has.
     fn beside_by<L: Ledger>(
         &self,
         alloc: Global,

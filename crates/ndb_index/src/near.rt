@@ -153,7 +153,7 @@ impl Index {
         self.closest_by::<Brand>(alloc, me, attr, Blank::new(1))
     }
 
-    /// The same by a counter of its own.
+    /// Finds the closest values by a counter that no other call has.
     fn closest_by<L: Ledger>(
         &self,
         alloc: Global,

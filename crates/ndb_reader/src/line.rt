@@ -130,7 +130,7 @@ pub(crate) fn has_zero(bytes: &[u8]) -> bool
     bytes.contains(&0)
 }
 
-/// The same of a line, of a text that has zero bytes or has none: mostly the text was looked through once for all lines.
+/// Whether a line has a zero byte, of a text that has some or has none: mostly the text was looked through once for all lines.
 fn is_zeroed(line: &[u8], zeros: bool) -> bool
     requires { list_any spec.is_zero line.now ≡ true → zeros ≡ true }
     ensures { result ≡ list_any spec.is_zero line.now }

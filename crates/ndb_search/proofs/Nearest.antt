@@ -57,7 +57,7 @@ unfolding tuples_of
 among_less attr networks i network within here none empty =
     first_past attr tuples_of tuples_joins networks i network within here none (none_filled attr network.tuple empty)
 
--- The same by what was read.
+-- What was read of the networks.
 
 some-values : (n : ℕ) → (n ≡ 0 → ⊥) → 0 < n
 some-values zero some = absurd (some refl)

@@ -18,7 +18,7 @@ pub struct Network<'a> {
 }
 
 impl<'a> Network<'a> {
-    /// The same network, lent once more.
+    /// This network, lent once more.
     pub fn again(&self) -> Network<'a>
         ensures { network_seen result ≡ network_seen self.now }
     {

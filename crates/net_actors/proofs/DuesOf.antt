@@ -113,7 +113,7 @@ due_some v h p n x at g old new is some gen added =
     ∙ (ap (λ (k : ℕ). old ++ with_generation h p n k at ∷ []) (gen ∙ ap generation_of (sym same))
     ∙ ap (λ (more : List Due). old ++ more) (some_due h p n at (state_in v (name.Conv h p n)) (ap due_of same ∙ sym some)))
 
--- The same states give the same moments.
+-- States that are equal give equal moments.
 
 map_same : (f g : ActorName → Option Due) (c : ℕ → ActorName) (a n : ℕ) → ((k : ℕ) → k < a + n → f (c k) ≡ g (c k))
     → filter_map f (map c (range_with_len a n)) ≡ filter_map g (map c (range_with_len a n))

@@ -37,7 +37,7 @@ pub record StepsIn (w : World) (old new : Kept) (now : ℕ) (work : Work) (o : O
 abbrev pub Steps : Kept → Kept → ℕ → Work → Outcome → Type 0
 Steps old new now work o = (w : World) → IsActorOf w old → StepsIn w old new now work o
 
--- The same of what is kept, in no world.
+-- What an actor that is kept answers, in no world.
 
 -- the table of a medium answers the work
 abbrev pub medium_ready : OnMedium → Work → Bool

@@ -71,7 +71,7 @@ slice-at xs a b i d h = get_or-take (b - a) (drop a xs) i d h ∙ get_or-drop a 
 pub slice-length : {X : Type 0} (xs : List X) (a b : ℕ) → a ≤ b → b ≤ length xs → length (slice_range xs a b) ≡ b - a
 slice-length xs a b le within = length-take-le (b - a) (drop a xs) (omega (arith, le, within, length-drop a xs))
 
--- the same, where a list isn't the first one
+-- where a list begins that isn't the first one
 pub begin_is : (ends : List ℕ) (number : ℕ) → (number ≡ 0 → ⊥) → number ≤ length ends → get_or ends (number - 1) 0 ≡ start_at 0 ends number
 begin_is ends zero some within = absurd (some refl)
 begin_is ends (suc i) some within =

@@ -53,7 +53,7 @@ tuple-shown lines tuples pairs =
     (parts-push 0 tuples (length all) all ∙ ap (λ (ls : List Pairs). parts 0 tuples all ++ ls ∷ []) (slice-rest all (last_end 0 tuples)))
     ∙ ap (λ (ls : List Pairs). record { tuples = parts 0 tuples all ++ drop (last_end 0 tuples) all ∷ []; lines = ls; pairs = drop (last_end 0 lines) pairs }) (ap (λ (n : ℕ). drop n all) (last-push 0 tuples (length all)) ∙ drop-all all)
 
--- The same of runs.
+-- What runs show as they grow.
 
 rises-pairs : (r : Runs) → AreSound r → Rise 0 r.lines.items (length (pairs_in r))
 rises-pairs r sound = subst (Rise 0 r.lines.items) (sym (marked-length 0 r.pairs.items r.bytes.items)) sound.lines

@@ -116,7 +116,7 @@ done_by ts w net = calm_by ts w net && (not (limited_by ts w net) && not (unfini
 abbrev pub stopped_by : Tasks → World → Net → Bool
 stopped_by ts w net = calm_by ts w net && (not (limited_by ts w net) && (unfinished_by ts w net && (net.moment == w.end)))
 
--- The same where each script is played.
+-- Where each script is played.
 
 abbrev pub can_go_on : World → Net → ℕ → Bool
 can_go_on w net c = can_go_on_by nobody w net c

@@ -72,7 +72,7 @@ sends own m refused next =
     asks (own.writes (t_bytes m)) (λ (w : Reply).
     if is_accepted w then asks own.reads (λ (r : Reply). by_text (bytes_in r) refused next) else refused)
 
--- the same for a message whose reply is tested
+-- a message goes out, and the text that comes in is tested
 abbrev pub sends_for : Own → Tmsg → (List ℕ → Bool) → Play → Play → Play → Play
 sends_for own m is_reply refused other next = sends own m refused (λ (text : List ℕ). if is_reply text then next else other)
 

@@ -85,7 +85,7 @@ MayFollowBy ts w past x = FollowsBy ts w past (after w past) x
 abbrev pub IsLegalBy : Tasks → World → List Entry → Type 0
 IsLegalBy ts w h = (k : ℕ) (x : Entry) → slice_get h k ≡ Some x → MayFollowBy ts w (take k h) x
 
--- the same where each script is played
+-- where each script is played
 abbrev pub Follows : World → List Entry → Net → Entry → Type 0
 Follows w past net x = FollowsBy nobody w past net x
 
@@ -105,7 +105,7 @@ IsInTimeBy ts net w _ = Unit {0}
 abbrev pub IsTimedBy : Tasks → World → List Entry → Type 0
 IsTimedBy ts w h = (k : ℕ) (x : Entry) → slice_get h k ≡ Some x → IsInTimeBy ts (after w (take k h)) w x.event
 
--- the same where each script is played
+-- where each script is played
 abbrev pub IsInTime : Net → World → Event → Type 0
 IsInTime net w e = IsInTimeBy nobody net w e
 

@@ -91,7 +91,7 @@ moment w h = (after w h).moment
 abbrev pub outcome_in : World → Net → Entry → Option Outcome
 outcome_in w net x = option_map (λ (s : Step Actor). s.outcome) (step_of w net x)
 
--- the same after these entries
+-- what an entry's actor gives to its work after these entries
 abbrev pub outcome : World → List Entry → Entry → Option Outcome
 outcome w past x = outcome_in w (after w past) x
 

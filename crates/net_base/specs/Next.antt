@@ -54,7 +54,7 @@ next_of_by ts w IsNobody h c = None
 abbrev pub next_by : Tasks → World → List Entry → ℕ → Option Ask
 next_by ts w h c = next_of_by ts w (caller_of w c) h c
 
--- the same where each script is played
+-- where each script is played
 abbrev pub next_of : World → Caller → List Entry → ℕ → Option Ask
 next_of w k h c = next_of_by nobody w k h c
 

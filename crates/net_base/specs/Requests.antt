@@ -51,7 +51,7 @@ settled names (request.Close called) r = unbind called names
 settled names (request.Hear called count heard) r = hearing heard names
 settled names _ r = names
 
--- the same where a task is through
+-- the names after a reply to what a task asked, which are unchanged where it is through
 abbrev pub settles : Names → Option Request → Reply → Names
 settles names None r = names
 settles names (Some q) r = settled names q r

@@ -4,7 +4,7 @@ use Rattle.net_base.specs.Parts.{start_at}
 use Rattle.net_base.specs.Ndb.{NdbPair}
 use Rattle.net_base.specs.declared.ndb.spot.Spot.{Spot}
 
--- the same line of the same tuple
+-- whether two spots are one line of one tuple
 abbrev pub same_spot : Spot → Spot → Bool
 same_spot spot other = spot.place == other.place && spot.line == other.line
 

@@ -45,7 +45,7 @@ of_caller c h = entries_from (number.Caller c) 0 h
 abbrev pub matches : Number → Noted → Bool
 matches k x = belongs k x.entry
 
--- the same for entries with their works
+-- the entries of a number with their works, each with its stamp
 abbrev pub at_from : Number → ℕ → List Noted → List (ℕ × Noted)
 at_from k n [] = []
 at_from k n (x ∷ xs) = if matches k x then (n, x) ∷ at_from k (n + 1) xs else at_from k (n + 1) xs

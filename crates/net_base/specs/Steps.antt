@@ -350,7 +350,7 @@ takes_call h f refused next =
     tells_address h call file.Remote (data_file ∷ call ∷ []) refused (λ (remote : Addr).
     tells_address h call file.Local (data_file ∷ call ∷ []) refused (λ (local : Addr). next call data_file remote local))))
 
--- the same by the name of a file of that conversation, where no call is open
+-- a call is taken by the name of a file of that conversation, where no call is open
 abbrev pub with_call : ℕ → List ℕ → Names → (Fid → Fid → Addr → Addr → Play) → Play
 with_call h called names next =
     on_taken (taken_name names) (λ (used : List ℕ). uses h used names)
@@ -422,7 +422,7 @@ serves_call h called names next =
     if_accepted r (answers_call h call data_file (dns_answer names.zone (bytes_in r)) (Ends names) next)
     (closes_all h (data_file ∷ call ∷ []) (Ends names))))
 
--- the same for one call and for so many more
+-- one call is served, and then so many more
 abbrev pub serves : ℕ → List ℕ → Names → ℕ → Play
 serves h called names zero = serves_call h called names (Ends names)
 serves h called names (suc more) = serves_call h called names (serves h called names more)

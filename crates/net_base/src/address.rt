@@ -25,7 +25,7 @@ pub struct Pair {
     pub remote: Addr,
 }
 
-/// The same pair as the other end sees it.
+/// This pair as the other end sees it.
 pub fn mirror(pair: Pair) -> Pair
     ensures { result ≡ spec.mirror pair }
 {

@@ -97,7 +97,7 @@ Operated ts w h q old turn.Limit new = (old.owed ≡ []) × IsFull old.caller ol
 Operated ts w h q old turn.Memory new = (old.owed ≡ []) × HasRoom old.caller old.sight × (new ≡ old)
 Operated ts w h q old answer new = Asked ts w h q old answer new
 
--- the same guest as before, its pass, duties and names aside
+-- a guest is who it was before, its pass, duties and names aside
 pub record IsSame (old new : Visit) : Type 0 where
   pub caller : new.caller ≡ old.caller
   pub now : new.now ≡ old.now
@@ -134,7 +134,7 @@ pub record Gathers (w : World) (r : Roster) (p : Sight) (vs : List Visit) (p' : 
   pub kept : (v : Visit) → IsWith w r v p → IsWith w r v p'
   pub taken : (v : Visit) → In v vs → IsWith w r v p'
 
--- the same on the way, where these are left
+-- the passes are being taken in, and those of these guests are left
 pub record Gathering (w : World) (r : Roster) (p : Sight) (vs : List Visit) (p' : Sight) (vs' : List Visit) : Type 0 where
   pub kept : (v : Visit) → IsWith w r v p → IsWith w r v p'
   pub taken : (v : Visit) → In v vs → IsWith w r v p' ⊎ In v vs'

@@ -105,7 +105,7 @@ impl<J: Naming + Placing> Bundle<J> {
         }
     }
 
-    /// The same of a request that nobody needs any longer: no text of it is copied on the way to the actor.
+    /// Plays a turn of a request that nobody needs any longer: no text of it is copied on the way to the actor.
     pub fn operate_once<R: Wait, G: Gate>(
         &mut self,
         rt: &R,

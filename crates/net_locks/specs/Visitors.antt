@@ -35,7 +35,7 @@ pub record IsVisit (w : World) (r : Roster) (c now : ℕ) (p : Sight) (ds : List
 abbrev pub IsVisitor : {J : Type 0} → World → Roster → Visitor J → Type 0
 IsVisitor w r v = IsVisit w r v.bearer.caller v.bearer.now v.bearer.pass v.duties.list v.touched v.calendar
 
--- the same caller at the same moment
+-- a bearer is still of its caller and at its moment
 pub record IsSameBearer {J : Type 0} (old new : Bearer J) : Type 0 where
   pub caller : new.caller ≡ old.caller
   pub now : new.now ≡ old.now

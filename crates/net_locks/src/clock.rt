@@ -105,7 +105,7 @@ impl<J: Naming + Placing> Locks<J, WorldActor<J>> {
         self.judge(rt, world, standings, &mut bearer.pass, caller, now)
     }
 
-    // The same, after a look.
+    // Judges how all callers stand, after a look.
     fn judge<R: Wait>(
         &self,
         rt: &R,
@@ -239,7 +239,7 @@ impl<J: Naming + Placing> Locks<J, WorldActor<J>> {
         Some(moment)
     }
 
-    // The same, but that the visitor is at the moment at which it was, and has forgotten nothing.
+    // Moves the clock on; the visitor is still at the moment at which it was, and has forgotten nothing.
     fn reach<R: Wait, G: Gate>(
         &self,
         rt: &R,

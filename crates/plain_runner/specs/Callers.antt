@@ -36,7 +36,7 @@ pub record Stands (w : World) (h : List Entry) (c : ℕ) (k : Caller) : Type 0 w
   pub next_is : asks_of k.next ≡ next w h c
   pub own : AreOwn k.next
 
--- the same while its turn, which cites this, is recorded: what it records next was taken where it owed nothing
+-- a caller while its turn, which cites this, is recorded: what it records next was taken where it owed nothing
 pub record Turns (w : World) (h : List Entry) (c : ℕ) (cites : Option ℕ) (k : Caller) : Type 0 where
   pub role_is : HasRole w h c k.role k.before
   pub next_is : IsSome cites → asks_of k.next ≡ next w h c
@@ -48,7 +48,7 @@ pub record IsCaller (w : World) (h : List Entry) (c : ℕ) (k : Caller) : Type 0
   pub owes : k.owed.list ≡ owed w h c
   pub entries_is : k.entries ≡ length (by h c)
 
--- the same while its turn is recorded
+-- what is kept of a caller while its turn is recorded
 pub record IsTurning (w : World) (h : List Entry) (c : ℕ) (cites : Option ℕ) (k : Caller) : Type 0 where
   pub turns : Turns w h c cites k
   pub owes : k.owed.list ≡ drop 1 (owed w h c)

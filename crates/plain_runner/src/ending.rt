@@ -55,7 +55,7 @@ impl<'a> Runner<'a> {
         self.moment < world.end
     }
 
-    // The same where a caller owes a duty or its next event is ready.
+    // How a run ends where a caller owes a duty or its next event is ready.
     fn busy_end(&self) -> Option<RunEnd>
         ensures { (w : AnyWorld) → Tracks w self.now → calm.calm w (after w self.now.history.entries) ≡ false
             → word_of result ≡ end_word w (after w self.now.history.entries) }

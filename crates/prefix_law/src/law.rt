@@ -20,7 +20,7 @@ pub fn prefix_law()
     ensures in_order { (w : World) (h : List Entry) (e f : Conversation) → IsWorld w → IsLegal w h → e.proto ≡ Il → peer w h e ≡ Some f → InOrder w h e f }
 {}
 
-/// The same of histories in which tasks are played in the places of scripts, whatever they ask.
+/// What conversations read is a prefix of what their peers wrote, where tasks are played in the places of scripts, too, whatever they ask.
 pub fn tasks_keep_prefixes()
     ensures { (ts : Tasks) (w : World) (h : List Entry) → IsWorld w → IsLegalBy ts w h → KeepsPrefixes w h }
 {}

@@ -86,7 +86,7 @@ owed_or w net after c new ch k d there = elim (eqb_tells c k) [
   | inr apart ↦ inl (subst (In d) (ch.owed k ∙ rw apart.0 refl) there)
 ]
 
--- the same, where the first duty of the entry's caller is gone
+-- a duty is new or was owed before, where the first duty of the entry's caller is gone
 kept_or : (w : World) (net after : Net) (c : ℕ) (new : List Duty) → Changes w net after c new → (k : ℕ) (d : Duty) → In d (after.owed k)
     → (In d (net.owed k) × (c ≡ k → In d (drop 1 (net.owed k)))) ⊎ ((c ≡ k) × In d new)
 kept_or w net after c new ch k d there = elim (eqb_tells c k) [

@@ -13,6 +13,6 @@ EndsBy ts w net ends.Done = done_by ts w net ≡ true
 EndsBy ts w net ends.Stopped = stopped_by ts w net ≡ true
 EndsBy ts w net ends.Limit = limited_by ts w net ≡ true
 
--- the same where each script was played
+-- how a run ends where each script was played
 abbrev pub EndsSo : World → Net → RunEnd → Type 0
 EndsSo w net end = EndsBy nobody w net end

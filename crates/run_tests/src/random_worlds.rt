@@ -225,7 +225,7 @@ fn are_legal_in<R: Threads + Wait + Sync>(
     Ok((alone && others, told))
 }
 
-/// The same of the world of a text.
+/// Whether the histories of the world of a text are legal.
 pub(crate) fn are_legal_of<R: Threads + Wait + Sync>(
     rt: &R,
     alloc: Global,
@@ -240,7 +240,7 @@ pub(crate) fn are_legal_of<R: Threads + Wait + Sync>(
     legal
 }
 
-/// The same of the next world.
+/// Whether the histories of the next world are legal.
 fn are_legal_next<R: Threads + Wait + Sync>(
     rt: &R,
     alloc: Global,
@@ -269,7 +269,7 @@ fn histories_of_random_worlds_are_legal(rt: HostRuntime) -> Result<(), AllocErro
     Ok(())
 }
 
-/// The same of worlds with measured timers and versions.
+/// The number for worlds with measured timers and versions.
 const TOLD_OF_CHANGES: u64 = 14_064_421_479_661_945_035;
 
 #[test]

@@ -165,7 +165,7 @@ impl Player {
         }
     }
 
-    // The same, where the next event wasn't asked for.
+    // Begins a step where none has begun, and asks for its next event.
     fn prepare(&mut self, script: &Script) -> Result<(), AllocError>
         ensures ok { OnOk result (self.new ≡ spec.prepared (spec.begun_in script.now self.old)) }
         ensures err { OnErr result ((self.new ≡ self.old) ⊎ (self.new ≡ spec.begun_in script.now self.old)) }

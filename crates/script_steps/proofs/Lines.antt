@@ -47,7 +47,7 @@ pub fewer : (text line : List ℕ) (rest : Option (List ℕ)) → Cuts text line
 fewer text line None cut = omega (arith, ap (λ (ls : List (List ℕ)). length ls) cut)
 fewer text line (Some rest) cut = omega (arith, ap (λ (ls : List (List ℕ)). length ls) cut)
 
--- The same of a text that was the rest.
+-- The lines of a text that was the rest.
 
 rest_is : (o : Option (Bor (List ℕ))) (part : Bor (List ℕ)) (under : Bool) (n : ℕ) → o ≡ Some part
     → lines_left under n (option_copied o) ≡ lines_from under n (parts_at 10 part.now)

@@ -30,7 +30,7 @@ pub fn settle(fids: &mut Names, request: Request, reply: &Reply) -> Result<(), A
     }
 }
 
-// The same for an open.
+// Binds the name of an open, where it was granted.
 fn settle_open(
     fids: &mut Names,
     name: &Octets,

@@ -16,7 +16,7 @@ pub(crate) fn node_of(path: &[u8]) -> Option<Node>
     }
 }
 
-// The same, where it may be opened so.
+// The node of a path that may be opened so.
 pub(crate) fn openable(path: &[u8], mode: Mode) -> Option<Node>
     ensures { result ≡ spec.openable (paths.walk path.now) mode }
 {

@@ -33,7 +33,7 @@ pub fn event_of(host: u32, fids: &Names, request: &Request) -> Result<Planned, A
     Ok(plan(host, fids, request))
 }
 
-/// The same for a request that nobody needs any longer. It takes no memory.
+/// Plans a request that nobody needs any longer. It takes no memory.
 #[tactic(auto, using(crate::proofs::Events::open_is, crate::proofs::Events::write_is, crate::proofs::Events::hear_is, crate::proofs::Events::close_is))]
 pub fn plan(host: u32, fids: &Names, request: Request) -> Planned
     ensures event { requests.planned host fids.now.names request ≡ Some (spec.ask_of result) }
@@ -155,7 +155,7 @@ fn read(host: u32, fids: &Names, name: Octets, count: u32) -> Planned
     }
 }
 
-// The same, where an `hread` was told this.
+// Plans a read behind an `hread`, which was told this.
 fn hear(host: u32, fids: &Names, name: Octets, count: u32, heard: Heard) -> Planned
     ensures event { spec.ask_of result ≡ asked.read host name count (steps.fid_of name fids.now.names) }
     ensures effect { result.effect ≡ effects.hears heard }

@@ -35,7 +35,7 @@ impl Table {
         }
     }
 
-    /// The same, where no message is longer than this.
+    /// A table at the beginning, where no message is longer than this.
     pub fn shorter(alloc: Global, msize: u32) -> Table
         ensures { seen result ≡ record known.opening { msize = msize } }
     {
@@ -100,7 +100,7 @@ impl Table {
         }
     }
 
-    // The same for a message that brings no fid.
+    // Changes the table by a message that brings no fid.
     fn change_known(&mut self, message: &Tmsg)
         requires { brings_fid message.now ≡ false }
         ensures { seen self.new ≡ spec.changed (seen self.old) message.now }

@@ -214,7 +214,7 @@ fn taken(name: &Octets, left: &Left) -> Result<Option<Octets>, AllocError>
     }
 }
 
-// The same of a dial's name and then of that of its ctl file, which no world says.
+// The first of a dial's name and that of its ctl file, which no world says, that a remote file has.
 fn taken_by_dial(alloc: Global, name: &Octets, left: &Left) -> Result<Option<Octets>, AllocError>
     ensures { IfOk result (λ taken. taken ≡ find (is_remote left.now) (name.now ∷ steps.dotted_name name.now ∷ [])) }
 {

@@ -32,7 +32,7 @@ abbrev pub begun_at : ℕ → Left → List Step → Scripting
 begun_at n left [] = AtEnd n left
 begun_at n left (s ∷ ss) = AtStep n left (step.begun left s) ss
 
--- the same, where that step may have begun already
+-- where so many steps are finished, the first of those to come goes on, if it has begun already
 abbrev pub progress : ℕ → Left → Option StepTask → List Step → Scripting
 progress n left None steps = begun_at n left steps
 progress n left (Some t) steps = AtStep n left t (drop 1 steps)
@@ -72,12 +72,12 @@ abbrev pub after : Scripting → Reply → Scripting
 after (AtStep n left t behind) r = goes_on n left (step.after t r) behind (is_none (step.asks (step.after t r) (no_names [])))
 after (AtEnd n left) r = AtEnd n left
 
--- the same by parts: the step that has begun, if one has, after a reply
+-- the step that has begun, if one has, after a reply
 abbrev pub heard : Option StepTask → Reply → Option StepTask
 heard None r = None
 heard (Some t) r = Some (step.after t r)
 
--- the same, where it begins if it hasn't
+-- the step after a reply, which begins if it hasn't
 abbrev pub told_by : Left → Option StepTask → Option Step → Reply → Option StepTask
 told_by left t o r = heard (begun_by left t o) r
 

@@ -117,7 +117,7 @@ fn is_said(emitted: &Option<IlMsg>, said: Said) -> bool {
     }
 }
 
-// The same of a message that goes no further.
+// Whether a message that goes no further was said.
 fn says(emitted: Option<IlMsg>, said: Said) -> bool {
     let same = is_said(&emitted, said);
     drop(emitted);
@@ -246,7 +246,7 @@ fn is_met(alloc: Global, end: &mut IlEnd, row: &Row) -> Result<bool, AllocError>
     }
 }
 
-// The same at the end that the row names.
+// Whether a row is met at the end that it names.
 fn is_met_by(alloc: Global, ends: &mut Ends, row: &Row) -> Result<bool, AllocError> {
     match row.0 {
         Side::Near => is_met(alloc, &mut ends.near, row),
@@ -275,12 +275,12 @@ fn play_all<R: Abort>(
     Ok(())
 }
 
-// The same at fresh ends.
+// Plays tables at fresh ends.
 fn plays<R: Abort>(rt: &R, alloc: Global, tables: &[&[Row]]) -> Result<(), AllocError> {
     plays_with(rt, alloc, Timers::Fixed, tables)
 }
 
-// The same with ends of this kind of timers.
+// Plays tables at fresh ends with this kind of timers.
 fn plays_with<R: Abort>(
     rt: &R,
     alloc: Global,

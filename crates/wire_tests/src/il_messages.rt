@@ -41,7 +41,7 @@ fn encoded(message: &IlMsg, out: &mut [u8]) -> Option<usize> {
     }
 }
 
-/// The same of parts and a text.
+/// The bytes of a message of these parts and this text.
 fn written(
     alloc: Global,
     parts: Parts,

@@ -57,7 +57,7 @@ fn taken_under(alloc: Global, text: &[u8], limit: usize) -> Result<Taken, AllocE
     Ok(take_all(alloc, &mut source, text, limit))
 }
 
-/// The same under four limits.
+/// What is taken under four limits.
 fn taken_under_limits(alloc: Global, text: &[u8]) -> Result<[Taken; 4], AllocError> {
     Ok([
         taken_under(alloc, text, 10001)?,

@@ -99,7 +99,7 @@ fn first_wrong(
     Ok(None)
 }
 
-/// The same at an end that begins so.
+/// The first wrong deed at an end that begins so.
 fn wrong_at(alloc: Global, how: Begin, deeds: &[Deed]) -> Result<Option<usize>, AllocError> {
     let mut end = begun(alloc, how)?;
     let wrong = first_wrong(alloc, &mut end, deeds);

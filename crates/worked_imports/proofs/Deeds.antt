@@ -40,7 +40,7 @@ among e (x ∷ xs) y there = by (is_deed e x.1) there (among e xs y)
     by true (inr later) rest = inr (rest later)
     by false later rest = inr (rest later)
 
--- the same reads and writes as those of the whole history are all
+-- these are all, where their reads and writes are those of the whole history
 pub all_deeds : (h : List Entry) (e : Conversation) (xs : List (ℕ × Entry)) → deeds e (numbered 0 h) ≡ deeds e xs → AreAll h e xs
 all_deeds h e xs same k x is deed =
     let here : 0 + k ≡ k = omega arith in

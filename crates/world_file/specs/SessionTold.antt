@@ -58,7 +58,7 @@ TakenAs row old new n line (Err error.Memory) = ⊤
 TakenAs row old new n line (Err (error.Bad l c)) =
     (behind : List ℕ) (cs : List Cut) → Follows old n (cut line behind) row (λ (later : Told). SaysFrom later (n + 1) cs (Err (l, c))) (Err (l, c))
 
--- the same of any line; `SaysFrom old n (cut line behind ∷ cs)` is this by its definition
+-- what is taken of any line; `SaysFrom old n (cut line behind ∷ cs)` is this by its definition
 abbrev pub Taken : Told → Told → ℕ → List ℕ → Result Bool WorldError → Type 0
 Taken old new n line taken = TakenAs (row_of old.draft line) old new n line taken
 

@@ -30,7 +30,7 @@ TellsBehind number (error.Bad line cause) (Some told) = (line ≡ number + told.
 abbrev pub going : Bool → Draft → Verdict
 going begins d = if begins then Begins (world_of d) else Goes d
 
--- the same at the line with this number
+-- the fault of the line with this number
 abbrev pub TellsAt : LineFault → ℕ → WorldError → Type 0
 TellsAt fault.Memory number e = e ≡ error.Memory
 TellsAt (fault.Cause cause) number e = e ≡ error.Bad number (number_of cause)

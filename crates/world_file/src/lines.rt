@@ -27,7 +27,7 @@ impl Draft {
         self.take_read(alloc, line)
     }
 
-    /// The same of a line that ends a session, or of one where none goes on.
+    /// Takes a line that ends a session, or one where none goes on.
     pub(crate) fn take_under(
         &mut self,
         alloc: Global,

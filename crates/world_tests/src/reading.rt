@@ -21,7 +21,7 @@ pub(crate) fn put_lines(lines: &Lines, text: &mut Vec<u8>) -> Result<(), AllocEr
     Ok(())
 }
 
-/// The same of lines that nobody else reads.
+/// Puts lines that nobody else reads into a text.
 pub(crate) fn put_found(lines: Lines, text: &mut Vec<u8>) -> Result<(), AllocError> {
     let put = put_lines(&lines, text);
     drop(lines);

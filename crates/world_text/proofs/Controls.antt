@@ -89,7 +89,7 @@ control_back ctl.Hangup is = refl
 control_back (ctl.Ttl n) is = let small : n < 256 = ltb-true n 256 ((and_parts (nat_lt 0 n) (nat_lt n 256) is).1) in rw (number_words n (omega (arith, small))) (rw (value_of n (omega (arith, small))) refl)
 control_back (ctl.Tos n) is = let small : n < 256 = ltb-true n 256 is in rw (number_words n (omega (arith, small))) (rw (value_of n (omega (arith, small))) refl)
 
--- the same where a port stands alone
+-- what is read back where a port stands alone
 short_back : (port : ℕ) → is_port port ≡ true → control_of (words (codes "announce " ++ decimal port)) ≡ Some (ctl.Announce None (Some port))
 short_back port is =
     let small = port_facts port is in

@@ -51,7 +51,7 @@ pub good-more : (own : List (List ℕ)) (line : List ℕ) (lines : List (List �
     → first_bad causes_of own (line ∷ lines) ≡ None
 good-more own line lines none rest = ap (λ (cs : List ℕ). told (length own + 1) (least cs) (first_bad causes_of (own ++ line ∷ []) lines)) none ∙ rest
 
--- the same of lines with several bundles
+-- the first of lines with several bundles is good, and so are those behind it
 version-line : (before : List (List ℕ)) (line : List ℕ) (lines : List (List ℕ)) → first_bad_version before (line ∷ lines) ≡ None
     → (version_causes before line ≡ []) × (first_bad_version (before ++ line ∷ []) lines ≡ None)
 version-line before line lines e =

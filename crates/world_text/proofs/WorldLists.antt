@@ -65,7 +65,7 @@ apart-insert alike same (x ∷ xs) z ys =
     ∙ (swap_tests (list_any (alike x) (xs ++ ys)) (alike x z) (list_any (alike z) (xs ++ ys)) (all_apart alike (xs ++ ys))
     ∙ ap (λ b. not (b || list_any (alike z) (xs ++ ys)) && (not (list_any (alike x) (xs ++ ys)) && all_apart alike (xs ++ ys))) (same x z)))
 
--- the same at the end
+-- apart with one more at the end
 pub apart-push : {A : Type 0} (alike : A → A → Bool) → ((x y : A) → alike x y ≡ alike y x) → (xs : List A) (z : A)
     → all_apart alike (xs ++ z ∷ []) ≡ (not (list_any (alike z) xs) && all_apart alike xs)
 apart-push alike same xs z =

@@ -77,7 +77,7 @@ unfated called lines behind none = none-if (fate_on called) lines at
     at before (medium.Fate other f x) rest e =
         by other (range_of f x) before (medium.Fate other f x ∷ rest) e (behind before (medium.Fate other f x) rest e) (bytes_eq called other) refl
 
--- the same of rates
+-- no rates are said of a name that stands in none
 pub unrated : (called : List ℕ) (lines : List MediumLine) → list_any (bytes_eq called) (filter_map rated_name lines) ≡ false → filter_map (rates_on called) lines ≡ []
 unrated called [] none = refl
 unrated called (medium.Medium other mtu ∷ lines) none = unrated called lines none

@@ -85,7 +85,7 @@ fn argued(read: Option<WorldLine>) -> Result<WorldLine, LineFault>
     }
 }
 
-/// The same, where memory may have run out.
+/// What is read of a line, where memory may have run out.
 fn told(read: Result<Option<WorldLine>, AllocError>) -> Result<WorldLine, LineFault>
     ensures { (line : Option WorldLine) → IfOk read (λ r. r ≡ line) → Tells result (spec.argued line) }
 {

@@ -69,7 +69,7 @@ pub enum Ask {
     Take,
     /// A datagram from helix to anna, for host 0.
     Put,
-    /// The same, where none is given.
+    /// A put for which no datagram is given.
     PutNothing,
 }
 

@@ -28,7 +28,7 @@ impl<'a> Model for Tuple<'a> {
 }
 
 impl<'a> Tuple<'a> {
-    /// The same tuple, lent once more.
+    /// This tuple, lent once more.
     pub fn again(&self) -> Tuple<'a>
         ensures { result ≡ self.now }
     {

@@ -309,7 +309,7 @@ fn run_all(
     Ok(())
 }
 
-/// The same of tables, one after another, at a fresh conversation.
+/// Plays tables, one after another, at a fresh conversation.
 pub fn plays(
     rt: &impl Abort,
     alloc: Global,
