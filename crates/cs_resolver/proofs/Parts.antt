@@ -1,6 +1,5 @@
 -- The parts of a query.
-use Rattle.std.proofs.Common.{None, ◌≡◌, ℕ, ◌<◌, ◌==◌, List, [], ◌∷◌, length, refl, arith}
-use Rattle.std.proofs.lemmas.List.Splits.{length-slice_split}
+use Rattle.std.proofs.Common.{None, ◌≡◌, ℕ, ◌<◌, List, [], ◌∷◌, length, refl, arith}
 use Rattle.net_base.specs.Addresses.{parts_at}
 use Rattle.net_base.specs.Cs.{query_of, read_query}
 use Rattle.net_base.proofs.Texts.{some_part}

@@ -1,5 +1,5 @@
 -- Names that are bound: a name and its dotted one, and the slots of their files.
-use Rattle.std.proofs.Common.{◌≡◌, ℕ, ◌<◌, ap, Bool, true, false, ◌&&◌, not, List, [], ◌∷◌, length, subst, nat_lt, Some, None, bytes_eq, if◌then◌else◌, refl, sym, rules, tests, arith}
+use Rattle.std.proofs.Common.{◌≡◌, ℕ, ◌<◌, ap, Bool, true, false, not, List, [], ◌∷◌, length, subst, nat_lt, Some, None, bytes_eq, if◌then◌else◌, refl, sym, rules, tests, arith}
 use Rattle.std.specs.List.{list_all}
 use Rattle.std.proofs.lemmas.Option.{none-some, same_Some}
 use Rattle.std.proofs.lemmas.Bool.{and_parts}

@@ -1,5 +1,5 @@
 -- A directory's list of pairs only grows, and a pair that it grants or that is born there wasn't in it.
-use Rattle.std.proofs.Common.{◌≡◌, ℕ, ◌+◌, ◌==◌, Bool, true, false, List, [], ◌∷◌, ◌++◌, Option, Some, None, slice_get, inl, inr, refl, sym, ap, subst, ◌∙◌, arith}
+use Rattle.std.proofs.Common.{◌≡◌, ℕ, ◌+◌, ◌==◌, Bool, true, false, List, [], ◌∷◌, ◌++◌, Option, Some, None, slice_get, inl, inr, refl, sym, ap, subst, ◌∙◌}
 use Rattle.std.specs.Prelude.{if◌then◌else◌}
 use Rattle.std.proofs.lemmas.Bool.{true≢false}
 use Rattle.std.proofs.lemmas.Option.{none-some}
@@ -27,7 +27,7 @@ use Rattle.net_base.specs.Routes.{Way, way}
 use Rattle.net_base.specs.Same.{same_addr, same_pair}
 use Rattle.net_base.specs.Stamped.{In}
 use Rattle.history_laws.proofs.Takers.{taker_found}
-use Rattle.net_base.proofs.Shared.{number_itself, in_front, same_pair_itself}
+use Rattle.net_base.proofs.Shared.{in_front, same_pair_itself}
 
 -- Membership.
 

@@ -1,5 +1,5 @@
 -- At one directory a pair is granted or born at most once.
-use Rattle.std.proofs.Common.{◌≡◌, ℕ, zero, suc, ◌<◌, Bool, true, false, List, [], ◌∷◌, ◌++◌, Option, Some, None, slice_get, ◌⊎◌, inl, inr, refl, sym, ap, subst, ◌∙◌, append_assoc, append-nil, arith}
+use Rattle.std.proofs.Common.{◌≡◌, ℕ, zero, suc, ◌<◌, Bool, true, false, List, [], ◌∷◌, ◌++◌, Option, Some, None, slice_get, inl, inr, refl, sym, ap, subst, ◌∙◌, append_assoc, append-nil, arith}
 use Rattle.std.specs.Prelude.{option_to_list, IsSome}
 use Rattle.std.specs.Option.{option_map}
 use Rattle.std.proofs.lemmas.Bool.{false≢true, cases_lt}
@@ -31,7 +31,7 @@ use Rattle.net_base.specs.Tasks.{Tasks}
 use Rattle.net_base.specs.Written.{Given, gives, given_in, given_from}
 use Rattle.history_laws.proofs.DirPairs.{Moves, MovesIf, dir_moves}
 use Rattle.history_laws.proofs.Histories.{after_push, by_entries, next_same, next_other}
-use Rattle.net_base.proofs.Shared.{number_itself, in_parts, in_of_get, same_actor_is, same_itself}
+use Rattle.net_base.proofs.Shared.{in_parts, in_of_get, same_actor_is, same_itself}
 
 abbrev pub pairs_of : Actor → List Pair
 pairs_of (IsDir d) = d.pairs

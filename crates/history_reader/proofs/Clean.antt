@@ -1,9 +1,9 @@
 -- Words without separators.
-use Rattle.std.proofs.Common.{◌≡◌, ◌≢◌, ℕ, ◌+◌, ◌/◌, ◌%◌, ◌<◌, ◌^◌, ◌==◌, Bool, true, false, nat_lt, if◌then◌else◌, List, [], ◌∷◌, ◌++◌, refl, ◌∙◌, ap, arith, cond}
+use Rattle.std.proofs.Common.{◌≡◌, ◌≢◌, ℕ, ◌+◌, ◌/◌, ◌%◌, ◌<◌, ◌^◌, ◌==◌, Bool, true, false, List, [], ◌∷◌, ◌++◌, refl, ◌∙◌, ap, arith, cond}
 use Rattle.std.specs.List.{join_with_byte, onto_first}
 use Rattle.std.proofs.lemmas.Bool.{ne_eqb}
 use Rattle.net_base.specs.Addresses.{parts_at}
-use Rattle.net_base.specs.Hexadecimal.{hex_digit, hex_digits, hex_word}
+use Rattle.net_base.specs.Hexadecimal.{hex_digits, hex_word}
 use Rattle.net_base.specs.Numeral.{numeral}
 use Rattle.net_base.specs.Plain.{IsClean, IsLine}
 use Rattle.net_base.specs.Transcript.{ip_word}

@@ -1,12 +1,11 @@
 -- Callers by their places.
-use Rattle.std.proofs.Common.{◌≡◌, ℕ, zero, suc, List, [], ◌∷◌, ◌-◌, ◌<◌, ◌≤◌, ◌==◌, true, false, length, nat_lt, Option, Some, None, slice_get, refl, ap, arith}
+use Rattle.std.proofs.Common.{◌≡◌, ℕ, ◌-◌, ◌<◌, ◌≤◌, true, length, nat_lt, Option, ap, arith}
 use Rattle.std.specs.Option.{option_map_or}
-use Rattle.std.proofs.lemmas.Bool.{lt-ltb, le-ltb}
-use Rattle.std.proofs.lemmas.Bool.Decides.{nat_tests}
+use Rattle.std.proofs.lemmas.Bool.{lt-ltb}
 use Rattle.std.proofs.lemmas.Option.{slice_get_past}
 use Rattle.net_base.specs.declared.world.Script.{Script}
 use Rattle.net_base.specs.declared.world.World.{World}
-use Rattle.net_base.specs.Callers.{IsScript, IsCourier, IsClock, IsNobody, caller_of, clock_number, other_caller}
+use Rattle.net_base.specs.Callers.{IsScript, IsCourier, caller_of, clock_number, other_caller}
 
 pub is_courier : (w : World) (c place : ℕ) → place ≡ c - length w.scripts → length w.scripts ≤ c → place < length w.media
     → other_caller w c ≡ IsCourier place

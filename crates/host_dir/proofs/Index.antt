@@ -1,22 +1,21 @@
 -- The slot of a pair, by the pairs that were given.
-use Rattle.std.proofs.Common.{◌≡◌, ◌≢◌, ℕ, zero, suc, ◌+◌, ◌<◌, ◌==◌, ◌⊎◌, inl, inr, not, Bool, true, false, cond, List, [], ◌∷◌, ◌++◌, Option, Some, None, replicate, slice_get, length, refl, ap, sym, subst, ◌∙◌}
+use Rattle.std.proofs.Common.{◌≡◌, ◌≢◌, ℕ, zero, suc, ◌+◌, ◌<◌, ◌⊎◌, inl, inr, not, Bool, true, false, cond, List, [], ◌∷◌, ◌++◌, Option, Some, None, replicate, slice_get, length, refl, ap, sym, subst, ◌∙◌}
 use Rattle.std.specs.Prelude.{slice_set}
 use Rattle.std.specs.Option.{option_map, option_map_or}
 use Rattle.std.specs.List.{position, position_from}
 use Rattle.std.specs.Map.{keys_of, lookup}
 use Rattle.std.proofs.lemmas.Option.{none-some, same_Some, slice_get-get_or, slice_get_within}
-use Rattle.std.proofs.lemmas.Bool.{and_parts, and_from, eq-eqb, eqb-true, true≢false}
+use Rattle.std.proofs.lemmas.Bool.{and_parts, true≢false}
 use Rattle.std.proofs.lemmas.Iterator.Adapters.{position_from-zero}
 use Rattle.std.proofs.lemmas.List.{map-append}
-use Rattle.net_base.specs.declared.address.Addr.{Addr}
 use Rattle.net_base.specs.declared.address.Pair.{Pair}
 use Rattle.net_base.specs.Directory.{Slot, first_slot, free_slot, is_free, is_live_with, pair_place}
-use Rattle.net_base.specs.Same.{same_addr, same_pair}
+use Rattle.net_base.specs.Same.{same_pair}
 use Rattle.host_dir.specs.declared.slots.Ends.{Ends}
 use Rattle.host_dir.specs.Found.{found_at, slot_at}
 use Rattle.host_dir.specs.Tables.{IsIndexed, Tables, pair_of, pairs_of}
 use Rattle.host_dir.proofs.Firsts.{none_found, only_found}
-use Rattle.net_base.proofs.Shared.{same_addr_is, same_addr_itself, same_pair_is, same_pair_itself}
+use Rattle.net_base.proofs.Shared.{same_pair_is, same_pair_itself}
 
 -- Pairs that are the same.
 

@@ -1,11 +1,11 @@
 -- How many steps of the scripts are answered.
-use Rattle.std.proofs.Common.{◌≡◌, ℕ, zero, suc, ◌+◌, ◌-◌, ◌<◌, ◌≤◌, ◌≢◌, ◌==◌, ◌⊎◌, inl, inr, Bool, true, false, not, List, [], ◌∷◌}
+use Rattle.std.proofs.Common.{◌≡◌, ℕ, zero, suc, ◌+◌, ◌-◌, ◌<◌, ◌≤◌, ◌==◌, ◌⊎◌, inl, inr, Bool, true, false, not, List, [], ◌∷◌}
 use Rattle.std.proofs.Common.{◌++◌, length, drop, filter, map, take, Option, Some, None, IfNone, IfSome, is_none, nat_lt, slice_get}
-use Rattle.std.proofs.Common.{slice_index_or, sum_by, get_or, if◌then◌else◌, zero-add, refl, ap, sym, subst, ◌∙◌, arith}
+use Rattle.std.proofs.Common.{slice_index_or, sum_by, get_or, if◌then◌else◌, refl, ap, sym, subst, ◌∙◌, arith}
 use Rattle.std.specs.List.{enumerate_from}
 use Rattle.std.specs.Option.{option_map, option_map_or}
 use Rattle.std.proofs.lemmas.List.{map-append, take_all, take_more}
-use Rattle.std.proofs.lemmas.Bool.{lt-ltb, true≢false}
+use Rattle.std.proofs.lemmas.Bool.{lt-ltb}
 use Rattle.std.proofs.lemmas.List.Sums.{sum_by-cons}
 use Rattle.std.proofs.lemmas.Option.{none-some, same_Some}
 use Rattle.net_base.specs.declared.history.Entry.{Entry}
@@ -34,7 +34,7 @@ use Rattle.host_net.specs.Groups.{Follows, Grouped, IsDealt, NotIn, Seats, all_c
 use Rattle.host_net.specs.Groups.{members, seat_of, seats, visits, with_last}
 use Rattle.host_net.specs.Playing.{IsCounted, Playing, replies_of}
 use Rattle.net_guests.specs.Visits.{Visit}
-use Rattle.net_base.proofs.Shared.{in_front, in_back, in_parts, there_at, drop_one, next_one, past_all}
+use Rattle.net_base.proofs.Shared.{in_front, in_back, in_parts, there_at, next_one}
 use Rattle.net_guests.proofs.Firsts.{owes_some, free_none}
 
 -- One player.

@@ -1,8 +1,6 @@
 -- A script's own entries, and what comes next in its place.
 use Rattle.std.proofs.Common.{◌≡◌, ℕ, ◌+◌, ◌==◌, Bool, true, false, List, [], ◌∷◌, ◌++◌, map, filter, Option, Some, None, is_none}
-use Rattle.std.proofs.Common.{if◌then◌else◌, refl, ap, sym, ◌∙◌, arith}
-use Rattle.std.specs.Option.{option_map}
-use Rattle.std.proofs.lemmas.Bool.Decides.{nat_tests}
+use Rattle.std.proofs.Common.{if◌then◌else◌, refl, ap, sym, ◌∙◌}
 use Rattle.std.proofs.lemmas.List.{append-nil}
 use Rattle.net_base.specs.declared.actor.ActorName.{ActorName}
 use Rattle.net_base.specs.declared.history.Entry.{Entry}
@@ -21,9 +19,9 @@ use Rattle.net_base.specs.Net.{played, stepped_to}
 use Rattle.net_base.specs.Next.{next_by, next_of_by, own_replies, place_next, zone_of}
 use Rattle.net_base.specs.Stamped.{at, at_from, matches}
 use Rattle.net_base.specs.Tasks.{Tasks}
-use Rattle.locked.specs.Acts.{left_by, state, state_at}
+use Rattle.locked.specs.Acts.{state, state_at}
 use Rattle.script_task.specs.Fitting.{fits}
-use Rattle.guest_laws.specs.Named.{Named, answer_in, named, named_step, opening}
+use Rattle.guest_laws.specs.Named.{Named, answer_in, named, opening}
 use Rattle.guest_laws.specs.Works.{entries, noted_net}
 use Rattle.net_base.proofs.Shared.{number_itself}
 use Rattle.guest_laws.proofs.Nets.{named_left}

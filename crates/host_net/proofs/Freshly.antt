@@ -1,18 +1,16 @@
 -- Guests to whom nothing has happened.
-use Rattle.std.proofs.Common.{◌≡◌, ℕ, zero, suc, ◌+◌, ◌<◌, ◌-◌, ◌==◌, nat_lt, inl, inr, Bool, true, false, not, List, [], ◌∷◌, ◌++◌, length}
-use Rattle.std.proofs.Common.{filter, Option, Some, None, if◌then◌else◌, refl, ap, sym, subst, ◌∙◌, arith}
-use Rattle.std.specs.Option.{option_map_or}
-use Rattle.std.proofs.lemmas.Bool.{true≢false, eqb-true}
+use Rattle.std.proofs.Common.{◌≡◌, ℕ, ◌+◌, ◌<◌, ◌==◌, true, not, List, [], ◌∷◌, ◌++◌, length}
+use Rattle.std.proofs.Common.{filter, sym, subst, arith}
+use Rattle.std.proofs.lemmas.Bool.{true≢false}
 use Rattle.std.proofs.lemmas.Bool.Decides.{nat_tests}
 use Rattle.net_base.specs.declared.noted.Number.TheVariants as number
-use Rattle.net_base.specs.declared.world.Script.{Script}
 use Rattle.net_base.specs.declared.world.Version.{Version}
 use Rattle.net_base.specs.declared.world.World.{World}
-use Rattle.net_base.specs.Callers.{Caller, IsClock, IsCourier, IsNobody, IsScript, clock_number, first_courier, other_caller}
+use Rattle.net_base.specs.Callers.{Caller}
 use Rattle.net_base.specs.Stamped.{In}
 use Rattle.net_base.specs.Versions.{Tuples, are_timed}
 use Rattle.net_base.specs.World.{IsWorld}
-use Rattle.journal.specs.Rule.{Held, caller_numbers, same_number}
+use Rattle.journal.specs.Rule.{Held, same_number}
 use Rattle.net_guests.specs.Visits.{AreFresh, IsFresh, Visit}
 use Rattle.net_base.proofs.Shared.{number_itself, in_filter}
 

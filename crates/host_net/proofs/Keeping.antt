@@ -1,7 +1,7 @@
 -- What a turn leaves of a player.
 use Rattle.std.proofs.Common.{◌≡◌, ℕ, inl, inr, Bool, true, false, List, [], ◌∷◌, ◌++◌, Option, Some, None, refl, ap, sym, subst, ◌∙◌}
 use Rattle.std.proofs.lemmas.Bool.{true≢false}
-use Rattle.std.proofs.lemmas.Option.{none-some, same_Some}
+use Rattle.std.proofs.lemmas.Option.{same_Some}
 use Rattle.net_base.specs.declared.actor.ActorName.{ActorName}
 use Rattle.net_base.specs.declared.actor.ActorName.TheVariants as name
 use Rattle.net_base.specs.declared.event.Event.TheVariants as event
@@ -13,7 +13,7 @@ use Rattle.net_base.specs.declared.reply.Reply.{Reply}
 use Rattle.net_base.specs.declared.world.Script.{Script}
 use Rattle.net_base.specs.declared.world.World.{World}
 use Rattle.net_base.specs.Actors.{actor_step}
-use Rattle.net_base.specs.Callers.{Caller, IsClock, IsCourier, IsScript, caller_of}
+use Rattle.net_base.specs.Callers.{Caller, IsCourier, IsScript, caller_of}
 use Rattle.net_base.specs.Duties.{Duty}
 use Rattle.net_base.specs.Legal.{IsAsked}
 use Rattle.net_base.specs.Next.{next_by, next_of_by, own_replies, zone_of}
@@ -26,12 +26,10 @@ use Rattle.journal.specs.declared.tokens.Sight.{Sight}
 use Rattle.locked.specs.Acts.{made, without_copy}
 use Rattle.guest_laws.specs.Own.{AreNext, AreTimely, StandsStill}
 use Rattle.guest_laws.specs.Works.{entries, noted_net}
-use Rattle.host_net.specs.declared.player.Played.{Played}
-use Rattle.host_net.specs.declared.player.Played.TheVariants as played
 use Rattle.host_net.specs.declared.player.Role.{Role}
 use Rattle.net_locks.specs.declared.turn.Turn.{Turn}
 use Rattle.net_locks.specs.declared.turn.Turn.TheVariants as turn
-use Rattle.host_net.specs.Playing.{GoesOn, HasMore, HasRole, IsPlayed, IsPlayer, IsUnmoved, IsUnready, IsWaiting, Playing, PlaysOn, played_by}
+use Rattle.host_net.specs.Playing.{GoesOn, HasMore, HasRole, IsPlayed, IsPlayer, IsUnmoved, IsUnready, Playing, PlaysOn, played_by}
 use Rattle.net_guests.specs.Visits.{IsSame, Takes, Visit}
 use Rattle.net_locks.specs.Turns.{IsFull, Recorded, Stays, Unready, bare, own}
 use Rattle.host_net.proofs.Continuing.{duty_replies, own_push, own_stays}

@@ -1,6 +1,6 @@
 -- What became of the clock, said of the histories of all callers.
-use Rattle.std.proofs.Common.{◌≡◌, ℕ, ◌+◌, ◌<◌, ◌==◌, ◌⊎◌, inl, inr, Bool, true, false, List, [], ◌∷◌, ◌++◌, drop, length, Option, Some, None, map}
-use Rattle.std.proofs.Common.{filter, is_none, if◌then◌else◌, refl, ap, sym, subst, ◌∙◌, arith}
+use Rattle.std.proofs.Common.{◌≡◌, ℕ, ◌+◌, ◌<◌, ◌==◌, ◌⊎◌, inl, inr, Bool, true, false, List, [], ◌∷◌, ◌++◌, drop, length, Option, Some, None}
+use Rattle.std.proofs.Common.{if◌then◌else◌, ap, sym, subst, ◌∙◌, arith}
 use Rattle.std.proofs.lemmas.List.{append-nil, length-map}
 use Rattle.net_base.specs.declared.actor.ActorName.{ActorName}
 use Rattle.net_base.specs.declared.actor.ActorName.TheVariants as name
@@ -17,7 +17,7 @@ use Rattle.net_base.specs.Actors.{Actor, actor_step}
 use Rattle.net_base.specs.Calm.{done_by, limited_by, movable_by, stopped_by, target_by}
 use Rattle.net_base.specs.Duties.{Duty, duties, ticks}
 use Rattle.net_base.specs.Net.{Net, after}
-use Rattle.net_base.specs.Next.{by, own_replies, zone_of}
+use Rattle.net_base.specs.Next.{own_replies, zone_of}
 use Rattle.net_base.specs.Stamped.{In, at, at_from}
 use Rattle.net_base.specs.Steps.{Names}
 use Rattle.net_base.specs.Tasks.{Asking, Tasks}

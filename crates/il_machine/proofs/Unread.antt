@@ -1,13 +1,12 @@
 -- What is unread of the messages that were got.
-use Rattle.std.proofs.Common.{◌≡◌, ℕ, ◌+◌, ◌-◌, ◌<◌, ◌≤◌, Bool, true, false, List, [], ◌∷◌, ◌++◌, length, drop, refl, arith, ap, sym, ◌∙◌, subst, nat_lt, if◌then◌else◌, length-append, length-drop}
+use Rattle.std.proofs.Common.{◌≡◌, ℕ, ◌+◌, ◌-◌, ◌<◌, ◌≤◌, Bool, true, false, List, [], ◌∷◌, length, drop, refl, arith, ap, sym, ◌∙◌, nat_lt, if◌then◌else◌}
 use Rattle.std.proofs.lemmas.Bool.Decides.{nat_tests}
-use Rattle.std.proofs.lemmas.List.{drop-append-le, drop-drop, drop_more}
+use Rattle.std.proofs.lemmas.List.{drop-drop, drop_more}
 use Rattle.std.specs.List.{slice_index_or}
 use Rattle.il_queues.specs.Reading.{Waiting, IsCut, cut_first, left_after}
 use Rattle.il_queues.specs.Reading as reading
 use Rattle.net_base.specs.IlEnd.{End}
 use Rattle.net_base.specs.IlTable.{first_unread, has_unread, reads}
-use Rattle.il_machine.specs.InTurn.{Turned, with_turned}
 use Rattle.il_machine.specs.Windows.{Windows, unread_of, windows_of}
 use Rattle.il_machine.specs.Stands.{after_read}
 

@@ -6,12 +6,12 @@ use Rattle.net_base.specs.declared.il.IlMsg.{IlMsg}
 use Rattle.net_base.specs.declared.packet.Body.{Body}
 use Rattle.net_base.specs.declared.packet.Body.TheVariants as body
 use Rattle.net_base.specs.declared.packet.Packet.{Packet}
-use Rattle.wire_text.specs.Ipv4.{Ipv4, IsHeader, SpellsIpv4, header_of, payload_of}
+use Rattle.wire_text.specs.Ipv4.{Ipv4, SpellsIpv4, header_of, payload_of}
 use Rattle.wire_text.specs.UdpWire.{SpellsUdp, address, dport_of, udp_text}
 use Rattle.wire_text.specs.IlWire.{SpellsIl, il_dport, message_of}
 use Rattle.wire_text.specs.Datagram.{IsPacket, between, il_packet, udp_packet, packet_in, header_for, body_bytes, protocol, packet_of}
 use Rattle.wire_text.proofs.Shared.{spells_header, spells_payload, spells_sport, spells_dport, spells_message, spells_fields, spells_datagram, spells_il_body, spells_udp_body}
-use Rattle.medium.specs.Spelled.{HasBody, IsSpelled}
+use Rattle.medium.specs.Spelled.{IsSpelled}
 
 -- spelled bytes spell a header and a payload
 pub ipv4_in : (bytes : List ℕ) → IsSpelled bytes → SpellsIpv4 (header_for (packet_of bytes)) (body_bytes (packet_of bytes).src (packet_of bytes).dst (packet_of bytes).body) bytes

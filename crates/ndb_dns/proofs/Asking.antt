@@ -1,15 +1,11 @@
 -- The question of a message, by the name that is read behind its header.
-use Rattle.std.proofs.Common.{◌≡◌, ℕ, ◌+◌, ◌<◌, ◌≤◌, ◌^◌, ◌==◌, Bool, cond, List, length, drop, Option, Some, None, Result, Ok, Err, refl, sym, ap, ◌∙◌, arith, subst, inl, inr}
-use Rattle.std.specs.Prelude.{◌↔◌, nat_le, option_and_then, IsErrOf, IfErr}
-use Rattle.std.proofs.lemmas.Bool.{and_right, ne_eqb}
+use Rattle.std.proofs.Common.{◌≡◌, ℕ, ◌+◌, ◌<◌, ◌≤◌, List, length, Option, Some, None, refl, arith, inl, inr}
 use Rattle.net_base.specs.Bytes.{word_at}
 use Rattle.net_base.specs.declared.question.Question.{Question}
 use Rattle.net_base.specs.DomainNames.{ReadsName}
-use Rattle.net_base.specs.DomainQuestions.{HasHeader, name_at_front, question_named, question_of}
+use Rattle.net_base.specs.DomainQuestions.{HasHeader, question_of}
 use Rattle.dns_text.proofs.Shared.{name_short, is_found, is_read, read_at_front}
 use Rattle.ndb_dns.specs.declared.fault.DnsError.{DnsError}
-use Rattle.ndb_dns.specs.declared.fault.DnsError.TheVariants as error
-use Rattle.ndb_dns.specs.Refusals.{IsQuery, Refuses}
 use Rattle.ndb_dns.specs.Runs.{IsRefused}
 use Rattle.ndb_dns.proofs.Spelling.{name_once}
 

@@ -4,7 +4,7 @@ use Rattle.std.specs.Prelude.{nat_lt, nat_le, flat_map}
 use Rattle.std.proofs.lemmas.Bool.{true≢false, false≢true, lt-ltb, le-ltb, ltb-false, le-leb, lt-leb}
 use Rattle.std.proofs.lemmas.Bool.Decides.{nat_tests}
 use Rattle.std.proofs.lemmas.List.Concat.{flat_map-append}
-use Rattle.net_base.specs.DomainAnswers.{fitting, record_bytes}
+use Rattle.net_base.specs.DomainAnswers.{fitting}
 use Rattle.ndb_dns.specs.declared.reply.Records.{Records}
 use Rattle.ndb_dns.specs.Taken.{Adds, IsFew, Took}
 

@@ -1,20 +1,18 @@
 -- The parts of an answer, an element at a time.
-use Rattle.std.proofs.Common.{◌≡◌, ◌≢◌, ℕ, suc, ◌+◌, ◌^◌, ◌<◌, ◌≤◌, ◌==◌, nat_eq, Bool, true, false, cond, ◌&&◌, List, [], ◌∷◌, ◌++◌, length, get_or, slice_get, take, map, Vec, vec_items, Option, Some, None, refl, sym, ap, ◌∙◌, arith, append-nil, append_assoc}
-use Rattle.std.specs.Prelude.{nat_lt, nat_le, filter_map, flat_map, option_map}
+use Rattle.std.proofs.Common.{◌≡◌, ℕ, suc, ◌+◌, ◌<◌, ◌==◌, nat_eq, Bool, true, false, cond, List, [], ◌∷◌, ◌++◌, length, get_or, slice_get, take, map, Vec, vec_items, Option, Some, None, refl, sym, ap, ◌∙◌, arith, append-nil, append_assoc}
+use Rattle.std.specs.Prelude.{filter_map, flat_map, option_map}
 use Rattle.std.specs.List.{list_all, list_any, cons_option}
-use Rattle.std.specs.Option.{option_map_or}
-use Rattle.std.proofs.lemmas.Bool.{true≢false, false≢true, and_parts, and_from, le-leb, lt-leb, lt-ltb, le-ltb, ne_eqb, and_right}
-use Rattle.std.proofs.lemmas.List.{take_more, map-append, map_more, get_or-map}
+use Rattle.std.proofs.lemmas.Bool.{ne_eqb}
+use Rattle.std.proofs.lemmas.List.{take_more, map-append, get_or-map}
 use Rattle.std.proofs.lemmas.List.Elements.{filter_map-append}
 use Rattle.std.proofs.lemmas.List.Concat.{flat_map-append}
-use Rattle.std.proofs.lemmas.Option.{none-some, same_Some, slice_get-map}
+use Rattle.std.proofs.lemmas.Option.{slice_get-map}
 use Rattle.net_base.specs.Ndb.{NdbPair}
 use Rattle.net_base.specs.Addresses.{read_address}
 use Rattle.net_base.specs.Cs.{once_each}
 use Rattle.net_base.specs.NdbText.{is_empty}
 use Rattle.net_base.specs.Networks.{first_of}
-use Rattle.net_base.specs.Search.{all_beside, beside, or_where_empty, tuples_with}
-use Rattle.net_base.specs.Bytes.{word_at}
+use Rattle.net_base.specs.Search.{all_beside, beside, tuples_with}
 use Rattle.ndb_reader.specs.Names.{names_seen, with_name, with_names}
 use Rattle.ndb_reader.proofs.Shared.{names_append}
 use Rattle.net_base.specs.declared.ndb.spot.Spot.{Spot}
@@ -23,12 +21,8 @@ use Rattle.ndb_index.specs.Kept.{spots_with}
 use Rattle.ndb_index.specs.Near.{spot_tuples}
 use Rattle.ndb_index.proofs.Shared.{Db, spots_count, spots_found}
 use Rattle.cs_resolver.proofs.Shared.{among, once_push, same_any, turned}
-use Rattle.net_base.specs.declared.question.Question.{Question}
-use Rattle.net_base.specs.DomainAnswers.{Key, address_record, address_records, addresses_named, alias_of, alias_records, answer_read, asked, dns_answer, is_unknown, key_of, naming_record, rcode_of, records_beside, records_found, records_of, reply_of}
+use Rattle.net_base.specs.DomainAnswers.{Key, is_unknown, naming_record, records_beside, records_found}
 use Rattle.net_base.specs.DomainNames.{name_in}
-use Rattle.net_base.specs.DomainQuestions.{question_of}
-use Rattle.ndb_dns.specs.Looks.{looks_beside, looks_for, looks_of, most_looks}
-use Rattle.ndb_dns.specs.Refusals.{IsQuery}
 use Rattle.ndb_dns.proofs.Lowering.{is_valid, valid_at}
 
 -- ---- values at spots

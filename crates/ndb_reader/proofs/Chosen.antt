@@ -1,8 +1,8 @@
 -- The names that a tuple gives, a line and a pair at a time, and the tuple that chooses.
-use Rattle.std.proofs.Common.{◌≡◌, ℕ, ◌+◌, ◌≤◌, ◌<◌, Bool, true, false, cond, ◌||◌, bytes_eq, List, [], ◌∷◌, ◌++◌, map, drop, get_or, length, Vec, vec_items, refl, sym, ap, ◌∙◌, arith}
+use Rattle.std.proofs.Common.{◌≡◌, ℕ, ◌+◌, ◌<◌, Bool, true, false, cond, ◌||◌, bytes_eq, List, [], ◌∷◌, ◌++◌, map, drop, get_or, length, Vec, vec_items, refl, sym, ap, ◌∙◌}
 use Rattle.std.specs.Prelude.{codes, filter}
 use Rattle.std.specs.List.{list_any}
-use Rattle.std.proofs.lemmas.List.{map-append, at_drop_more, drop_all, nil_from_length}
+use Rattle.std.proofs.lemmas.List.{map-append, at_drop_more, nil_from_length}
 use Rattle.net_base.specs.Ndb.{NdbPair}
 use Rattle.net_base.specs.Search.{has_attr, values_on, values_in}
 use Rattle.net_base.specs.NdbBundle.{each_once}

@@ -1,9 +1,9 @@
 -- A database as it is written, a pair, a line and a tuple at a time.
-use Rattle.std.proofs.Common.{◌≡◌, ℕ, ◌+◌, ◌<◌, ◌≤◌, List, [], ◌∷◌, ◌++◌, length, take, get_or, refl, sym, ap, ◌∙◌, arith, append-nil, append_assoc, length-append}
+use Rattle.std.proofs.Common.{◌≡◌, ℕ, ◌+◌, ◌<◌, ◌≤◌, List, [], ◌∷◌, ◌++◌, length, take, get_or, refl, sym, ap, ◌∙◌, arith, append-nil, append_assoc}
 use Rattle.std.specs.Prelude.{codes, drop}
 use Rattle.std.proofs.lemmas.List.{take_more, at_drop_more, at_drop_all}
 use Rattle.net_base.specs.Ndb.{NdbPair}
-use Rattle.ndb_reader.specs.Written.{value_text, pair_text, more_pairs, line_text, more_lines, tuple_text, db_text}
+use Rattle.ndb_reader.specs.Written.{pair_text, more_pairs, line_text, more_lines, tuple_text, db_text}
 
 more-push : (pairs : List NdbPair) (pair : NdbPair) → more_pairs (pairs ++ pair ∷ []) ≡ more_pairs pairs ++ (codes " " ++ pair_text pair)
 more-push [] pair = ap (λ (text : List ℕ). codes " " ++ text) (append-nil (pair_text pair))

@@ -2,7 +2,7 @@
 use Rattle.std.proofs.Common.{◌≡◌, ℕ, zero, suc, ◌-◌, ◌<◌, Bool, false, not, List, [], ◌∷◌, length, drop, get_or, ap, arith, Some, None, refl}
 use Rattle.std.specs.List.{list_any, before_first, after_last, suffix_len}
 use Rattle.std.proofs.lemmas.List.Sums.{suffix_len_is}
-use Rattle.ndb_text.proofs.NdbPlain.{or_false, or_false_first, or_false_rest, one_add}
+use Rattle.ndb_text.proofs.NdbPlain.{or_false_first, or_false_rest, one_add}
 
 pub before_first-none : {X : Type 0} (p : X → Bool) (xs : List X) → list_any p xs ≡ false → before_first p xs ≡ xs
 before_first-none p [] h = refl

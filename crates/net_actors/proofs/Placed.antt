@@ -12,8 +12,7 @@ use Rattle.net_base.specs.Net.{actors_after}
 use Rattle.net_base.specs.Stamped.{same_actor}
 use Rattle.net_actors.specs.Kept.{IsActorOf, state_of}
 use Rattle.net_actors.specs.Numbers.{actor_count, count_in, is_among, number_in, number_of}
-use Rattle.net_actors.specs.Small.{IsSmall}
-use Rattle.net_actors.specs.Stepping.{IsReady, ActorMayWant, Steps as StepsOne}
+use Rattle.net_actors.specs.Stepping.{ActorMayWant, Steps as StepsOne}
 use Rattle.net_actors.specs.Together.{AreActors, AreFirst, CanStep, IsAt, MayWantAt, Numbered, Steps, StepsIn, has_name, state_in}
 use Rattle.net_actors.specs.declared.actor.Actor.{Actor as Kept}
 use Rattle.net_actors.proofs.Numbering.{among_is, below, below_in, same_in}

@@ -1,7 +1,7 @@
 -- The number of events that a script owes is the count by its entries.
-use Rattle.std.proofs.Common.{◌≡◌, ℕ, zero, suc, ◌+◌, ◌-◌, ◌<◌, ◌≤◌, ◌==◌, Bool, true, false, List, [], ◌∷◌, ◌++◌, length, drop, Option, Some, None, slice_get, if◌then◌else◌, refl, sym, ap, subst, ◌∙◌, length-append, arith}
+use Rattle.std.proofs.Common.{◌≡◌, ℕ, ◌+◌, ◌-◌, ◌<◌, ◌≤◌, ◌==◌, Bool, true, false, List, [], ◌∷◌, ◌++◌, length, drop, Option, Some, None, slice_get, if◌then◌else◌, refl, sym, ap, subst, ◌∙◌, length-append, arith}
 use Rattle.std.specs.Prelude.{IsSome}
-use Rattle.std.specs.Option.{option_map, option_map_or}
+use Rattle.std.specs.Option.{option_map}
 use Rattle.std.proofs.lemmas.Bool.{eqb-true, false≢true}
 use Rattle.std.proofs.lemmas.List.{drop_all, length-drop}
 use Rattle.std.proofs.lemmas.Option.{none-some, same_Some}
@@ -10,7 +10,7 @@ use Rattle.net_base.specs.declared.world.Script.{Script}
 use Rattle.net_base.specs.declared.world.World.{World}
 use Rattle.net_base.specs.ActorStep.{Step}
 use Rattle.net_base.specs.Actors.{Actor}
-use Rattle.net_base.specs.Callers.{Caller, IsScript, caller_of, other_caller}
+use Rattle.net_base.specs.Callers.{Caller, IsScript, caller_of}
 use Rattle.net_base.specs.Duties.{Duty, duties}
 use Rattle.net_base.specs.Legal.{IsAsked, IsLegal, MayFollow, Shown, Shows, asked_by}
 use Rattle.net_base.specs.Net.{Net, after, net_after, next_net, owed, step_of, work_of}
@@ -21,7 +21,7 @@ use Rattle.history_laws.proofs.Shared.{after_push, by_entries, Each, each_append
 use Rattle.net_export.specs.Counted.{brought, count_after, follow_ups, puts, releases}
 use Rattle.net_export.proofs.FreeEvents.{IsFree, IsFreeDuty, duties_free, script_free}
 use Rattle.net_export.proofs.Lengths.{duties_length}
-use Rattle.net_base.proofs.Shared.{there_at, next_one, script_at}
+use Rattle.net_base.proofs.Shared.{next_one, script_at}
 
 -- The count of one entry more.
 

@@ -1,27 +1,13 @@
 -- What a message leaves of the bound on messages, and which messages have a step.
-use Rattle.std.proofs.Common.{◌≡◌, ◌≤◌, ℕ, min, Bool, true, false, List, [], ◌∷◌, length, Option, Some, None, if◌then◌else◌, refl, sym, subst, ap, ◌∙◌, arith}
-use Rattle.std.specs.Map.{lookup}
-use Rattle.std.specs.Prelude.{codes, nat_eq}
-use Rattle.std.specs.Option.{option_and_then}
-use Rattle.std.proofs.lemmas.Option.{none-some}
-use Rattle.net_base.specs.declared.names.Node.TheVariants as node
-use Rattle.net_base.specs.declared.ninep.Target.{Target}
-use Rattle.net_base.specs.declared.ninep.Tmsg.{Tmsg}
-use Rattle.net_base.specs.declared.ninep.Tmsg.TheVariants as t
-use Rattle.net_base.specs.declared.reply.Reply.{Reply}
-use Rattle.net_base.specs.declared.world.Step.{Step}
+use Rattle.std.proofs.Common.{◌≡◌, ◌≤◌, ℕ, List, [], length, None, sym, subst, ap, ◌∙◌, arith}
+use Rattle.std.specs.Prelude.{codes}
 use Rattle.net_base.specs.declared.ninep.Rmsg.{Rmsg}
 use Rattle.net_base.specs.declared.ninep.Rmsg.TheVariants as r
 use Rattle.net_base.specs.Exports.{bad_message, longest_exported}
 use Rattle.net_base.specs.NinepMessages.{longest, r_bytes}
-use Rattle.net_base.specs.SessionAnswers.{Found, replied}
-use Rattle.net_base.specs.SessionScript.{after, attaches, begins, bound_by, changed, opened, step_of}
-use Rattle.net_base.specs.SessionTable.{Table, fresh, opening, put, set}
-use Rattle.net_export.specs.Serving.{IsServing, Known, Past, after_one, known_after}
-use Rattle.session_answers.proofs.Shared.{same_reply}
-use Rattle.session_answers.specs.Told.{is_told, told_by}
-use Rattle.session_script.specs.declared.table.Table.{Table as Code}
-use Rattle.session_script.specs.Seen.{Kept, brings_fid, kept, seen}
+use Rattle.net_base.specs.SessionAnswers.{Found}
+use Rattle.net_base.specs.SessionTable.{Table, opening}
+use Rattle.net_export.specs.Serving.{IsServing}
 
 -- ---- the bound on messages
 

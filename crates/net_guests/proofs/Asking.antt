@@ -1,26 +1,21 @@
 -- The requests of scripts: none is asked of the clock, and what one may bind there is room for.
 use Rattle.std.proofs.Common.{◌≡◌, ℕ, Bool, true, false, List, Option, Some, None, if◌then◌else◌, refl, ap, sym, ◌∙◌}
 use Rattle.std.specs.Prelude.{Result, Ok, Err}
-use Rattle.std.specs.Option.{option_map}
 use Rattle.std.proofs.lemmas.Option.{none-some, same_Some}
 use Rattle.net_base.specs.declared.actor.ActorName.TheVariants as name
 use Rattle.net_base.specs.declared.names.Ctl.{Ctl}
 use Rattle.net_base.specs.declared.names.Ctl.TheVariants as ctl
 use Rattle.net_base.specs.declared.names.FileName.{FileName}
 use Rattle.net_base.specs.declared.names.FileName.TheVariants as file
-use Rattle.net_base.specs.declared.names.Mode.{Mode}
 use Rattle.net_base.specs.declared.names.Node.{Node}
 use Rattle.net_base.specs.declared.names.Node.TheVariants as node
-use Rattle.net_base.specs.declared.reply.Reply.{Reply}
 use Rattle.net_base.specs.ControlWords as control
 use Rattle.net_base.specs.Paths.{reads, walk, writes}
 use Rattle.net_base.specs.Stamped.{same_actor}
-use Rattle.net_base.specs.Steps.{Ask, Names, Fid, Play, Asks, Ends, controls, fid_of, is_bound, ls_actor, on_fid, open_actor, openable, opened_fid, puts}
-use Rattle.script_task.specs.Holdings.{Holdings}
+use Rattle.net_base.specs.Steps.{Ask, Names, Fid, Play, Asks, Ends, controls, fid_of, is_bound, ls_actor, on_fid, open_actor, openable, puts}
 use Rattle.net_base.specs.declared.request.Request.{Request}
 use Rattle.net_base.specs.declared.request.Request.TheVariants as request
 use Rattle.net_base.specs.Requests.{head, planned, request_play}
-use Rattle.script_task.specs.Requests.{HasRoom, newly_opened}
 
 -- The clock.
 

@@ -1,8 +1,7 @@
 -- Whether a duty is owed, and which stands first.
-use Rattle.std.proofs.Common.{◌≡◌, ◌≢◌, ℕ, suc, arith, ◌==◌, not, true, false, List, [], ◌∷◌, drop, length, Some, slice_get, refl, ap, sym, subst, ◌∙◌}
+use Rattle.std.proofs.Common.{◌≡◌, ◌≢◌, ℕ, suc, arith, ◌==◌, not, true, false, List, [], ◌∷◌, length, Some, slice_get, refl, sym, subst, ◌∙◌}
 use Rattle.std.proofs.lemmas.Bool.{true≢false}
 use Rattle.std.proofs.lemmas.Bool.Decides.{nat_tests}
-use Rattle.std.proofs.lemmas.Option.{none-some, same_Some}
 use Rattle.net_base.specs.Duties.{Duty}
 
 pub first_some : (ds : List Duty) → ds ≢ [] → (d : Duty) × (slice_get ds 0 ≡ Some d)

@@ -1,7 +1,6 @@
 -- A caller's number goes from one pass to another, and what is known of guests goes with it.
-use Rattle.std.proofs.Common.{◌≡◌, ℕ, ◌==◌, inl, inr, Bool, true, false, not, List, [], ◌∷◌, ◌++◌, filter, if◌then◌else◌, refl}
+use Rattle.std.proofs.Common.{◌≡◌, ℕ, ◌==◌, inl, inr, Bool, true, false, not, List, [], ◌∷◌, if◌then◌else◌, refl}
 use Rattle.std.proofs.Common.{ap, sym, subst, ◌∙◌, arith}
-use Rattle.std.proofs.lemmas.Bool.{true≢false}
 use Rattle.std.proofs.lemmas.Bool.Decides.{nat_tests}
 use Rattle.std.proofs.lemmas.List.{append-nil}
 use mathlib.Core.List.{IsPrefix}
@@ -13,7 +12,6 @@ use Rattle.net_base.specs.Stamped.{In, at, moment}
 use Rattle.journal.specs.declared.law.Roster.{Roster}
 use Rattle.journal.specs.declared.tokens.Sight.{Sight}
 use Rattle.journal.specs.Rule.{Held, has_caller, is_caller, same_number}
-use Rattle.journal.specs.Tokens.{Looked}
 use Rattle.guest_laws.specs.Guests.{HandsOver, IsGuest, StaysGuest}
 use Rattle.net_guests.proofs.Passes.{with_more}
 use Rattle.net_guests.specs.Visits.{IsWith, Visit}

@@ -27,7 +27,7 @@ use Rattle.guest_laws.specs.Works.{entries, noted_net}
 use Rattle.net_locks.specs.declared.clock.Standing.{Standing}
 use Rattle.net_locks.specs.Standings.{AllStand, StandsAt, awaited_moments, awaited_of, due_moments}
 use Rattle.net_locks.proofs.Found.{filter_map_in, in_filter_map, in_map, map_in}
-use Rattle.net_base.proofs.Shared.{min_swap, least_min, within_last, within_each}
+use Rattle.net_base.proofs.Shared.{least_min, within_last, within_each}
 
 -- The least.
 

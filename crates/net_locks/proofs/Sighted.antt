@@ -10,8 +10,7 @@ use Rattle.net_base.specs.declared.noted.Noted.{Noted}
 use Rattle.net_base.specs.declared.noted.Number.TheVariants as number
 use Rattle.net_base.specs.declared.world.Script.{Script}
 use Rattle.net_base.specs.declared.world.World.{World}
-use Rattle.net_base.specs.ActorStep.{when}
-use Rattle.net_base.specs.Actors.{Actor, actor_step, has_actor, table_step}
+use Rattle.net_base.specs.Actors.{Actor, actor_step}
 use Rattle.net_base.specs.Callers.{IsScript, IsCourier, IsClock, IsNobody, caller_of, clock_number, first_courier, other_caller}
 use Rattle.net_base.specs.Calm.{can_go_on_by, is_ready, owes}
 use Rattle.net_base.specs.Duties.{Duty}

@@ -1,5 +1,5 @@
 -- What a turn leaves of its caller.
-use Rattle.std.proofs.Common.{◌≡◌, ℕ, ◌+◌, ◌<◌, ◌≤◌, Bool, true, false, List, [], ◌∷◌, ◌++◌, length, drop, Option, Some, None, is_some, if◌then◌else◌, inl, inr, refl, ap, sym, subst, ◌∙◌, arith}
+use Rattle.std.proofs.Common.{◌≡◌, ℕ, ◌+◌, ◌<◌, ◌≤◌, Bool, true, false, List, [], ◌∷◌, ◌++◌, length, drop, Option, Some, None, is_some, if◌then◌else◌, refl, ap, sym, subst, ◌∙◌, arith}
 use Rattle.std.specs.Prelude.{Result, Ok, Err, OnOk, is_err}
 use Rattle.std.proofs.lemmas.Bool.{true≢false}
 use Rattle.net_base.specs.declared.actor.ActorName.{ActorName}
@@ -8,7 +8,6 @@ use Rattle.net_base.specs.declared.actor.Call.{Call}
 use Rattle.net_base.specs.declared.event.Event.{Event}
 use Rattle.net_base.specs.declared.history.Outcome.{Outcome}
 use Rattle.net_base.specs.declared.history.Work.{Work}
-use Rattle.net_base.specs.declared.noted.Noted.{Noted}
 use Rattle.net_base.specs.declared.noted.Number.TheVariants as number
 use Rattle.net_base.specs.declared.reply.Reply.{Reply}
 use Rattle.net_base.specs.declared.reply.Reply.TheVariants as reply
@@ -21,11 +20,11 @@ use Rattle.net_base.specs.Duties as spec
 use Rattle.net_base.specs.Duties.{Duty}
 use Rattle.net_base.specs.Legal.{IsAsked, IsInTimeBy, IsMove}
 use Rattle.net_base.specs.Next.{next_by}
-use Rattle.net_base.specs.Stamped.{In, same_actor}
+use Rattle.net_base.specs.Stamped.{same_actor}
 use Rattle.net_base.specs.Tasks.{Tasks}
 use Rattle.journal.specs.declared.law.Roster.{Roster}
 use Rattle.journal.specs.declared.tokens.Sight.{Sight}
-use Rattle.journal.specs.Rule.{Held, has_caller, is_caller}
+use Rattle.journal.specs.Rule.{has_caller}
 use Rattle.locked.specs.Acts.{IsNotReady, made, without_copy, state_at}
 use Rattle.ip_route.specs.Kept.{HostWays}
 use Rattle.duties.specs.Owing.{Owes, if_any, most_following, most_owed}

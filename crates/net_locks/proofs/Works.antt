@@ -1,15 +1,14 @@
 -- What works led an actor's machine to is what they lead the actor of the definitions to.
-use Rattle.std.proofs.Common.{◌≡◌, ℕ, suc, List, [], ◌∷◌, length, map, Option, Some, None, is_some, refl, ap, sym, ◌∙◌}
+use Rattle.std.proofs.Common.{◌≡◌, ℕ, suc, List, [], ◌∷◌, length, map, Some, is_some, refl, ap, sym, ◌∙◌}
 use Rattle.std.specs.Option.{option_map}
 use Rattle.net_base.specs.declared.actor.ActorName.{ActorName}
 use Rattle.net_base.specs.declared.history.Outcome.{Outcome}
 use Rattle.net_base.specs.declared.history.Work.{Work}
 use Rattle.net_base.specs.declared.noted.Noted.{Noted}
 use Rattle.net_base.specs.declared.world.World.{World}
-use Rattle.net_base.specs.ActorStep.{Step}
 use Rattle.net_base.specs.Actors.{Actor, actor_step, opening_actor}
 use Rattle.net_base.specs.Net.{Play, played, stepped_to}
-use Rattle.locked.specs.Acts.{left_by, state}
+use Rattle.locked.specs.Acts.{state}
 use Rattle.guest_laws.specs.Named.{Named, named, named_step, opening, answer_in}
 use Rattle.guest_laws.proofs.Nets.{named_left}
 use Rattle.guest_laws.proofs.Views.{some_under}

@@ -1,5 +1,5 @@
 -- The events that scripts record are plain: the words of their steps are those of a world's file, and a dial opens lines of cs.
-use Rattle.std.proofs.Common.{◌≡◌, ◌≢◌, ℕ, zero, suc, ◌<◌, ◌==◌, ◌&&◌, ◌||◌, ◌+◌, Bool, true, not, List, [], ◌∷◌, ◌++◌, map, take, inl, inr, refl, sym, subst, append_assoc, arith}
+use Rattle.std.proofs.Common.{◌≡◌, ◌≢◌, ℕ, zero, suc, ◌==◌, ◌&&◌, ◌||◌, ◌+◌, Bool, true, not, List, [], ◌∷◌, ◌++◌, map, take, inl, inr, refl, sym, subst, append_assoc, arith}
 use Rattle.std.specs.Prelude.{codes, decimal, nat_lt, length}
 use Rattle.std.specs.Int.Digits.{digits_of}
 use Rattle.std.specs.List.{list_all, position_or_len}

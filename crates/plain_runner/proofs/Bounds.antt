@@ -10,7 +10,7 @@ use Rattle.net_base.specs.declared.history.Entry.{Entry}
 use Rattle.net_base.specs.declared.world.World.{World}
 use Rattle.net_base.specs.ActorStep.{Step}
 use Rattle.net_base.specs.Actors.{Actor}
-use Rattle.net_base.specs.Calm.{least, most_entries}
+use Rattle.net_base.specs.Calm.{most_entries}
 use Rattle.net_base.specs.Callers.{caller_count}
 use Rattle.net_base.specs.Legal.{IsLegal, IsTimed, IsInTime}
 use Rattle.net_base.specs.Net.{Net, after, moment, moment_after, net_after, next_net, opening_net, step_of, works, works_from}

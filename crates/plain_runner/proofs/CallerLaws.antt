@@ -1,7 +1,6 @@
 -- A caller before, while and after its turn is recorded.
 use Rattle.std.proofs.Common.{◌≡◌, ℕ, ◌+◌, ◌-◌, true, false, List, [], ◌∷◌, ◌++◌, drop, take, length, Option, Some, None, IsSome, is_some, slice_get, refl, sym, ap, subst, ◌∙◌}
 use Rattle.std.proofs.lemmas.Bool.{true≢false, false≢true}
-use Rattle.std.proofs.lemmas.Option.{none-some, same_Some}
 use Rattle.net_base.specs.declared.history.Entry.{Entry}
 use Rattle.net_base.specs.declared.history.With.TheVariants as given
 use Rattle.net_base.specs.declared.history.Work.{Work}
@@ -9,24 +8,21 @@ use Rattle.net_base.specs.declared.reply.Reply.{Reply}
 use Rattle.net_base.specs.declared.world.Script.{Script}
 use Rattle.net_base.specs.declared.world.World.{World}
 use Rattle.net_base.specs.Actors.{actor_step}
-use Rattle.net_base.specs.Callers.{Caller as Called, IsScript, IsCourier, IsClock, IsNobody, caller_of}
+use Rattle.net_base.specs.Callers.{Caller as Called, caller_of}
 use Rattle.net_base.specs.Calm.{is_ready}
 use Rattle.net_base.specs.Duties.{Duty}
-use Rattle.net_base.specs.Legal.{IsAsked, IsNext, asked_by, cites_of}
-use Rattle.net_base.specs.Net.{after, owed, with_of}
+use Rattle.net_base.specs.Legal.{IsNext, asked_by}
+use Rattle.net_base.specs.Net.{after, owed}
 use Rattle.net_base.specs.Next.{finished_by, next, next_of, own_replies, zone_of}
 use Rattle.net_base.specs.Versions.{Tuples}
-use Rattle.net_base.specs.Scripts.{at_first, position}
 use Rattle.net_base.specs.Steps.{Ask}
 use Rattle.script_player.specs.Players.{IsAt, Playing, next_after}
 use Rattle.script_task.specs.Fitting.{fits}
 use Rattle.plain_runner.specs.declared.caller.Caller.{Caller}
-use Rattle.plain_runner.specs.declared.caller.Role.{Role}
-use Rattle.plain_runner.specs.declared.caller.Role.TheVariants as role
 use Rattle.plain_runner.specs.declared.turn.Turn.{Turn}
-use Rattle.plain_runner.specs.Callers.{GoesOn, HasRole, IsCaller, IsEntryOf, IsScriptAt}
-use Rattle.plain_runner.specs.Turns.{AreOwn, IsOwn, IsTurn, OfDuty, ask_of, asks_of, may_turn, may_turn_by}
-use Rattle.plain_runner.proofs.Replies.{before_last, duty_replies, next_replies}
+use Rattle.plain_runner.specs.Callers.{IsCaller, IsEntryOf, IsScriptAt}
+use Rattle.plain_runner.specs.Turns.{AreOwn, IsOwn, asks_of, may_turn, may_turn_by}
+use Rattle.plain_runner.proofs.Replies.{before_last, next_replies}
 use Rattle.net_base.proofs.Shared.{script_is}
 use Rattle.net_base.proofs.Members.{first_of, none_first}
 

@@ -1,23 +1,19 @@
 -- How a run stands after a legal history: done, stopped, limited, or none of these.
-use Rattle.std.proofs.Common.{◌≡◌, ℕ, ◌<◌, ◌≤◌, ◌==◌, ◌&&◌, ◌||◌, Bool, true, false, not, List, [], ◌∷◌, ◌++◌, length, take, filter_map, codes, nat_lt, ◌⊎◌, inl, inr, refl, sym, ap, subst, ◌∙◌, arith, if◌then◌else◌}
-use Rattle.std.proofs.Math.Nat.{min-le_right}
+use Rattle.std.proofs.Common.{◌≡◌, ℕ, ◌<◌, ◌≤◌, ◌==◌, ◌&&◌, ◌||◌, Bool, true, false, not, List, [], ◌∷◌, ◌++◌, length, take, codes, nat_lt, ◌⊎◌, inl, inr, refl, sym, ap, subst, ◌∙◌, arith, if◌then◌else◌}
 use Rattle.std.proofs.Math.Seq.{take-append_seam}
-use Rattle.std.proofs.lemmas.Bool.{true≢false, false≢true, eq-eqb, eqb-true, eqb-false, lt-ltb, ne_eqb, and_from, or_parts, and_left, and_right}
-use Rattle.net_base.specs.declared.actor.ActorName.{ActorName}
-use Rattle.net_base.specs.declared.event.Event.{Event}
+use Rattle.std.proofs.lemmas.Bool.{false≢true, eq-eqb, eqb-true, eqb-false, lt-ltb, ne_eqb, and_from, or_parts, and_left, and_right}
 use Rattle.net_base.specs.declared.event.Event.TheVariants as event
 use Rattle.net_base.specs.declared.history.Entry.{Entry}
 use Rattle.net_base.specs.declared.world.World.{World}
 use Rattle.net_base.specs.Callers.{Caller, caller_of, caller_count, clock_number}
-use Rattle.net_base.specs.Calm.{at_limit, awaited_moment, calm, callers, can_go_on, could_record, done, least, limited, most_entries, movable, owes, stopped, unfinished}
+use Rattle.net_base.specs.Calm.{at_limit, calm, can_go_on, could_record, done, limited, most_entries, movable, owes, stopped, unfinished}
 use Rattle.net_base.specs.Legal.{IsInTime, IsLegal, IsTimed, MayFollow}
 use Rattle.net_base.specs.Net.{Net, after, moment, moment_after, step_of}
-use Rattle.net_base.specs.Duties.{conversations, due_of}
-use Rattle.net_base.specs.Next.{by, next_of}
+use Rattle.net_base.specs.Next.{by}
 use Rattle.net_base.specs.Summary.{end_word}
 use Rattle.history_laws.proofs.Shared.{after_push, at_push, by_entries, timed_take}
 use Rattle.calm_laws.proofs.Shared.{Kind, OfScript, OfCourier, OfClock, clock_is, clock_waits, courier_is, is_calm, kind_of}
-use Rattle.net_base.proofs.Shared.{none_range, not_below, some_range, script_is, within_last}
+use Rattle.net_base.proofs.Shared.{none_range, not_below, some_range, script_is}
 use Rattle.plain_runner.proofs.Recorded.{step_moment}
 use Rattle.plain_runner.proofs.Bounds.{move_within}
 

@@ -25,7 +25,7 @@ use Rattle.plain_runner.specs.Turns.{asks_of}
 use Rattle.plain_runner.specs.declared.caller.Caller.{Caller}
 use Rattle.plain_runner.specs.declared.runner.Runner.{Runner}
 use Rattle.plain_runner.proofs.Could.{past_is}
-use Rattle.net_base.proofs.Shared.{next_one, past_all, min_swap, least_min}
+use Rattle.net_base.proofs.Shared.{next_one, past_all, least_min}
 
 -- The least.
 

@@ -1,14 +1,12 @@
 -- The sides of all pairs, as they change.
-use Rattle.std.proofs.Common.{◌≡◌, ℕ, ◌==◌, Bool, true, false, refl, sym, ap, subst, ◌∙◌}
-use Rattle.std.proofs.lemmas.Bool.{and_parts, and_from, eqb-true, eq-eqb}
-use Rattle.net_base.specs.declared.address.Addr.{Addr}
+use Rattle.std.proofs.Common.{◌≡◌, Bool, true, false, refl, sym, ap, subst}
 use Rattle.net_base.specs.declared.address.Pair.{Pair}
 use Rattle.prefix_law.proofs.Pairs.{Side}
-use Rattle.net_base.specs.Same.{same_addr, same_pair}
+use Rattle.net_base.specs.Same.{same_pair}
 use Rattle.net_base.specs.Mirror.{mirror}
 use Rattle.prefix_law.proofs.Trace.{put_at}
 use Rattle.prefix_law.proofs.Deeds.{both_ways, Holds, Stepped, other_holds}
-use Rattle.net_base.proofs.Shared.{same_addr_is, same_addr_itself, same_pair_is, same_pair_itself}
+use Rattle.net_base.proofs.Shared.{same_pair_is, same_pair_itself}
 
 -- Tests of pairs.
 

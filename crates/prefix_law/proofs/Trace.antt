@@ -18,7 +18,7 @@ use Rattle.net_base.specs.declared.history.Work.{Work}
 use Rattle.net_base.specs.declared.history.Outcome.{Outcome}
 use Rattle.net_base.specs.declared.history.Entry.{Entry}
 use Rattle.net_base.specs.declared.timer.Timers.TheVariants.{Fixed}
-use Rattle.net_base.specs.IlEnd.{End, fresh_end}
+use Rattle.net_base.specs.IlEnd.{fresh_end}
 use Rattle.prefix_law.proofs.Pairs.{Side, out_with}
 use Rattle.net_base.specs.Same.{same_pair}
 use Rattle.net_base.specs.declared.world.World.{World}

@@ -1,5 +1,5 @@
 -- The slots of a directory after one of them changed.
-use Rattle.std.proofs.Common.{◌≡◌, ℕ, zero, suc, ◌<◌, ◌≤◌, List, [], ◌∷◌, length, Some, slice_get, slice_set, inl, inr, refl, sym, ap, subst, ◌∙◌, arith, length-set}
+use Rattle.std.proofs.Common.{◌≡◌, ℕ, ◌≤◌, List, Some, slice_get, slice_set, inl, inr, refl, sym, subst, ◌∙◌, arith, length-set}
 use Rattle.std.proofs.lemmas.Bool.Decides.{eqb_tells}
 use Rattle.std.proofs.lemmas.Option.{same_Some, slice_get_within}
 use Rattle.net_base.specs.declared.actor.Call.{Call}

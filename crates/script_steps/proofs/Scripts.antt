@@ -1,13 +1,12 @@
 -- What a run keeps of a script.
 use Rattle.std.proofs.Common.{◌≡◌, ℕ, ◌==◌, Bool, true, false, not, List, length, Option, None, Some, nat_lt, slice_get, Bor, refl, sym, ap, subst, ◌∙◌, arith}
-use Rattle.std.specs.Option.{option_map_or}
 use Rattle.std.proofs.lemmas.Bool.Decides.{nat_tests}
 use Rattle.std.proofs.lemmas.Option.{same_Some}
 use Rattle.net_base.specs.declared.history.Entry.{Entry}
 use Rattle.net_base.specs.declared.reply.Reply.{Reply}
 use Rattle.net_base.specs.declared.world.Script.{Script}
 use Rattle.net_base.specs.declared.world.World.{World}
-use Rattle.net_base.specs.Callers.{IsScript, IsCourier, IsClock, caller_of, other_caller}
+use Rattle.net_base.specs.Callers.{IsScript, IsCourier, IsClock}
 use Rattle.net_base.specs.Calm.{owes}
 use Rattle.net_base.specs.Duties.{Duty}
 use Rattle.net_base.specs.Net.{after}

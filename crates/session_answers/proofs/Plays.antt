@@ -1,5 +1,5 @@
 -- The play of a session's step: one event, or two where a grant is accepted, after which the conversation is awaited.
-use Rattle.std.proofs.Common.{◌≡◌, ℕ, ◌&&◌, Bool, true, false, List, [], ◌∷◌, Option, Some, None, Result, Ok, Err, cond, bytes_eq, option_copied, MatchOption, Bor, refl, sym, ◌∙◌, ap}
+use Rattle.std.proofs.Common.{◌≡◌, ℕ, ◌&&◌, Bool, true, false, List, [], ◌∷◌, Option, Some, None, Result, Ok, Err, cond, option_copied, MatchOption, Bor, refl, sym, ◌∙◌, ap}
 use Rattle.net_base.specs.declared.actor.ActorName.{ActorName}
 use Rattle.net_base.specs.declared.event.Event.{Event}
 use Rattle.net_base.specs.declared.event.Event.TheVariants as event
@@ -15,7 +15,7 @@ use Rattle.net_base.specs.declared.world.Step.{Step}
 use Rattle.net_base.specs.declared.world.Step.TheVariants as step
 use Rattle.net_base.specs.ControlWords as control
 use Rattle.net_base.specs.Paths.{reads, walk, writes}
-use Rattle.net_base.specs.Steps.{uses, misuses, ends_with, read_event, opens, Ask, Asks, Bound, Ends, Fid, Names, Play, bind, controls, conversation_of, fid_among, fid_of, if_accepted, is_accepted, is_bound, on_fid, open_event, openable, opened_fid, play_of, puts, unbind, without}
+use Rattle.net_base.specs.Steps.{uses, misuses, ends_with, read_event, opens, Ask, Asks, Ends, Fid, Names, Play, bind, controls, conversation_of, fid_of, if_accepted, is_accepted, is_bound, on_fid, open_event, openable, opened_fid, play_of, puts, unbind}
 use Rattle.net_base.specs.Server.{Doing, Waits, doing_of, outcome}
 use Rattle.net_base.specs.Session.{State}
 use Rattle.net_base.specs.declared.request.Request.{Request}
@@ -26,7 +26,7 @@ use Rattle.script_task.specs.Planning.{ask_of}
 use Rattle.net_base.specs.Requests.{bound_after, head, planned, request_play, settled}
 use Rattle.script_task.specs.Holdings.{Holdings}
 use Rattle.session_answers.specs.Served.{IsServed, Plays, asked, is_grant}
-use Rattle.script_task.proofs.Settling.{without_free, unbind_free}
+use Rattle.script_task.proofs.Settling.{unbind_free}
 
 -- what a play does by its first event
 data Ahead (after : Reply → Names) : Play → Type 0 where

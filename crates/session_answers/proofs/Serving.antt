@@ -2,7 +2,6 @@
 use Rattle.std.proofs.Common.{◌≡◌, ℕ, Bool, true, false, List, Option, Some, None, option_map, cond, ◌∙◌, ap, subst}
 use Rattle.std.specs.Option.{option_and_then}
 use Rattle.net_base.specs.declared.names.Mode.{Mode}
-use Rattle.net_base.specs.declared.reply.Reply.{Reply}
 use Rattle.net_base.specs.declared.world.Step.{Step}
 use Rattle.net_base.specs.declared.world.Step.TheVariants as step
 use Rattle.net_base.specs.Steps.{Names}
@@ -11,12 +10,10 @@ use Rattle.net_base.specs.declared.ninep.Tmsg.TheVariants as t
 use Rattle.net_base.specs.SessionAnswers.{Found}
 use Rattle.net_base.specs.SessionFiles.{access, is_cs, is_plain}
 use Rattle.net_base.specs.SessionScript.{close_step, cs_step, fid_name, gives_nothing, is_query, open_step, opens, read_count, read_step, reads, room, step_of, write_step}
-use Rattle.net_base.specs.Server.{Doing, Gives, outcome}
-use Rattle.net_base.specs.Session.{State, told}
+use Rattle.net_base.specs.Session.{State}
 use Rattle.net_base.specs.declared.ninep.Target.{Target}
 use Rattle.net_base.specs.SessionTable.{Table, used}
-use Rattle.session_answers.specs.Served.{IsServed, Plays, served}
-use Rattle.session_answers.specs.Told.{by_last, serves_by}
+use Rattle.session_answers.specs.Served.{IsServed}
 
 -- ---- the steps of sessions are of a few kinds
 

@@ -1,7 +1,7 @@
 -- What a walk passes, name by name.
 use Rattle.std.proofs.Common.{◌≡◌, ℕ, ◌+◌, ◌<◌, ◌≤◌, List, [], ◌∷◌, ◌++◌, drop, length, map, get_or, Option, Some, None, sym, ap, ◌∙◌, append_assoc, append-nil}
 use Rattle.std.specs.Option.{option_map_or}
-use Rattle.std.proofs.lemmas.List.{at_drop_more, drop_all}
+use Rattle.std.proofs.lemmas.List.{drop_all}
 use Rattle.net_base.specs.declared.names.Node.{Node}
 use Rattle.net_base.specs.declared.ninep.Qid.{Qid}
 use Rattle.net_base.specs.SessionFiles.{qid_of, step_to, walked}

@@ -9,7 +9,7 @@ use Rattle.indexmap.specs.IndexSet.{insert_key}
 use Rattle.net_base.specs.declared.world.HostSpec.{HostSpec}
 use Rattle.net_base.specs.declared.world.Iface.{Iface}
 use Rattle.net_base.specs.declared.world.RouteLine.{RouteLine}
-use Rattle.world_text.specs.WorldLines.{is_network, knows_network, leads_to, with_iface, with_route, with_start}
+use Rattle.world_text.specs.WorldLines.{is_network, knows_network, leads_to, with_iface, with_route}
 use Rattle.world_file.specs.Indexed.{AreNetworks, is_key}
 
 or_swap : (a b c : Bool) → ((a || b) || c) ≡ ((a || c) || b)

@@ -1,5 +1,5 @@
 -- Changes at a place of a list.
-use Rattle.std.proofs.Common.{◌≡◌, ℕ, ◌+◌, ◌<◌, ◌≤◌, suc, zero, Bool, true, false, not, ◌&&◌, cond, List, [], ◌∷◌, length, map, get_or, refl, sym, ap, ◌∙◌, arith, Option, Some, None}
+use Rattle.std.proofs.Common.{◌≡◌, ℕ, ◌+◌, ◌<◌, ◌≤◌, suc, zero, Bool, true, false, not, cond, List, [], ◌∷◌, length, map, get_or, refl, sym, ap, ◌∙◌, arith, Option, Some, None}
 use Rattle.std.specs.Prelude.{bytes_eq, nat_lt, position, slice_set, if◌then◌else◌}
 use Rattle.std.specs.List.{last_or, list_any, position_or_len}
 use Rattle.std.proofs.lemmas.Bool.{and_parts, or_parts}
@@ -7,9 +7,8 @@ use Rattle.std.proofs.lemmas.Bool.Decides.{nat_tests}
 use Rattle.std.proofs.lemmas.List.Sums.{prefix_len-le-length}
 use Rattle.std.proofs.lemmas.Option.{none-some, same_Some}
 use Rattle.net_base.specs.declared.world.MediumSpec.{MediumSpec}
-use Rattle.net_base.specs.World.{all_apart, overlap}
-use Rattle.net_base.specs.declared.world.FateRange.{FateRange}
-use Rattle.world_text.specs.WorldLines.{at_last, is_fated, is_medium_named, on_medium}
+use Rattle.net_base.specs.World.{all_apart}
+use Rattle.world_text.specs.WorldLines.{at_last, is_medium_named, on_medium}
 use Rattle.world_text.proofs.Shared.{false-of-not}
 use Rattle.net_base.proofs.Shared.{equal_texts}
 

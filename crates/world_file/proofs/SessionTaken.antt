@@ -6,7 +6,6 @@ use Rattle.std.proofs.lemmas.List.{nil_from_length}
 use Rattle.sessions.specs.declared.world.Session.{Session}
 use Rattle.sessions.specs.declared.world.SessionWorld.{SessionWorld}
 use Rattle.net_base.specs.SessionScript.{IsBadStream}
-use Rattle.world_text.specs.declared.line.LineCause.{LineCause}
 use Rattle.world_text.specs.declared.line.LineCause.TheVariants as cause
 use Rattle.world_text.specs.LineCauses.{number_of}
 use Rattle.world_text.specs.LineReading.{read_line}

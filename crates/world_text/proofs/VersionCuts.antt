@@ -1,5 +1,5 @@
 -- Lines without a bad one are bundles, and lines that begin versions between them; and back.
-use Rattle.std.proofs.Common.{◌≡◌, ℕ, ◌+◌, ◌-◌, ◌<◌, ◌≤◌, suc, Bool, true, false, not, ◌&&◌, ◌||◌, cond, List, [], ◌∷◌, ◌++◌, length, take, drop, map, refl, sym, ap, subst, ◌∙◌, arith, Option, Some, None, append-nil, append_assoc, length-append}
+use Rattle.std.proofs.Common.{◌≡◌, ℕ, ◌+◌, ◌-◌, ◌<◌, suc, Bool, true, false, not, ◌&&◌, ◌||◌, cond, List, [], ◌∷◌, ◌++◌, length, take, drop, map, refl, sym, ap, subst, ◌∙◌, arith, Option, Some, None, append-nil, append_assoc, length-append}
 use Rattle.std.specs.Prelude.{⊤, bytes_eq, codes, filter_map, flat_map, nat_le, nat_lt, unwrap_or}
 use Rattle.std.specs.List.{before_first, cons_option, last_or, list_any, prefix_len, suffix_len}
 use Rattle.std.proofs.Math.Seq.{drop-append-le, drop-length}

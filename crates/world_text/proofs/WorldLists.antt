@@ -6,7 +6,7 @@ use Rattle.std.proofs.lemmas.Bool.{and_parts, eqb-true, false≢true, or_parts}
 use Rattle.std.proofs.lemmas.Bool.Decides.{nat_tests}
 use Rattle.std.proofs.lemmas.List.Folds.{list_any-append, list_all-append}
 use Rattle.std.proofs.lemmas.Slice.Eq.{bytes_eq-Decides}
-use Rattle.net_base.specs.World.{all_apart, is_letter, is_name, is_name_byte, is_within}
+use Rattle.net_base.specs.World.{all_apart}
 use Rattle.world_text.specs.WorldLines.{at_last}
 use Rattle.world_text.specs.WorldSpelling.{EachBehind}
 use Rattle.net_base.proofs.Shared.{IsWithout, without_one}

@@ -1,11 +1,9 @@
 -- A path by its first two parts, and the names behind them.
-use Rattle.std.proofs.Common.{◌≡◌, ℕ, ◌+◌, ◌<◌, Bool, true, false, ◌&&◌, List, [], ◌∷◌, length, refl, ap, ◌∙◌, arith}
-use Rattle.std.specs.Prelude.{nat_le, bytes_eq, codes}
+use Rattle.std.proofs.Common.{◌≡◌, ℕ, ◌+◌, ◌<◌, Bool, false, ◌&&◌, List, length, refl, arith}
+use Rattle.std.specs.Prelude.{nat_le}
 use Rattle.std.specs.List.{list_all}
 use Rattle.std.proofs.lemmas.Bool.Decides.{nat_tests}
-use Rattle.net_base.specs.Addresses.{parts_at}
-use Rattle.net_base.specs.Remotes.{are_net, is_remote_name, is_remote_path}
-use Rattle.net_base.proofs.Shared.{and_none}
+use Rattle.net_base.specs.Remotes.{is_remote_name}
 
 -- so many names and these are few, and these have the length of names
 abbrev pub are_few : ℕ → List (List ℕ) → Bool
