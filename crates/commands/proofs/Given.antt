@@ -12,6 +12,7 @@ use Rattle.commands.specs.Built.{asking, cs_found, cs_over, dns_found, dns_over,
 use Rattle.checked_input.specs.Input.{bad_world}
 use Rattle.command_line.specs.Asking.{IsGiven}
 use Rattle.command_line.proofs.Shared.{answer_within, within_limit}
+use Rattle.world_file.proofs.SessionWorlds.{ok-err}
 
 -- what was found, unless a line is bad
 given_unless : (asked : Command) (input : List ℕ) (answer found : Answer) (bad : Option (ℕ × ℕ)) → (answer ≡ found → IsFound asked input answer)
@@ -64,16 +65,13 @@ gives_bad_run workers input line cause answer fits is bad =
 abbrev pub SayOne : Type 0
 SayOne = (text : List ℕ) (r s : Result SessionWorld (ℕ × ℕ)) → Says text r → Says text s → r ≡ s
 
-ok_or_bad : (s : SessionWorld) (bad : ℕ × ℕ) (r : Result SessionWorld (ℕ × ℕ)) → r ≡ Ok s → r ≡ Err bad → ⊥
-ok_or_bad s bad r is not = cc
-
 same_bad : (bad other : ℕ × ℕ) (r : Result SessionWorld (ℕ × ℕ)) → r ≡ Err bad → r ≡ Err other → other ≡ bad
 same_bad bad other r is also = cc
 
 told_one : SayOne → (input : List ℕ) (found other : Option (ℕ × ℕ)) → IsBadTold input found → IsBadTold input other → other ≡ found
 told_one one input None None told again = refl
-told_one one input None (Some bad) told again = absurd (ok_or_bad told.0 bad (Ok told.0) refl (one input (Ok told.0) (Err bad) told.1 again))
-told_one one input (Some bad) None told again = absurd (ok_or_bad again.0 bad (Ok again.0) refl (one input (Ok again.0) (Err bad) again.1 told))
+told_one one input None (Some bad) told again = absurd (ok-err told.0 bad (Ok told.0) refl (one input (Ok told.0) (Err bad) told.1 again))
+told_one one input (Some bad) None told again = absurd (ok-err again.0 bad (Ok again.0) refl (one input (Ok again.0) (Err bad) again.1 told))
 told_one one input (Some bad) (Some other) told again = ap (λ (b : ℕ × ℕ). Some b) (same_bad bad other (Err bad) refl (one input (Err bad) (Err other) told again))
 
 -- the text of the world that an input is translated to

@@ -11,10 +11,7 @@ use Rattle.run_record.specs.declared.end.RunEnd.TheVariants as ended
 use Rattle.transcript.specs.RunStatus.{word_of}
 use Rattle.commands.specs.Built.{IsStatus}
 use Rattle.commands.specs.Runs.{status_of}
-
-not_both : (b : Bool) → b ≡ true → not b ≡ true → ⊥
-not_both true is not_so = true≢false (sym not_so)
-not_both false is not_so = true≢false (sym is)
+use Rattle.journal.proofs.Steps.{not_both}
 
 module _ (w : World) (net : Net) where
   done_parts : done w net ≡ true → (not (limited w net) ≡ true) × (not (unfinished w net) ≡ true)

@@ -11,12 +11,6 @@ use Rattle.ndb_tuple.specs.Prefixes.{covers}
 use Rattle.cs_resolver.specs.declared.line.Target.{Target}
 use Rattle.cs_resolver.specs.Targets.{target_text, target_texts, covered_first}
 
-pub cond_true : {X : Type 0} (b : Bool) (x y : X) → b ≡ true → cond b x y ≡ x
-cond_true b x y e = ap (λ v. cond v x y) e
-
-pub cond_false : {X : Type 0} (b : Bool) (x y : X) → b ≡ false → cond b x y ≡ y
-cond_false b x y e = ap (λ v. cond v x y) e
-
 -- the prefixes of a system's own networks sort as the networks do
 pub covered_first_is : (prefixes : List Prefix) (me : List ℕ) (db : List (List (List NdbPair))) (ips : List ℕ) → ((ip : ℕ) → covers prefixes ip ≡ is_on (own_networks me db) ip) → covered_first prefixes ips ≡ own_first me db ips
 covered_first_is prefixes me db ips same =

@@ -24,8 +24,9 @@ use Rattle.ndb_index.proofs.Shared.{spots_count}
 use Rattle.cs_resolver.specs.Gathering.{Gathers, AreAmong, TuplesRead, SpotsRead, words_seen}
 use Rattle.cs_resolver.specs.Probes.{numbers_at, word_found}
 use Rattle.cs_resolver.proofs.AtSpots.{at_spot_is, spots_numbers}
-use Rattle.cs_resolver.proofs.Once.{among, others, among_others, once_push, turned}
+use Rattle.cs_resolver.proofs.Once.{among, others, among_others, once_push}
 use Rattle.net_base.proofs.Shared.{number_itself}
+use Rattle.ndb_tuple.proofs.Firsts.{turned}
 
 abbrev pub Db : Type 0
 Db = List (List (List NdbPair))

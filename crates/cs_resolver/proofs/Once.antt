@@ -6,7 +6,8 @@ use Rattle.std.proofs.lemmas.List.{take_more}
 use Rattle.std.proofs.lemmas.List.Elements.{filter-append}
 use Rattle.std.proofs.lemmas.Bool.Decides.{nat_tests}
 use Rattle.net_base.specs.Cs.{once_each}
-use Rattle.cs_resolver.proofs.Answering.{cond_true, cond_false}
+use Rattle.net_base.proofs.Ranges.{cond_true, cond_false}
+use Rattle.ndb_tuple.proofs.Firsts.{turned}
 
 -- the numbers that are not this one
 abbrev pub others : ℕ → List ℕ → List ℕ
@@ -35,10 +36,6 @@ others_push_apart : (x n : ℕ) (ns : List ℕ) → (n == x) ≡ false → other
 others_push_apart x n ns apart =
     filter-append (λ m. not (m == x)) ns (n ∷ [])
     ∙ ap (λ holds. others x ns ++ cond (not holds) (n ∷ []) []) apart
-
-pub turned : (x n : ℕ) (b : Bool) → (x == n) ≡ b → (n == x) ≡ b
-turned x n true e = grind (arith, nat_tests)
-turned x n false e = grind (arith, nat_tests)
 
 -- one more number
 pub once_push : (ns : List ℕ) (n : ℕ) → once_each (ns ++ n ∷ []) ≡ cond (among n (once_each ns)) (once_each ns) (once_each ns ++ n ∷ [])

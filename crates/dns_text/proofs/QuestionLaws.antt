@@ -20,7 +20,7 @@ pub record IsAtFront (message : List ℕ) (labels : List (List ℕ)) (end : ℕ)
 no_pointer : (place target : ℕ) → place ≡ 12 → PointsBack place target → ⊥
 no_pointer place target is_twelve back = omega (arith, is_twelve, back.behind_header, back.back)
 
-stands : (place : ℕ) (message front : List ℕ) → StandAt place front message → drop place message ≡ front ++ drop (length front) (drop place message)
+pub stands : (place : ℕ) (message front : List ℕ) → StandAt place front message → drop place message ≡ front ++ drop (length front) (drop place message)
 stands place message front stand =
     sym (take-append-drop (length front) (drop place message)) ∙ ap (λ (xs : List ℕ). xs ++ drop (length front) (drop place message)) stand
 

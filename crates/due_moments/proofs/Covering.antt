@@ -8,7 +8,7 @@ use Rattle.net_base.specs.Stamped.{In, same_actor, same_proto}
 use Rattle.due_moments.specs.Marks.{Covers, Marks, is_among, is_conversation}
 use Rattle.net_base.proofs.Shared.{number_itself, same_proto_itself}
 
-in_either : {A : Type 0} (xs ys : List A) (x : A) → In x (xs ++ ys) → In x xs ⊎ In x ys
+pub in_either : {A : Type 0} (xs ys : List A) (x : A) → In x (xs ++ ys) → In x xs ⊎ In x ys
 in_either [] ys x there = inr there
 in_either (y ∷ xs) ys x (inl is) = inl (inl is)
 in_either (y ∷ xs) ys x (inr there) = elim (in_either xs ys x there) [ inl left ↦ inl (inr left) | inr right ↦ inr right ]

@@ -12,6 +12,7 @@ use Rattle.net_base.specs.Duties.{conversations, slots_of}
 use Rattle.net_base.specs.Stamped.{In, same_actor, same_proto}
 use Rattle.duties.specs.declared.due.Due.{Due}
 use Rattle.due_moments.specs.Places.{AreOwn, place, place_of, put_at, rank}
+use Rattle.due_moments.proofs.Covering.{in_either}
 
 abbrev number : ActorName → ℕ
 number (name.Conv h p n) = place h p n
@@ -21,11 +22,6 @@ number _ = 0
 abbrev Ascends : List ActorName → Type 0
 Ascends [] = Unit {0}
 Ascends (a ∷ as') = ((b : ActorName) → In b as' → number a < number b) × Ascends as'
-
-in_either : {A : Type 0} (xs ys : List A) (x : A) → In x (xs ++ ys) → In x xs ⊎ In x ys
-in_either [] ys x there = inr there
-in_either (y ∷ xs) ys x (inl is) = inl (inl is)
-in_either (y ∷ xs) ys x (inr there) = elim (in_either xs ys x there) [ inl left ↦ inl (inr left) | inr right ↦ inr right ]
 
 ascends_append : (xs ys : List ActorName) → Ascends xs → Ascends ys
     → ((x y : ActorName) → In x xs → In y ys → number x < number y) → Ascends (xs ++ ys)

@@ -18,12 +18,12 @@ use Rattle.net_base.specs.Tasks.{Asking, Tasks, task_next}
 use Rattle.history_laws.specs.Asked.{AsksInOrder}
 use Rattle.history_laws.proofs.Histories.{by_entries, in_pushed}
 
-own_push : (h : List Entry) (c : ℕ) (x : Entry) → own_entries (h ++ x ∷ []) c ≡ own_entries h c ++ own_entries (x ∷ []) c
+pub own_push : (h : List Entry) (c : ℕ) (x : Entry) → own_entries (h ++ x ∷ []) c ≡ own_entries h c ++ own_entries (x ∷ []) c
 own_push h c x =
     ap (λ (xs : List Entry). filter (λ (y : Entry). is_none y.cites) xs) (filter-append (λ (y : Entry). y.caller == c) h (x ∷ []))
     ∙ filter-append (λ (y : Entry). is_none y.cites) (by h c) (by (x ∷ []) c)
 
-one_own : (x : Entry) → x.cites ≡ None → filter (λ (y : Entry). is_none y.cites) (x ∷ []) ≡ x ∷ []
+pub one_own : (x : Entry) → x.cites ≡ None → filter (λ (y : Entry). is_none y.cites) (x ∷ []) ≡ x ∷ []
 one_own x is = rw is refl
 
 module _ (ts : Tasks) (w : World) (c : ℕ) (s : Script) (asks : Asking) (script : caller_of w c ≡ IsScript s) (plays : ts c ≡ Some asks) where

@@ -18,20 +18,13 @@ use Rattle.import_law.specs.ImportLaw.{StandsInOrder}
 use Rattle.import_law.specs.Order.{StandInOrder}
 use Rattle.import_law.specs.Scripted.{scripted}
 use Rattle.import_law.proofs.Plays.{Stood, counted, none_stood, replies, stood_push}
-
-own_push : (h : List Entry) (c : ℕ) (x : Entry) → own_entries (h ++ x ∷ []) c ≡ own_entries h c ++ own_entries (x ∷ []) c
-own_push h c x =
-    ap (λ (xs : List Entry). filter (λ (y : Entry). is_none y.cites) xs) (filter-append (λ (y : Entry). y.caller == c) h (x ∷ []))
-    ∙ filter-append (λ (y : Entry). is_none y.cites) (by h c) (by (x ∷ []) c)
+use Rattle.history_laws.proofs.Asked.{own_push, one_own}
 
 -- what a script records where it owes nothing is its next event
 pub asks_next : (w : World) (past : List Entry) (ds : List Duty) (k : Caller) (c : ℕ) (s : Script) (x : Entry)
     → None ≡ cites_of ds → k ≡ IsScript s → IsAsked ds k (next_of w k past c) x → (standing w past c s).next ≡ Some (asked_by x)
 asks_next w past [] k c s x none is asked = subst (λ (l : Caller). IsAsked [] l (next_of w l past c) x) is asked
 asks_next w past (d ∷ ds) k c s x none is asked = absurd (none-some d.cites none)
-
-one_own : (x : Entry) → x.cites ≡ None → filter (λ (y : Entry). is_none y.cites) (x ∷ []) ≡ x ∷ []
-one_own x is = rw is refl
 
 module _ (w : World) (c : ℕ) (s : Script) (caller_is : caller_of w c ≡ IsScript s) where
   abbrev pub HasStood : List Entry → Type 0

@@ -11,7 +11,7 @@ use Rattle.net_base.specs.Stamped.{In}
 use Rattle.journal.specs.Rule.{Held, gain, same_number}
 use Rattle.journal.specs.Tokens.{Counted}
 use Rattle.journal.proofs.Lists.{in-gained, in-gain}
-use Rattle.journal.proofs.Steps.{in-filter, not_both}
+use Rattle.journal.proofs.Steps.{in-filter, not_both, in-kept}
 use Rattle.net_base.proofs.Shared.{in_front, in_back, in_parts}
 
 -- what stands in the lists before stands in them, gained, after
@@ -51,16 +51,6 @@ counts_gain counts hs n x cs k held room m is =
         let same : es ≡ fs = e ∙ ap (λ (q : Bool). if q then fs ++ (n, x) ∷ [] else fs) b in
         (o.0, get_or-set_other counts x.entry.caller d m 0 (λ q. other (sym q)) ∙ (o.1 ∙ sym (ap length same)), subst (λ (q : List (ℕ × Noted)). length q ≤ 131072) (sym same) o.2)
 
-in-filtered : (p : Held → Bool) (hs : List Held) (h : Held) → In h hs → p h ≡ true → In h (filter p hs)
-in-filtered p [] h i e = absurd i
-in-filtered p (y ∷ hs) h i e = next (in-filtered p hs h) (p y) refl i
-  where
-    next : (In h hs → p h ≡ true → In h (filter p hs)) → (b : Bool) → p y ≡ b → In h (y ∷ hs) → In h (if b then y ∷ filter p hs else filter p hs)
-    next f true b (inl s) = inl s
-    next f true b (inr i) = inr (f i e)
-    next f false b (inl s) = let bad : true ≡ false = sym e ∙ (ap p s ∙ b) in absurd (cc bad)
-    next f false b (inr i) = f i e
-
 -- the counts of a caller that was handed over
 pub counts_kept : (counts : List ℕ) (hs : List Held) (c : ℕ) → c < 37 → Counted counts hs → Counted (set counts c 0) (filter (λ (h : Held). not (same_number h.0 (number.Caller c))) hs)
 counts_kept counts hs c lt k =
@@ -77,7 +67,7 @@ counts_kept counts hs c lt k =
           (λ ne. ⊎_elim
           (λ z. inl (get_or-set_other counts c d 0 0 ne ∙ z))
           (λ z. let no : (d == c) ≡ false = grind (arith, nat_tests, ne) in
-          inr (z.0, in-filtered (λ (h : Held). not (same_number h.0 (number.Caller c))) hs (number.Caller d, z.0) z.1 (ap not no)))
+          inr (z.0, in-kept (λ (h : Held). not (same_number h.0 (number.Caller c))) hs (number.Caller d, z.0) z.1 (ap not no)))
           (k.none d));
     }
 
@@ -95,7 +85,7 @@ counts_given counts zeros hs c m lt len zero_at is k = record {
       (λ e. ⊎_elim
       (λ z. inl (ap (slice_index (set zeros c m)) e ∙ (get_or-set_same zeros c m 0 (omega arith) ∙ (is ∙ (ap (slice_index counts) (sym e) ∙ z)))))
       (λ z. let yes_test : (d == c) ≡ true = grind (arith, nat_tests, e) in
-      inr (z.0, in-filtered (λ (h : Held). same_number h.0 (number.Caller c)) hs (number.Caller d, z.0) z.1 yes_test))
+      inr (z.0, in-kept (λ (h : Held). same_number h.0 (number.Caller c)) hs (number.Caller d, z.0) z.1 yes_test))
       (k.none d))
       (λ ne. inl (get_or-set_other zeros c d m 0 ne ∙ zero_at d));
 }

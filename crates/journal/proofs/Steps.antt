@@ -239,7 +239,7 @@ part_known r log v p k = record {
   clocks = λ es h i. k.clocks es (filter_has_caller p v.held h) i;
 }
 
-in-kept : (p : Held → Bool) (hs : List Held) (h : Held) → In h hs → p h ≡ true → In h (filter p hs)
+pub in-kept : (p : Held → Bool) (hs : List Held) (h : Held) → In h hs → p h ≡ true → In h (filter p hs)
 in-kept p [] h i e = absurd i
 in-kept p (y ∷ hs) h (inl s) e = next (p y) (ap p (sym s) ∙ e)
   where

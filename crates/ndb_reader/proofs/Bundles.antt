@@ -13,26 +13,8 @@ use Rattle.net_base.specs.NdbBundle.{File, local_name, local_file, named_files, 
 use Rattle.ndb_text.specs.NdbSpelling.{ReadsTuples, ReadsFile, ReadsFiles, ReadsBundle, IsFileName}
 use Rattle.ndb_text.proofs.Shared.{some_none, none-drop, EachSpelled, line_is_spelled, tuples_spelled}
 use Rattle.ndb_reader.proofs.Reading.{Next, has-file, has-line, before-more, before-stop, named-more, named-stop}
-
-cause-none : (n : ℕ) (b : Bool) (rest : List ℕ) → cause n b ++ rest ≡ [] → (b ≡ false) × (rest ≡ [])
-cause-none n true rest e = absurd cc
-cause-none n false rest e = (refl, e)
-
-least-none : (causes : List ℕ) → least causes ≡ None → causes ≡ []
-least-none [] e = refl
-least-none (c ∷ causes) e = absurd (some_none e)
-
-told-none : (n : ℕ) (o : Option ℕ) (behind : Option (ℕ × ℕ)) → told n o behind ≡ None → (o ≡ None) × (behind ≡ None)
-told-none n None behind h = (refl, h)
-told-none n (Some c) behind h = absurd (some_none h)
-
-first-good : (before : List (List ℕ)) (line : List ℕ) (lines : List (List ℕ)) → first_bad causes_of before (line ∷ lines) ≡ None → (causes_of (has_tuple before) line ≡ []) × (first_bad causes_of (before ++ line ∷ []) lines ≡ None)
-first-good before line lines h =
-    let parts = told-none (length before + 1) (least (causes_of (has_tuple before) line)) (first_bad causes_of (before ++ line ∷ []) lines) h in
-    (least-none _ parts.0, parts.1)
-
-not-alone : (has : Bool) (line : List ℕ) → causes_of has line ≡ [] → (goes_on line && not has) ≡ false
-not-alone has line e = (cause-none 1 _ _ e).0
+use Rattle.ndb_text.proofs.NdbFiles.{cause-none, least-none, told-none, first-good, not_alone, going_on-at, and_not}
+use Rattle.ndb_text.proofs.NdbComplete.{some_of}
 
 no-zero : (has : Bool) (line : List ℕ) → causes_of has line ≡ [] → list_any is_zero line ≡ false
 no-zero has line e =
@@ -43,10 +25,6 @@ no-zero has line e =
     (cause-none 5 _ _ five).0
 
 -- The line that begins a file.
-
-filled : (bytes : List ℕ) → is_empty bytes ≡ false → 0 < length bytes
-filled [] e = absurd cc
-filled (b ∷ bytes) e = omega arith
 
 file-spelled : (line : List ℕ) → is_file_line line ≡ true → line ≡ codes "%file " ++ file_name line
 file-spelled line file =
@@ -59,7 +37,7 @@ file-named has line file good =
     let rest = (and_parts (begins_with (codes "%file ") line) _ file).1 in
     let parts = and_parts (not (is_empty (file_name line))) (not (list_any is_white (file_name line))) rest in
     record {
-      some = filled (file_name line) (not-true _ parts.0);
+      some = some_of (file_name line) (not-true _ parts.0);
       white = not-true _ parts.1;
       zero = none-drop is_zero 6 line (no-zero has line good);
     }
@@ -73,27 +51,17 @@ at-end before line = record { within = omega (arith, length-append before (line 
     here [] = refl
     here (l ∷ ls) = here ls
 
-whole : (before : List (List ℕ)) (line : List ℕ) → take (length before + 1) (before ++ line ∷ []) ≡ before ++ line ∷ []
+pub whole : (before : List (List ℕ)) (line : List ℕ) → take (length before + 1) (before ++ line ∷ []) ≡ before ++ line ∷ []
 whole before line = take_all (length before + 1) (before ++ line ∷ []) (omega (arith, length-append before (line ∷ [])))
 
 push-file : (before : List (List ℕ)) (line : List ℕ) → is_file_line line ≡ true → has_tuple (before ++ line ∷ []) ≡ false
 push-file before line file = ap has_tuple (sym (whole before line)) ∙ has-file (before ++ line ∷ []) (length before) line (at-end before line) file
 
-push-line : (before : List (List ℕ)) (line : List ℕ) → is_file_line line ≡ false → has_tuple (before ++ line ∷ []) ≡ (has_tuple before || (starts line || false))
+pub push-line : (before : List (List ℕ)) (line : List ℕ) → is_file_line line ≡ false → has_tuple (before ++ line ∷ []) ≡ (has_tuple before || (starts line || false))
 push-line before line file =
     ap has_tuple (sym (whole before line))
     ∙ has-line (before ++ line ∷ []) (length before) line (at-end before line) file
     ∙ ap (λ (ls : List (List ℕ)). has_tuple ls || (starts line || false)) (take-append_seam before (line ∷ []))
-
-going-at : (line : List ℕ) (lines : List (List ℕ)) (s g : Bool) → starts line ≡ s → goes_on line ≡ g → going_on (line ∷ lines) ≡ cond s [] (cond g (pairs_of line ∷ going_on lines) (going_on lines))
-going-at line lines s g es eg =
-    ap (λ (b : Bool). cond b [] (cond (goes_on line) (pairs_of line ∷ going_on lines) (going_on lines))) es
-    ∙ ap (λ (b : Bool). cond s [] (cond b (pairs_of line ∷ going_on lines) (going_on lines))) eg
-
-alone-not : (g h : Bool) → h ≡ false → (g && not h) ≡ false → g ≡ false
-alone-not true true e f = absurd cc
-alone-not true false e f = absurd cc
-alone-not false h e f = refl
 
 -- no line goes on before one starts a tuple
 none-on : (before lines : List (List ℕ)) → has_tuple before ≡ false → first_bad causes_of before lines ≡ None → going_on (before_first is_file_line lines) ≡ []
@@ -102,10 +70,10 @@ none-on before (line ∷ lines) none good = by (is_file_line line) refl (starts 
   where
     by : (f : Bool) → is_file_line line ≡ f → (s : Bool) → starts line ≡ s → (is_file_line line ≡ false → starts line ≡ false → going_on (before_first is_file_line lines) ≡ []) → going_on (before_first is_file_line (line ∷ lines)) ≡ []
     by true e s t rest = ap going_on (before-stop line lines e)
-    by false e true t rest = ap going_on (before-more line lines e) ∙ going-at line (before_first is_file_line lines) true _ t refl
+    by false e true t rest = ap going_on (before-more line lines e) ∙ going_on-at line (before_first is_file_line lines) true _ t refl
     by false e false t rest =
-        let off : goes_on line ≡ false = alone-not (goes_on line) (has_tuple before) none (not-alone (has_tuple before) line (first-good before line lines good).0) in
-        ap going_on (before-more line lines e) ∙ going-at line (before_first is_file_line lines) false false t off ∙ rest e t
+        let off : goes_on line ≡ false = and_not (goes_on line) (has_tuple before) none (not_alone (has_tuple before) line (first-good before line lines good).0) in
+        ap going_on (before-more line lines e) ∙ going_on-at line (before_first is_file_line lines) false false t off ∙ rest e t
 
 -- Files.
 

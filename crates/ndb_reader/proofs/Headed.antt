@@ -30,8 +30,3 @@ module _ (part found : ℕ → Bool) where
       by : (b : Bool) → (list_any (list_any found) (slice_split part text) ≡ true → list_any found text ≡ true) → list_any (list_any found) (cond b ([] ∷ slice_split part text) (onto_first x (slice_split part text))) ≡ true → (found x || list_any found text) ≡ true
       by true behind e = ap (λ c. found x || c) (behind e) ∙ or_true (found x)
       by false behind e = at (found x) behind (any_onto x (slice_split part text) e)
-
--- a line that doesn't begin with `%` isn't headed
-pub unheaded : (line : List ℕ) → begins is_percent line ≡ false → begins_with (codes "%file ") line ≡ false
-unheaded [] e = refl
-unheaded (b ∷ line) e = grind (arith, nat_tests)

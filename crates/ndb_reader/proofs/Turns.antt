@@ -6,8 +6,8 @@ use Rattle.net_base.specs.NdbText.{is_white, is_percent, begins, is_empty, pair_
 use Rattle.net_base.specs.NdbBundle.{File, file_name, is_file_line, causes_of, least, first_bad, local_name, local_file, named_files}
 use Rattle.ndb_text.proofs.Shared.{false_true}
 use Rattle.ndb_reader.specs.Filed.{Filed, line_filed, gone_on, started, file_begun, file_grown}
-use Rattle.ndb_reader.proofs.Headed.{unheaded}
 use Rattle.ndb_reader.proofs.Reading.{Read, Next, read-none, read-blank, read-on, read-start, read-file, read-all}
+use Rattle.ndb_text.proofs.NdbFiles.{percent_of_file}
 
 -- so many lines are read, and no line is open
 pub record Reads (lines : List (List ℕ)) (n : ℕ) (f : Filed) : Type 0 where
@@ -56,7 +56,7 @@ file-nothing line file = by (begins is_percent line) refl
   where
     by : (b : Bool) → begins is_percent line ≡ b → pairs_of line ≡ []
     by true e = ap (λ b. map pair_of (cond b [] (words_behind 0 line))) e
-    by false e = absurd (false_true (sym (ap (λ b. b && (not (is_empty (file_name line)) && not (list_any is_white (file_name line)))) (unheaded line e)) ∙ file))
+    by false e = absurd (false_true (sym (ap (λ b. b && (not (is_empty (file_name line)) && not (list_any is_white (file_name line)))) (percent_of_file line e)) ∙ file))
 
 pub turn-blank : (lines : List (List ℕ)) (n : ℕ) (line : List ℕ) (f g : Filed) → Reads lines n f → Turn lines n f line g → is_file_line line ≡ false → not (is_empty (words_of line)) ≡ false → Reads lines (n + 1) g
 turn-blank lines n line f g r turn file blank =

@@ -61,7 +61,7 @@ empty_is : (bs : List ℕ) → is_empty bs ≡ true → bs ≡ []
 empty_is [] h = refl
 empty_is (b ∷ bs) h = cc
 
-some_of : (bs : List ℕ) → is_empty bs ≡ false → 0 < length bs
+pub some_of : (bs : List ℕ) → is_empty bs ≡ false → 0 < length bs
 some_of [] h = cc
 some_of (b ∷ bs) h = omega arith
 

@@ -31,16 +31,16 @@ line_has_no_cause has line pairs alone r =
     no-causes _ _ _ _ _ _ alone (words_test (λ (word : Word). word.unclosed) line r.percent ∙ f.unclosed) (words_test is_nameless line r.percent ∙ f.nameless)
     (words_test (λ (word : Word). word.followed) line r.percent ∙ f.followed) r.zero (ap (λ (b : Bool). b && not (is_file_line line)) r.percent)
 
-cause-none : (n : ℕ) (b : Bool) (rest : List ℕ) → cause n b ++ rest ≡ [] → (b ≡ false) × (rest ≡ [])
+pub cause-none : (n : ℕ) (b : Bool) (rest : List ℕ) → cause n b ++ rest ≡ [] → (b ≡ false) × (rest ≡ [])
 cause-none n true rest h = absurd (cons_none h)
 cause-none n false rest h = (refl, h)
 
-and_not : (p f : Bool) → f ≡ false → (p && not f) ≡ false → p ≡ false
+pub and_not : (p f : Bool) → f ≡ false → (p && not f) ≡ false → p ≡ false
 and_not false f e h = refl
 and_not true false e h = h
 and_not true true e h = e
 
-cause-alone : (n : ℕ) (b : Bool) → cause n b ≡ [] → b ≡ false
+pub cause-alone : (n : ℕ) (b : Bool) → cause n b ≡ [] → b ≡ false
 cause-alone n true h = absurd (cons_none h)
 cause-alone n false h = refl
 
@@ -54,7 +54,7 @@ not_percent has line file h =
     let five = cause-none 5 _ _ four.1 in
     and_not (begins is_percent line) (is_file_line line) file (cause-alone 6 _ five.1)
 
-not_alone : (has : Bool) (line : List ℕ) → causes_of has line ≡ [] → (goes_on line && not has) ≡ false
+pub not_alone : (has : Bool) (line : List ℕ) → causes_of has line ≡ [] → (goes_on line && not has) ≡ false
 not_alone has line h = (cause-none 1 _ _ h).0
 
 pub line_is_spelled : (has : Bool) (line : List ℕ) → is_file_line line ≡ false → causes_of has line ≡ [] → ReadsLine line (pairs_of line)
@@ -88,7 +88,7 @@ pub goes_on-at : (line : List ℕ) (e w : Bool) → is_empty (pairs_of line) ≡
 goes_on-at line e w he hw =
     ap (λ (b : Bool). not b && begins is_white line) (sym (is_empty-map pair_of (words_of line)) ∙ he) ∙ ap (λ (b : Bool). not e && b) hw
 
-going_on-at : (line : List ℕ) (lines : List (List ℕ)) (s g : Bool) → starts line ≡ s → goes_on line ≡ g → going_on (line ∷ lines) ≡ cond s [] (cond g (pairs_of line ∷ going_on lines) (going_on lines))
+pub going_on-at : (line : List ℕ) (lines : List (List ℕ)) (s g : Bool) → starts line ≡ s → goes_on line ≡ g → going_on (line ∷ lines) ≡ cond s [] (cond g (pairs_of line ∷ going_on lines) (going_on lines))
 going_on-at line lines s g es eg =
     ap (λ (b : Bool). cond b [] (cond (goes_on line) (pairs_of line ∷ going_on lines) (going_on lines))) es
     ∙ ap (λ (b : Bool). cond s [] (cond b (pairs_of line ∷ going_on lines) (going_on lines))) eg
@@ -173,16 +173,16 @@ tuples_spelled (line ∷ lines) each = spelled_if line lines (pairs_of line) _ r
 
 -- Texts.
 
-least-none : (causes : List ℕ) → least causes ≡ None → causes ≡ []
+pub least-none : (causes : List ℕ) → least causes ≡ None → causes ≡ []
 least-none [] h = refl
 least-none (c ∷ causes) h = absurd (some_none h)
 
-told-none : (n : ℕ) (o : Option ℕ) (behind : Option (ℕ × ℕ)) → told n o behind ≡ None → (o ≡ None) × (behind ≡ None)
+pub told-none : (n : ℕ) (o : Option ℕ) (behind : Option (ℕ × ℕ)) → told n o behind ≡ None → (o ≡ None) × (behind ≡ None)
 told-none n None behind h = (refl, h)
 told-none n (Some c) behind h = absurd (some_none h)
 
 -- what a text without a bad line says of its first line and of the others
-first-good : (before : List (List ℕ)) (line : List ℕ) (lines : List (List ℕ)) → first_bad causes_of before (line ∷ lines) ≡ None → (causes_of (has_tuple before) line ≡ []) × (first_bad causes_of (before ++ line ∷ []) lines ≡ None)
+pub first-good : (before : List (List ℕ)) (line : List ℕ) (lines : List (List ℕ)) → first_bad causes_of before (line ∷ lines) ≡ None → (causes_of (has_tuple before) line ≡ []) × (first_bad causes_of (before ++ line ∷ []) lines ≡ None)
 first-good before line lines h =
     let both = told-none (length before + 1) (least (causes_of (has_tuple before) line)) (first_bad causes_of (before ++ line ∷ []) lines) h in
     (least-none _ both.0, both.1)
@@ -222,20 +222,20 @@ file_is_spelled text files h =
     (tuples_spelled (lines_of text) (each_spelled [] (lines_of text) files h))
 
 -- what reads as a line of pairs begins no file
-percent_of_file : (line : List ℕ) → begins is_percent line ≡ false → begins_with (codes "%file ") line ≡ false
+pub percent_of_file : (line : List ℕ) → begins is_percent line ≡ false → begins_with (codes "%file ") line ≡ false
 percent_of_file [] h = refl
 percent_of_file (b ∷ bytes) h =
     let e : nat_eq 37 b ≡ false = grind (arith, nat_tests) in
     rw e refl
 
-begins_no_file : (line : List ℕ) (pairs : List NdbPair) → ReadsLine line pairs → is_file_line line ≡ false
+pub begins_no_file : (line : List ℕ) (pairs : List NdbPair) → ReadsLine line pairs → is_file_line line ≡ false
 begins_no_file line pairs r = rw (percent_of_file line r.percent) refl
 
 good_line : (before : List (List ℕ)) (line : List ℕ) (lines : List (List ℕ)) (pairs : List NdbPair) → (goes_on line && not (has_tuple before)) ≡ false → ReadsLine line pairs → first_bad causes_of (before ++ line ∷ []) lines ≡ None → first_bad causes_of before (line ∷ lines) ≡ None
 good_line before line lines pairs alone r rest =
     ap (λ (cs : List ℕ). told (length before + 1) (least cs) (first_bad causes_of (before ++ line ∷ []) lines)) (line_has_no_cause (has_tuple before) line pairs alone r) ∙ rest
 
-and_not_true : (a b : Bool) → b ≡ true → (a && not b) ≡ false
+pub and_not_true : (a b : Bool) → b ≡ true → (a && not b) ≡ false
 and_not_true a true e = and_none a
 and_not_true a false e = absurd (false_true e)
 

@@ -8,6 +8,7 @@ use Rattle.std.proofs.lemmas.List.{map-append}
 use Rattle.net_base.specs.Ndb.{NdbPair}
 use Rattle.net_base.specs.Search.{has_attr, line_has, values_on, values_in, values_on_found, or_where_empty, beside}
 use Rattle.ndb_tuple.proofs.Lists.{Joins, joins_more}
+use Rattle.ndb_tuple.proofs.Pieces.{near_is}
 
 pub on_joins : (attr : List ℕ) → Joins (values_on attr)
 on_joins attr = record {
@@ -38,15 +39,6 @@ pub in_more : (attr : List ℕ) (tuple : List (List NdbPair)) (i : ℕ) (line : 
 in_more attr tuple i line within here =
     joins_more (values_in attr) (record { none = refl; both = flat_map-append (values_on attr) }) tuple i line within here
     ∙ ap (λ piece. values_in attr (take i tuple) ++ piece) (append-nil (values_on attr line))
-
--- the values of a line, where it has the attribute
-near_is : (attr : List ℕ) (line : List NdbPair) (others : List (List ℕ)) → or_where_empty (values_on attr line) others ≡ cond (list_any (has_attr attr) line) (values_on attr line) others
-near_is attr [] others = refl
-near_is attr (pair ∷ line) others = at (has_attr attr pair) (near_is attr line others)
-  where
-    at : (holds : Bool) → or_where_empty (values_on attr line) others ≡ cond (list_any (has_attr attr) line) (values_on attr line) others → or_where_empty (map (λ p. p.value) (cond holds (pair ∷ filter (has_attr attr) line) (filter (has_attr attr) line))) others ≡ cond (holds || list_any (has_attr attr) line) (map (λ p. p.value) (cond holds (pair ∷ filter (has_attr attr) line) (filter (has_attr attr) line))) others
-    at true rest = refl
-    at false rest = rest
 
 -- beside a pair on a line that has the other attribute, on one that lacks it, and where the pair is missing
 pub near_on : (attr value other : List ℕ) (line : List NdbPair) (tuple : List (List NdbPair)) → find (line_has attr value) tuple ≡ Some line → list_any (has_attr other) line ≡ true → beside attr value other tuple ≡ values_on other line

@@ -75,7 +75,7 @@ in_none kind tuple i line within here none found =
     in_more kind tuple i line within here ∙ ap (λ front. front ++ numbers_on kind line) none ∙ empty_from_first (numbers_on kind line) found
 
 -- the values of a line, where it has the attribute
-near_is : (attr : List ℕ) (line : List NdbPair) (others : List (List ℕ)) → or_where_empty (values_on attr line) others ≡ cond (list_any (has_attr attr) line) (values_on attr line) others
+pub near_is : (attr : List ℕ) (line : List NdbPair) (others : List (List ℕ)) → or_where_empty (values_on attr line) others ≡ cond (list_any (has_attr attr) line) (values_on attr line) others
 near_is attr [] others = refl
 near_is attr (pair ∷ line) others = at (has_attr attr pair) (near_is attr line others)
   where

@@ -14,6 +14,8 @@ use Rattle.ndb_text.proofs.Shared.{or_false, some_none, before_first-none, line_
 use Rattle.ndb_reader.proofs.Shared.{Next, has-line, before-more, before-stop, named-more, named-stop, reading-is, bundle-is-spelled}
 use Rattle.net_base.proofs.Shared.{and_none}
 use Rattle.world_text.proofs.VersionCuts.{good-more}
+use Rattle.ndb_text.proofs.NdbFiles.{percent_of_file, begins_no_file, and_not_true}
+use Rattle.ndb_reader.proofs.Bundles.{whole, push-line}
 
 -- Lines that begin a file.
 
@@ -27,16 +29,6 @@ two-causes zero file ez ef = rw (ez, ef) refl
 file-good : (has : Bool) (name : List ℕ) → IsFileName name → causes_of has (codes "%file " ++ name) ≡ []
 file-good has name n = two-causes _ (is_file_line (codes "%file " ++ name)) n.zero (file-begins name n)
 
--- what doesn't begin with `%` begins no file
-no-file-begins : (line : List ℕ) → begins is_percent line ≡ false → begins_with (codes "%file ") line ≡ false
-no-file-begins [] h = refl
-no-file-begins (b ∷ bytes) h =
-    let e : nat_eq 37 b ≡ false = grind (arith, nat_tests) in
-    rw e refl
-
-no-file : (line : List ℕ) (pairs : List NdbPair) → ReadsLine line pairs → is_file_line line ≡ false
-no-file line pairs r = rw (no-file-begins line r.percent) refl
-
 -- Whether a file has a tuple before the next line.
 
 at-end : (before : List (List ℕ)) (line : List ℕ) → Next (before ++ line ∷ []) (length before) line
@@ -45,19 +37,6 @@ at-end before line = record { within = omega (arith, length-append before (line 
     here : (ls : List (List ℕ)) → get_or (ls ++ line ∷ []) (length ls) line ≡ line
     here [] = refl
     here (l ∷ ls) = here ls
-
-all-taken : (before : List (List ℕ)) (line : List ℕ) → take (length before + 1) (before ++ line ∷ []) ≡ before ++ line ∷ []
-all-taken before line = take_all (length before + 1) (before ++ line ∷ []) (omega (arith, length-append before (line ∷ [])))
-
-has-more : (before : List (List ℕ)) (line : List ℕ) → is_file_line line ≡ false → has_tuple (before ++ line ∷ []) ≡ (has_tuple before || (starts line || false))
-has-more before line file =
-    ap has_tuple (sym (all-taken before line))
-    ∙ has-line (before ++ line ∷ []) (length before) line (at-end before line) file
-    ∙ ap (λ (ls : List (List ℕ)). has_tuple ls || (starts line || false)) (take-append_seam before (line ∷ []))
-
-and-not : (a b : Bool) → b ≡ true → (a && not b) ≡ false
-and-not a true e = and_none a
-and-not a false e = cc
 
 -- a tuple stands before in this file, or no line goes on with one
 abbrev Begun : List (List ℕ) → List (List NdbPair) → Type 0
@@ -74,20 +53,20 @@ good-lines before (line ∷ front) tail more tuples begun (inl (r, others)) rest
     (good-lines (before ++ line ∷ []) front tail more tuples (on begun) others rest)
   where
     on : Begun before more → Begun (before ++ line ∷ []) more
-    on (inl some) = inl (has-more before line (no-file line [] r) ∙ or_left _ _ some)
+    on (inl some) = inl (push-line before line (begins_no_file line [] r) ∙ or_left _ _ some)
     on (inr none) = inr none
 good-lines before (line ∷ front) tail more tuples (inr none) (inr (inl (pair, pairs, left, m, white, r, others))) rest =
     absurd (cons_none (sym m ∙ none))
 good-lines before (line ∷ front) tail more tuples (inl some) (inr (inl (pair, pairs, left, m, white, r, others))) rest =
-    good-more before line (front ++ tail) (line_has_no_cause (has_tuple before) line (pair ∷ pairs) (and-not (goes_on line) (has_tuple before) some) r)
-    (good-lines (before ++ line ∷ []) front tail left tuples (inl (has-more before line (no-file line (pair ∷ pairs) r) ∙ or_left _ _ some)) others rest)
+    good-more before line (front ++ tail) (line_has_no_cause (has_tuple before) line (pair ∷ pairs) (and_not_true (goes_on line) (has_tuple before) some) r)
+    (good-lines (before ++ line ∷ []) front tail left tuples (inl (push-line before line (begins_no_file line (pair ∷ pairs) r) ∙ or_left _ _ some)) others rest)
 good-lines before (line ∷ front) tail more tuples begun (inr (inr (pair, pairs, left, behind, m, t, white, r, others))) rest =
     let words : is_empty (pairs_of line) ≡ false = ap is_empty (line_reads line (pair ∷ pairs) r) in
     let g : goes_on line ≡ false = goes_on-at line false false words white in
     let s : starts line ≡ true = starts-at line false false words white in
     good-more before line (front ++ tail) (line_has_no_cause (has_tuple before) line (pair ∷ pairs) (ap (λ (b : Bool). b && not (has_tuple before)) g) r)
     (good-lines (before ++ line ∷ []) front tail left behind
-    (inl (has-more before line (no-file line (pair ∷ pairs) r) ∙ or_right (has_tuple before) _ (or_left (starts line) false s))) others rest)
+    (inl (push-line before line (begins_no_file line (pair ∷ pairs) r) ∙ or_right (has_tuple before) _ (or_left (starts line) false s))) others rest)
 
 good-files : (lines : List (List ℕ)) (file : File) (files : List File) (before : List (List ℕ)) → ReadsFiles lines file files → first_bad causes_of before lines ≡ None
 good-files lines file [] before r =
@@ -102,11 +81,11 @@ good-files lines file (next ∷ files) before (front, rest, is, named, r, others
 
 none-begins : (lines : List (List ℕ)) (more : List (List NdbPair)) (tuples : List (List (List NdbPair))) → ReadsTuples lines more tuples → list_any is_file_line lines ≡ false
 none-begins [] more tuples r = refl
-none-begins (line ∷ lines) more tuples (inl (r, others)) = or_false _ _ (no-file line [] r) (none-begins lines more tuples others)
+none-begins (line ∷ lines) more tuples (inl (r, others)) = or_false _ _ (begins_no_file line [] r) (none-begins lines more tuples others)
 none-begins (line ∷ lines) more tuples (inr (inl (pair, pairs, left, m, white, r, others))) =
-    or_false _ _ (no-file line (pair ∷ pairs) r) (none-begins lines left tuples others)
+    or_false _ _ (begins_no_file line (pair ∷ pairs) r) (none-begins lines left tuples others)
 none-begins (line ∷ lines) more tuples (inr (inr (pair, pairs, left, behind, m, t, white, r, others))) =
-    or_false _ _ (no-file line (pair ∷ pairs) r) (none-begins lines left behind others)
+    or_false _ _ (begins_no_file line (pair ∷ pairs) r) (none-begins lines left behind others)
 
 before-file : (front rest : List (List ℕ)) (line : List ℕ) → list_any is_file_line front ≡ false → is_file_line line ≡ true → before_first is_file_line (front ++ line ∷ rest) ≡ front
 before-file [] rest line none file = before-stop line rest file

@@ -14,8 +14,8 @@ use Rattle.net_base.specs.Summary.{end_word}
 use Rattle.history_laws.proofs.Shared.{after_push, at_push, by_entries, timed_take}
 use Rattle.calm_laws.proofs.Shared.{Kind, OfScript, OfCourier, OfClock, clock_is, clock_waits, courier_is, is_calm, kind_of}
 use Rattle.net_base.proofs.Shared.{none_range, not_below, some_range, script_is}
-use Rattle.plain_runner.proofs.Recorded.{step_moment}
 use Rattle.plain_runner.proofs.Bounds.{move_within}
+use Rattle.transcript.proofs.Latest.{moment_of_ready}
 
 -- The moment is never past the end.
 
@@ -29,7 +29,7 @@ moment_within w h legal timed = by_entries w (λ (k : List Entry). IsTimed w k �
         let was : moment w k ≤ w.end = f (subst (IsTimed w) front (timed_take w (k ++ x ∷ []) (length k) timed)) in
         let comes : IsInTime (after w k) w x.event = subst (λ (p : List Entry). IsInTime (after w p) w x.event) front (timed (length k) x (at_push k x)) in
         let now : moment w (k ++ x ∷ []) ≡ moment_after (moment w k) x.event = ap (λ (net : Net). net.moment) (after_push w k x)
-        ∙ step_moment w (after w k) x (step_of w (after w k) x) may.is_ready in
+        ∙ moment_of_ready w (after w k) x (step_of w (after w k) x) may.is_ready in
         subst (λ (m : ℕ). m ≤ w.end) (sym now) (move_within w (after w k) x.event comes was)
 
 -- Limits.

@@ -28,6 +28,7 @@ use Rattle.plain_runner.specs.declared.caller.Role.TheVariants as role
 use Rattle.plain_runner.specs.declared.runner.Runner.{Runner}
 use Rattle.plain_runner.specs.declared.turn.Turn.{Turn}
 use Rattle.net_base.proofs.Shared.{get_set, get_set_other}
+use Rattle.transcript.proofs.Latest.{moment_of_ready}
 
 -- Lists.
 
@@ -63,11 +64,6 @@ caller_stays w h c k x other is = record {
 
 -- The moment.
 
-pub step_moment : (w : World) (net : Net) (x : Entry) (o : Option (Step Actor)) → IsSome (option_map (λ (s : Step Actor). s.outcome) o)
-    → (net_after w net x o).moment ≡ moment_after net.moment x.event
-step_moment w net x (Some s) is = refl
-step_moment w net x None is = absurd (false≢true is)
-
 -- The run.
 
 pub come : (w : World) (r : Runner) (c : ℕ) (t : Turn) (k : Caller) → IsBefore w r c t → slice_get r.callers.items c ≡ Some k
@@ -100,7 +96,7 @@ recorded_so w old new c t k x lt b rec history count callers ways now = record {
     are = subst (λ (h : List Entry). AreActors w new.net (after w h).actors) (sym history) rec.are;
     ways_are = subst (AreWaysOfWorld w) (sym ways) b.ways_are;
     moment_is = now ∙ ap (λ (m : ℕ). moment_after m x.event) b.moment_is
-        ∙ sym (step_moment w (after w old.history.entries) x (step_of w (after w old.history.entries) x) rec.follows.is_ready)
+        ∙ sym (moment_of_ready w (after w old.history.entries) x (step_of w (after w old.history.entries) x) rec.follows.is_ready)
         ∙ ap (λ (net : Net). net.moment) (sym (after_push w old.history.entries x)) ∙ ap (λ (h : List Entry). moment w h) (sym history);
   };
   history_is = history;

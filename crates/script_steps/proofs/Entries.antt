@@ -6,12 +6,7 @@ use Rattle.net_base.specs.Legal.{IsInTime, IsLegal, IsTimed, MayFollow}
 use Rattle.net_base.specs.Net.{after}
 use Rattle.plain_runner.specs.Followed.{Followed, Follows}
 use Rattle.plain_runner.specs.declared.runner.Runner.{Runner}
-
--- an element of a list
-pub got : {A : Type 0} (xs : List A) (n : ℕ) (x : A) → n < length xs → x ≡ get_or xs n x → slice_get xs n ≡ Some x
-got [] n x lt is = absurd (omega (arith, lt))
-got (y ∷ ys) zero x lt is = ap Some (sym is)
-got (y ∷ ys) (suc n) x lt is = got ys n x (omega (arith, lt)) is
+use Rattle.plain_runner.proofs.Recorded.{got}
 
 -- one element more
 taken : {A : Type 0} (xs : List A) (n : ℕ) (x : A) → n < length xs → x ≡ get_or xs n x → take n xs ++ x ∷ [] ≡ take (suc n) xs

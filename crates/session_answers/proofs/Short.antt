@@ -16,10 +16,8 @@ use Rattle.net_base.specs.Numeral.{numeral}
 use Rattle.net_base.specs.Transcript.{addr_word, cause_number, ip_word, reply_words}
 use Rattle.net_base.specs.SessionAnswers.{longest_text, printed}
 use Rattle.sessions.proofs.Shared.{has_room, is_short}
-
-length_shown : (ds : List ℕ) → length (map (λ digit. 48 + digit) ds) ≡ length ds
-length_shown [] = refl
-length_shown (d ∷ ds) = omega (arith, length_shown ds)
+use Rattle.transcript.proofs.Told.{address_is}
+use Rattle.sessions.proofs.Sayable.{length_shown}
 
 few_shown : (k n : ℕ) → length (digits_of 10 (suc n)) ≤ k → length (numeral (suc n)) ≤ k
 unfolding numeral
@@ -48,12 +46,9 @@ dotted : (a b c d : List ℕ) → length a ≤ 10 → length b ≤ 10 → length
 dotted a b c d one two three four =
     omega (arith, one, two, three, four, length-append c (46 ∷ d), length-append b (46 ∷ (c ++ 46 ∷ d)), length-append a (46 ∷ (b ++ 46 ∷ (c ++ 46 ∷ d))))
 
-ip_is : (ip : ℕ) → ip_word ip ≡ numeral (ip / 2 ^ 24) ++ 46 ∷ (numeral (ip / 2 ^ 16 % 256) ++ 46 ∷ (numeral (ip / 2 ^ 8 % 256) ++ 46 ∷ numeral (ip % 256)))
-ip_is ip = simp append_assoc refl
-
 ip_few : (ip : ℕ) → ip < 2 ^ 32 → length (ip_word ip) ≤ 43
 ip_few ip lt =
-    subst (λ (word : List ℕ). length word ≤ 43) (sym (ip_is ip))
+    subst (λ (word : List ℕ). length word ≤ 43) (sym (address_is ip))
     (dotted (numeral (ip / 2 ^ 24)) (numeral (ip / 2 ^ 16 % 256)) (numeral (ip / 2 ^ 8 % 256)) (numeral (ip % 256))
     (ten_digits (ip / 2 ^ 24) (omega (arith, lt))) (ten_digits (ip / 2 ^ 16 % 256) (omega arith)) (ten_digits (ip / 2 ^ 8 % 256) (omega arith)) (ten_digits (ip % 256) (omega arith)))
 

@@ -54,7 +54,7 @@ name_digits n =
     (λ m ds ten told. all_both is_name_byte ds ((48 + m % 10) ∷ []) told (and_from (is_name_byte (48 + m % 10)) true (name_digit (m % 10) (omega arith)) refl))
     n
 
-length_shown : (ds : List ℕ) → length (map (λ digit. 48 + digit) ds) ≡ length ds
+pub length_shown : (ds : List ℕ) → length (map (λ digit. 48 + digit) ds) ≡ length ds
 length_shown [] = refl
 length_shown (d ∷ ds) = omega (arith, length_shown ds)
 

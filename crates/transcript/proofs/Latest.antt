@@ -13,7 +13,7 @@ use Rattle.transcript.specs.RunStatus.{latest}
 abbrev AreReady : World → Net → List Entry → Type 0
 AreReady w net xs = (k : ℕ) (x : Entry) → slice_get xs k ≡ Some x → IsSome (outcome_in w (net_of w net (take k xs)) x)
 
-moment_of_ready : (w : World) (net : Net) (x : Entry) (s : Option (Step Actor)) → IsSome (option_map (λ (t : Step Actor). t.outcome) s) → (net_after w net x s).moment ≡ moment_after net.moment x.event
+pub moment_of_ready : (w : World) (net : Net) (x : Entry) (s : Option (Step Actor)) → IsSome (option_map (λ (t : Step Actor). t.outcome) s) → (net_after w net x s).moment ≡ moment_after net.moment x.event
 moment_of_ready w net x None ready = absurd (cc)
 moment_of_ready w net x (Some s) ready = refl
 

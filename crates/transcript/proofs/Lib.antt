@@ -1,7 +1,7 @@
 mod Bytes
 mod Entries
 mod Events
-mod Latest
+pub mod Latest
 mod LineDigits
 mod Numbers
 mod Readers
@@ -10,4 +10,4 @@ mod Runs
 mod Spacing
 mod Summing
 mod Telling
-mod Told
+pub mod Told

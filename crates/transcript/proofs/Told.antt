@@ -142,7 +142,7 @@ clean_star (Some n) = clean_numeral n
 dotted : (ip : ℕ) (rest : List ℕ) → ip_word ip ++ rest ≡ numeral (ip / 2 ^ 24) ++ 46 ∷ (numeral (ip / 2 ^ 16 % 256) ++ 46 ∷ (numeral (ip / 2 ^ 8 % 256) ++ 46 ∷ (numeral (ip % 256) ++ rest)))
 dotted ip rest = simp append_assoc refl
 
-address_is : (ip : ℕ) → ip_word ip ≡ numeral (ip / 2 ^ 24) ++ 46 ∷ (numeral (ip / 2 ^ 16 % 256) ++ 46 ∷ (numeral (ip / 2 ^ 8 % 256) ++ 46 ∷ numeral (ip % 256)))
+pub address_is : (ip : ℕ) → ip_word ip ≡ numeral (ip / 2 ^ 24) ++ 46 ∷ (numeral (ip / 2 ^ 16 % 256) ++ 46 ∷ (numeral (ip / 2 ^ 8 % 256) ++ 46 ∷ numeral (ip % 256)))
 address_is ip = simp append_assoc refl
 
 four_numbers : (a b c d : ℕ) → numbers 4 (numeral a ++ 46 ∷ (numeral b ++ 46 ∷ (numeral c ++ 46 ∷ numeral d))) ≡ a ∷ b ∷ c ∷ d ∷ []

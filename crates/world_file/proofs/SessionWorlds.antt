@@ -95,7 +95,7 @@ pub record Kept (told : Told) : Type 0 where
 kept-first : Kept opening_told
 kept-first = record { lines = []; led = refl; sit = λ x none. absurd none; apart = refl; whole = λ x none. absurd none }
 
-ok-err : (w : SessionWorld) (bad : ℕ × ℕ) (r : Result SessionWorld (ℕ × ℕ)) → r ≡ Ok w → r ≡ Err bad → ⊥
+pub ok-err : (w : SessionWorld) (bad : ℕ × ℕ) (r : Result SessionWorld (ℕ × ℕ)) → r ≡ Ok w → r ≡ Err bad → ⊥
 ok-err w bad r e f = cc
 
 closed : (xs : List Session) → GoesOn xs → IsStreamOf (last_stream xs) → AllWhole xs

@@ -71,13 +71,13 @@ one-is [] word e = absurd (none-some word e)
 one-is (a ∷ []) word e = ap (λ (w : List ℕ). w ∷ []) (same_Some a word e)
 one-is (a ∷ b ∷ args) word e = absurd (none-some word e)
 
-two-is : (args : List (List ℕ)) (w : Two) → two args ≡ Some w → args ≡ w.first ∷ w.second ∷ []
+pub two-is : (args : List (List ℕ)) (w : Two) → two args ≡ Some w → args ≡ w.first ∷ w.second ∷ []
 two-is [] w e = absurd (none-some w e)
 two-is (a ∷ []) w e = absurd (none-some w e)
 two-is (a ∷ b ∷ []) w e = ap (λ (v : Two). v.first ∷ v.second ∷ []) (same_Some (record { first = a; second = b }) w e)
 two-is (a ∷ b ∷ c ∷ args) w e = absurd (none-some w e)
 
-three-is : (args : List (List ℕ)) (w : Three) → three args ≡ Some w → args ≡ w.first ∷ w.second ∷ w.third ∷ []
+pub three-is : (args : List (List ℕ)) (w : Three) → three args ≡ Some w → args ≡ w.first ∷ w.second ∷ w.third ∷ []
 three-is [] w e = absurd (none-some w e)
 three-is (a ∷ []) w e = absurd (none-some w e)
 three-is (a ∷ b ∷ []) w e = absurd (none-some w e)

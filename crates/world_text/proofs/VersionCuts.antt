@@ -21,31 +21,10 @@ use Rattle.world_text.specs.VersionLines.{at_causes, begins_at, first_bad_versio
 use Rattle.world_text.specs.WorldSpelling.{IsGoodBundle, LaterText, line_of_moment, lines_of_later, version_said}
 use Rattle.net_base.proofs.Shared.{number-back, number_in-spelled}
 use Rattle.net_base.proofs.Members.{no_cons}
+use Rattle.ndb_text.proofs.NdbFiles.{cause-none, least-none, told-none, first-good, cause-alone}
+use Rattle.ndb_text.proofs.NdbPlain.{one_add}
 
 -- Causes.
-
-cause-none : (n : ℕ) (b : Bool) (rest : List ℕ) → cause n b ++ rest ≡ [] → (b ≡ false) × (rest ≡ [])
-cause-none n true rest e = absurd (no_cons n rest e)
-cause-none n false rest e = (refl, e)
-
-only-cause : (n : ℕ) (b : Bool) → cause n b ≡ [] → b ≡ false
-only-cause n true e = absurd (no_cons n [] e)
-only-cause n false e = refl
-
-least-none : (causes : List ℕ) → least causes ≡ None → causes ≡ []
-least-none [] e = refl
-least-none (c ∷ causes) e = absurd (none-some c (sym e))
-
-told-none : (n : ℕ) (o : Option ℕ) (behind : Option (ℕ × ℕ)) → told n o behind ≡ None → (o ≡ None) × (behind ≡ None)
-told-none n None behind e = (refl, e)
-told-none n (Some c) behind e = absurd (none-some (n, c) (sym e))
-
--- a bundle's first line, and the others
-good-line : (own : List (List ℕ)) (line : List ℕ) (lines : List (List ℕ)) → first_bad causes_of own (line ∷ lines) ≡ None
-    → (causes_of (has_tuple own) line ≡ []) × (first_bad causes_of (own ++ line ∷ []) lines ≡ None)
-good-line own line lines e =
-    let parts = told-none (length own + 1) (least (causes_of (has_tuple own) line)) (first_bad causes_of (own ++ line ∷ []) lines) e in
-    (least-none (causes_of (has_tuple own) line) parts.0, parts.1)
 
 pub good-more : (own : List (List ℕ)) (line : List ℕ) (lines : List (List ℕ)) → causes_of (has_tuple own) line ≡ [] → first_bad causes_of (own ++ line ∷ []) lines ≡ None
     → first_bad causes_of own (line ∷ lines) ≡ None
@@ -112,7 +91,7 @@ not-at has line good = by (is_at_line line) refl
   where
     by : (b : Bool) → is_at_line line ≡ b → b ≡ false
     by false at = refl
-    by true at = absurd (false≢true (sym (only-cause 6 (begins is_percent line && not (is_file_line line)) (sixth-alone has line good)) ∙ at-percent line at))
+    by true at = absurd (false≢true (sym (cause-alone 6 (begins is_percent line && not (is_file_line line)) (sixth-alone has line good)) ∙ at-percent line at))
 
 -- none of these lines begins a version
 abbrev pub Free : List (List ℕ) → Type 0
@@ -122,7 +101,7 @@ Free (line ∷ lines) = (is_at_line line ≡ false) × Free lines
 good-free : (own lines : List (List ℕ)) → first_bad causes_of own lines ≡ None → Free lines
 good-free own [] good = tt
 good-free own (line ∷ lines) good =
-    let parts = good-line own line lines good in
+    let parts = first-good own line lines good in
     (not-at (has_tuple own) line parts.0, good-free (own ++ line ∷ []) lines parts.1)
 
 begins-none : (line : List ℕ) → is_at_line line ≡ false → begins_at line ≡ None
@@ -178,14 +157,11 @@ last-free before (line ∷ lines) free =
 
 -- What stands behind a line.
 
-one-add : (n : ℕ) → 1 + n ≡ suc n
-one-add n = omega arith
-
 first-stop : (line : List ℕ) (lines : List (List ℕ)) → is_at_line line ≡ true → before_first is_at_line (line ∷ lines) ≡ []
 first-stop line lines at = rw at refl
 
 pub first-go : (line : List ℕ) (lines : List (List ℕ)) → is_at_line line ≡ false → before_first is_at_line (line ∷ lines) ≡ line ∷ before_first is_at_line lines
-first-go line lines free = rw (free, one-add) refl
+first-go line lines free = rw (free, one_add) refl
 
 -- Moments.
 
@@ -260,7 +236,7 @@ split before (line ∷ lines) good =
     begins : (o : Option ℕ) → moment_of line ≡ o → is_at_line line ≡ true → at_causes (last_moment before) o ≡ []
         → Split (last_moment (before ++ line ∷ [])) (own_lines (before ++ line ∷ [])) lines → Split (last_moment before) (own_lines before) (line ∷ lines)
     begins None is at none s = absurd (no_cons (number_of line_cause.WrongArgument) [] none)
-    begins (Some moment) is at none s = split-at before line lines moment at is (only-cause (number_of line_cause.EarlyVersion) (nat_le moment (last_moment before)) none) s
+    begins (Some moment) is at none s = split-at before line lines moment at is (cause-alone (number_of line_cause.EarlyVersion) (nat_le moment (last_moment before)) none) s
 
     by : (b : Bool) → is_at_line line ≡ b → cond b (at_causes (last_moment before) (moment_of line)) (causes_of (has_tuple (own_lines before)) line) ≡ []
         → Split (last_moment (before ++ line ∷ [])) (own_lines (before ++ line ∷ [])) lines → Split (last_moment before) (own_lines before) (line ∷ lines)
@@ -274,7 +250,7 @@ bundle-back : (before bundle tail : List (List ℕ)) → first_bad causes_of (ow
     → first_bad_version before (bundle ++ tail) ≡ None
 bundle-back before [] tail good rest = subst (λ (ls : List (List ℕ)). first_bad_version ls tail ≡ None) (append-nil before) rest
 bundle-back before (line ∷ bundle) tail good rest =
-    let parts = good-line (own_lines before) line bundle good in
+    let parts = first-good (own_lines before) line bundle good in
     let free = not-at (has_tuple (own_lines before)) line parts.0 in
     let none : version_causes before line ≡ [] =
     ap (λ (b : Bool). cond b (at_causes (last_moment before) (moment_of line)) (causes_of (has_tuple (own_lines before)) line)) free ∙ parts.0 in

@@ -95,7 +95,7 @@ knows-host : (hosts : List HostSpec) (called : List ℕ) → list_any (is_host_n
 knows-host hosts called =
     sym (any-map (bytes_eq called) (λ (h : HostSpec). h.name) hosts) ∙ sym (place-there (bytes_eq called) (host_names hosts))
 
-count-said : (ns : List (List ℕ)) (texts : List ScriptText) → length (scripts_said ns texts) ≡ length texts
+pub count-said : (ns : List (List ℕ)) (texts : List ScriptText) → length (scripts_said ns texts) ≡ length texts
 count-said ns [] = refl
 count-said ns (t ∷ texts) = ap (λ n. suc n) (count-said ns texts)
 

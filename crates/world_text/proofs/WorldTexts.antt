@@ -18,7 +18,7 @@ use Rattle.world_text.specs.WorldLines.{Bad, Begins, Draft, Goes, Verdict, after
 use Rattle.world_text.specs.WorldRefusal.{Leads}
 use Rattle.world_text.specs.WorldSpelling.{IsHeaded, is_line, laid, line_of_timers, speaks}
 use Rattle.world_text.specs.WorldText.{Cut, cuts_of, judged, reading_from, with_first}
-use Rattle.world_text.proofs.WorldLists.{false-of-not}
+use Rattle.world_text.proofs.WorldLists.{false-of-not, no-cons}
 use Rattle.net_base.proofs.Shared.{equal_texts}
 
 -- Lines of a text.
@@ -27,17 +27,14 @@ abbrev rest : List Cut → List Cut
 rest [] = []
 rest (c ∷ cs) = cs
 
-nothing : {A : Type 0} (x : A) (xs : List A) → [] ≡ x ∷ xs → ⊥
-nothing x xs e = let n = ap (λ ys. length ys) e in absurd (omega (arith, n))
-
 pub no-cuts : (bytes : List ℕ) → cuts_of bytes ≡ [] → bytes ≡ []
 no-cuts [] e = refl
 no-cuts (b ∷ bytes) e = by (is_newline b) (cuts_of bytes) e
   where
     by : (v : Bool) (cs : List Cut) → cond v (record { line = []; behind = bytes } ∷ cs) (with_first b cs) ≡ [] → b ∷ bytes ≡ []
-    by true cs f = absurd (nothing (record { line = []; behind = bytes }) cs (sym f))
-    by false [] f = absurd (nothing (record { line = b ∷ []; behind = [] }) [] (sym f))
-    by false (c ∷ cs) f = absurd (nothing (record { line = b ∷ c.line; behind = c.behind }) cs (sym f))
+    by true cs f = absurd (no-cons (record { line = []; behind = bytes }) cs (sym f))
+    by false [] f = absurd (no-cons (record { line = b ∷ []; behind = [] }) [] (sym f))
+    by false (c ∷ cs) f = absurd (no-cons (record { line = b ∷ c.line; behind = c.behind }) cs (sym f))
 
 -- the first line of a text, and what stands behind it
 pub record Shape (text : List ℕ) (c : Cut) (cs : List Cut) : Type 0 where
@@ -45,7 +42,7 @@ pub record Shape (text : List ℕ) (c : Cut) (cs : List Cut) : Type 0 where
   pub parts : ((text ≡ c.line ++ (10 ∷ c.behind)) × (cs ≡ cuts_of c.behind)) ⊎ ((text ≡ c.line) × (c.behind ≡ []) × (cs ≡ []))
 
 pub shape : (text : List ℕ) (c : Cut) (cs : List Cut) → cuts_of text ≡ c ∷ cs → Shape text c cs
-shape [] c cs e = absurd (nothing c cs e)
+shape [] c cs e = absurd (no-cons c cs e)
 shape (b ∷ bytes) c cs e = by (is_newline b) (cuts_of bytes) refl refl e (shape bytes)
   where
     placed : (d : Cut) (ds : List Cut) → d ∷ ds ≡ c ∷ cs → Shape (b ∷ bytes) d ds → Shape (b ∷ bytes) c cs

@@ -13,6 +13,7 @@ use Rattle.world_text.specs.LineReading.{cs_of, frames_of, host_of, kept, of_one
 use Rattle.world_text.specs.WorldWords.{Three, Two, four, joined, mode_named, one, three, two}
 use Rattle.world_text.specs.declared.line.WorldLine.TheVariants as line
 use Rattle.net_base.proofs.Texts.{some_part}
+use Rattle.world_text.proofs.LineSpelled.{two-is, three-is}
 
 pub some_word : (rest : List ℕ) → parts_at 32 rest ≡ [] → ⊥
 some_word rest e = let some = some_part 32 rest in let n = ap (λ (ws : List (List ℕ)). length ws) e in absurd (omega (arith, some, n))
@@ -87,24 +88,11 @@ no_frames (k ∷ []) a b = absurd (a refl)
 no_frames (k ∷ l ∷ []) a b = absurd (b refl)
 no_frames (k ∷ l ∷ m ∷ words) a b = refl
 
-two_are : (words : List (List ℕ)) (w : Two) → two words ≡ Some w → words ≡ w.first ∷ w.second ∷ []
-two_are [] w e = absurd (none-some w e)
-two_are (a ∷ []) w e = absurd (none-some w e)
-two_are (a ∷ b ∷ []) w e = ap (λ (v : Two). v.first ∷ v.second ∷ []) (same_Some (record { first = a; second = b }) w e)
-two_are (a ∷ b ∷ c ∷ words) w e = absurd (none-some w e)
-
-three_are : (words : List (List ℕ)) (w : Three) → three words ≡ Some w → words ≡ w.first ∷ w.second ∷ w.third ∷ []
-three_are [] w e = absurd (none-some w e)
-three_are (a ∷ []) w e = absurd (none-some w e)
-three_are (a ∷ b ∷ []) w e = absurd (none-some w e)
-three_are (a ∷ b ∷ c ∷ []) w e = ap (λ (v : Three). v.first ∷ v.second ∷ v.third ∷ []) (same_Some (record { first = a; second = b; third = c }) w e)
-three_are (a ∷ b ∷ c ∷ d ∷ words) w e = absurd (none-some w e)
-
 pub one_net : (words : List (List ℕ)) (name net : List ℕ) → two words ≡ Some (record { first = name; second = net }) → host_of (name ∷ net ∷ []) ≡ host_of words
-one_net words name net e = ap host_of (sym (two_are words (record { first = name; second = net }) e))
+one_net words name net e = ap host_of (sym (two-is words (record { first = name; second = net }) e))
 
 pub two_nets : (words : List (List ℕ)) (name net other : List ℕ) → three words ≡ Some (record { first = name; second = net; third = other }) → host_of (name ∷ net ∷ other ∷ []) ≡ host_of words
-two_nets words name net other e = ap host_of (sym (three_are words (record { first = name; second = net; third = other }) e))
+two_nets words name net other e = ap host_of (sym (three-is words (record { first = name; second = net; third = other }) e))
 
 if_false : {A : Type 0} (b : Bool) (x : A) → (if b && false then Some x else None) ≡ None
 if_false true x = refl
@@ -118,11 +106,11 @@ no_nets (name ∷ net ∷ other ∷ []) a b = absurd (none-some (record { first 
 no_nets (name ∷ net ∷ other ∷ word ∷ words) a b = if_false (is_name name) (line.Host name [])
 
 pub open_two : (words : List (List ℕ)) (name path : List ℕ) → two words ≡ Some (record { first = name; second = path }) → open_of words ≡ kept (step.Open name path None)
-open_two words name path e = ap open_of (two_are words (record { first = name; second = path }) e)
+open_two words name path e = ap open_of (two-is words (record { first = name; second = path }) e)
 
 pub open_three : (words : List (List ℕ)) (name path word : List ℕ) → three words ≡ Some (record { first = name; second = path; third = word })
     → open_of words ≡ option_and_then (λ (m : Mode). kept (step.Open name path (Some m))) (mode_named word)
-open_three words name path word e = ap open_of (three_are words (record { first = name; second = path; third = word }) e)
+open_three words name path word e = ap open_of (three-is words (record { first = name; second = path; third = word }) e)
 
 pub no_open : (words : List (List ℕ)) → two words ≡ None → three words ≡ None → open_of words ≡ None
 no_open [] a b = refl
@@ -142,7 +130,7 @@ of_one_none make (a ∷ []) e = absurd (none-some a (sym e))
 of_one_none make (a ∷ b ∷ words) e = refl
 
 pub of_two_is : (make : List ℕ → List ℕ → Step) (words : List (List ℕ)) (a b : List ℕ) → two words ≡ Some (record { first = a; second = b }) → of_two make words ≡ kept (make a b)
-of_two_is make words a b e = ap (of_two make) (two_are words (record { first = a; second = b }) e)
+of_two_is make words a b e = ap (of_two make) (two-is words (record { first = a; second = b }) e)
 
 pub of_two_none : (make : List ℕ → List ℕ → Step) (words : List (List ℕ)) → two words ≡ None → of_two make words ≡ None
 of_two_none make [] e = refl

@@ -2,8 +2,8 @@ use Rattle.std.proofs.Common.{◌≡◌, ap, subst, List, Some, length, slice_ge
 use Rattle.net_base.specs.declared.history.Entry.{Entry}
 use Rattle.net_base.specs.declared.world.Script.{Script}
 use Rattle.plain_runner.specs.Callers.{IsCaller}
-use Rattle.script_steps.proofs.Entries.{got}
 use Rattle.script_steps.proofs.steps.put_scripts.Goals as goal
+use Rattle.plain_runner.proofs.Recorded.{got}
 
 pub put_script-requires-clause-caller : goal.put_script-requires-clause-caller
 put_script-requires-clause-caller c =
