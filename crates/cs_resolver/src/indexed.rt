@@ -164,7 +164,7 @@ fn add_lines<L: Ledger>(
     steps: &mut Steps<L>,
 ) -> Result<(), AllocError>
     ensures lines { OnOk result (lines.new ≡ lines.old
-        ++ spec.lines_of index.now service.now (target_texts targets.now) net) }
+        ++ spec.address_lines index.now service.now (target_texts targets.now) net) }
     ensures cost { steps.new ≤ steps.old + service_found index.now service.now net }
 {
     let ports = ports_of(alloc, index, service, net, steps)?;
@@ -182,7 +182,7 @@ fn all_lines<L: Ledger>(
     steps: &mut Steps<L>,
 ) -> Result<Lines, AllocError>
     ensures lines { IfOk result (λ lines. lines
-        ≡ flat_map (spec.lines_of index.now query.entry.service.now (target_texts targets.now))
+        ≡ flat_map (spec.address_lines index.now query.entry.service.now (target_texts targets.now))
         (spec.nets_of nets.now query.entry.net.now)) }
     ensures cost { steps.new ≤ steps.old
         + sum_by (service_found index.now query.entry.service.now) (spec.nets_of nets.now query.entry.net.now) }

@@ -33,7 +33,7 @@ fn add_lines(
     lines: &mut Lines,
 ) -> Result<(), AllocError>
     ensures { OnOk result (lines.new ≡ lines.old
-        ++ spec.lines_of db.now service.now (target_texts targets.now) net) }
+        ++ spec.address_lines db.now service.now (target_texts targets.now) net) }
 {
     let ports = ports_of(alloc, db, service, net)?;
     add_lines_of(alloc, net, targets, &ports, lines)?;
@@ -49,7 +49,7 @@ fn all_lines(
     service: &[u8],
 ) -> Result<Lines, AllocError>
     ensures { IfOk result (λ lines. lines
-        ≡ flat_map (spec.lines_of db.now service.now (target_texts targets.now)) nets.now) }
+        ≡ flat_map (spec.address_lines db.now service.now (target_texts targets.now)) nets.now) }
 {
     let mut lines = Lines::new(alloc);
     for net in nets {

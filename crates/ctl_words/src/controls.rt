@@ -52,8 +52,8 @@ fn said(line: &[u8]) -> Option<Ctl>
 
 // Keeps a control whose spelling is the line.
 fn keep(line: &[u8], control: Ctl) -> Option<Ctl>
-    requires { spec.in_range control ≡ true }
-    ensures { result ≡ spec.checked line.now (Some control) }
+    requires { spec.control_in_range control ≡ true }
+    ensures { result ≡ spec.checked_control line.now (Some control) }
 {
     if is_spelled(line, &control) {
         Some(control)
@@ -64,7 +64,7 @@ fn keep(line: &[u8], control: Ctl) -> Option<Ctl>
 
 // What `connect` and these arguments say.
 fn connect(line: &[u8], arguments: &[u8]) -> Option<Ctl>
-    ensures { result ≡ spec.checked line.now (spec.connect_of (slice_split (λ b. b == 32) arguments.now)) }
+    ensures { result ≡ spec.checked_control line.now (spec.connect_of (slice_split (λ b. b == 32) arguments.now)) }
 {
     let (at, rest) = split_first(arguments, b' ');
     match rest {
@@ -79,7 +79,7 @@ fn connect(line: &[u8], arguments: &[u8]) -> Option<Ctl>
 // Connects to a place.
 
 fn connect_to(line: &[u8], at: &[u8]) -> Option<Ctl>
-    ensures { result ≡ spec.checked line.now (spec.connect_of (at.now ∷ [])) }
+    ensures { result ≡ spec.checked_control line.now (spec.connect_of (at.now ∷ [])) }
 {
     match place(at) {
         Some(remote) => keep(
@@ -96,7 +96,7 @@ fn connect_to(line: &[u8], at: &[u8]) -> Option<Ctl>
 // Connects to a place from a port.
 
 fn connect_from(line: &[u8], at: &[u8], last: &[u8]) -> Option<Ctl>
-    ensures { result ≡ spec.checked line.now (spec.connect_of (at.now ∷ last.now ∷ [])) }
+    ensures { result ≡ spec.checked_control line.now (spec.connect_of (at.now ∷ last.now ∷ [])) }
 {
     match (place(at), port(last)) {
         (Some(remote), Some(port)) => keep(
@@ -112,7 +112,7 @@ fn connect_from(line: &[u8], at: &[u8], last: &[u8]) -> Option<Ctl>
 
 // What `announce` and these arguments say.
 fn announce(line: &[u8], arguments: &[u8]) -> Option<Ctl>
-    ensures { result ≡ spec.checked line.now (option_and_then (λ (at : List ℕ). spec.announce_of (spec.parts_of_place at)) (spec.single (slice_split (λ b. b == 32) arguments.now))) }
+    ensures { result ≡ spec.checked_control line.now (option_and_then (λ (at : List ℕ). spec.announce_of (spec.parts_of_place at)) (spec.single (slice_split (λ b. b == 32) arguments.now))) }
 {
     match single(arguments, b' ') {
         Some(at) => announce_at(line, at),
@@ -122,7 +122,7 @@ fn announce(line: &[u8], arguments: &[u8]) -> Option<Ctl>
 
 // Announces a place.
 fn announce_at(line: &[u8], at: &[u8]) -> Option<Ctl>
-    ensures { result ≡ spec.checked line.now (spec.announce_of (spec.parts_of_place at.now)) }
+    ensures { result ≡ spec.checked_control line.now (spec.announce_of (spec.parts_of_place at.now)) }
 {
     let (host, rest) = split_first(at, b'!');
     match rest {
@@ -136,7 +136,7 @@ fn announce_at(line: &[u8], at: &[u8]) -> Option<Ctl>
 
 // A star or a port.
 fn announce_port(line: &[u8], host: &[u8]) -> Option<Ctl>
-    ensures { result ≡ spec.checked line.now (spec.announce_of (host.now ∷ [])) }
+    ensures { result ≡ spec.checked_control line.now (spec.announce_of (host.now ∷ [])) }
 {
     if host == b"*".as_slice() {
         return keep(
@@ -154,7 +154,7 @@ fn announce_port(line: &[u8], host: &[u8]) -> Option<Ctl>
 
 fn announce_both(line: &[u8], at: &[u8], host: &[u8], last: &[u8]) -> Option<Ctl>
     requires { spec.parts_of_place at.now ≡ host.now ∷ last.now ∷ [] }
-    ensures { result ≡ spec.checked line.now (spec.announce_of (host.now ∷ last.now ∷ [])) }
+    ensures { result ≡ spec.checked_control line.now (spec.announce_of (host.now ∷ last.now ∷ [])) }
 {
     if host == b"*".as_slice() {
         return announce_anywhere(line, last);
@@ -173,7 +173,7 @@ fn announce_both(line: &[u8], at: &[u8], host: &[u8], last: &[u8]) -> Option<Ctl
 
 // A port at any address.
 fn announce_anywhere(line: &[u8], last: &[u8]) -> Option<Ctl>
-    ensures { result ≡ spec.checked line.now (Some (ctl.Announce None (Some (digits_value 10 last.now)))) }
+    ensures { result ≡ spec.checked_control line.now (Some (ctl.Announce None (Some (digits_value 10 last.now)))) }
 {
     match port(last) {
         Some(port) => keep(
@@ -189,7 +189,7 @@ fn announce_anywhere(line: &[u8], last: &[u8]) -> Option<Ctl>
 
 // What `bind` and these arguments say.
 fn bind(line: &[u8], arguments: &[u8]) -> Option<Ctl>
-    ensures { result ≡ spec.checked line.now (spec.with_number (λ n. ctl.Bind n) (slice_split (λ b. b == 32) arguments.now)) }
+    ensures { result ≡ spec.checked_control line.now (spec.with_number (λ n. ctl.Bind n) (slice_split (λ b. b == 32) arguments.now)) }
 {
     let only = single(arguments, b' ')?;
     match port(only) {
@@ -200,7 +200,7 @@ fn bind(line: &[u8], arguments: &[u8]) -> Option<Ctl>
 
 // What `ttl` and these arguments say.
 fn ttl(line: &[u8], arguments: &[u8]) -> Option<Ctl>
-    ensures { result ≡ spec.checked line.now (spec.with_number (λ n. ctl.Ttl n) (slice_split (λ b. b == 32) arguments.now)) }
+    ensures { result ≡ spec.checked_control line.now (spec.with_number (λ n. ctl.Ttl n) (slice_split (λ b. b == 32) arguments.now)) }
 {
     let only = single(arguments, b' ')?;
     match byte(only) {
@@ -211,7 +211,7 @@ fn ttl(line: &[u8], arguments: &[u8]) -> Option<Ctl>
 
 // What `tos` and these arguments say.
 fn tos(line: &[u8], arguments: &[u8]) -> Option<Ctl>
-    ensures { result ≡ spec.checked line.now (spec.with_number (λ n. ctl.Tos n) (slice_split (λ b. b == 32) arguments.now)) }
+    ensures { result ≡ spec.checked_control line.now (spec.with_number (λ n. ctl.Tos n) (slice_split (λ b. b == 32) arguments.now)) }
 {
     let only = single(arguments, b' ')?;
     match byte(only) {

@@ -37,7 +37,7 @@ pub fn first_word(text: &[u8]) -> &[u8]
 
 /// Whether it is one of the six words.
 pub fn is_word(word: &[u8]) -> bool
-    ensures { result ≡ spec.is_word word.now }
+    ensures { result ≡ spec.is_control_word word.now }
 {
     word == b"connect".as_slice()
         || word == b"announce".as_slice()

@@ -16,7 +16,7 @@ pub enum Piece {
 
 /// Writes a control without a newline, and gives its length.
 pub fn write_ctl(ctl: &Ctl, out: &mut [u8; 48]) -> usize
-    requires in_range { spec.in_range ctl.now ≡ true }
+    requires in_range { spec.control_in_range ctl.now ≡ true }
     ensures len { result ≡ length (spec.spelling ctl.now) }
     ensures written { out.new ≡ spec.spelling ctl.now ++ drop result out.old }
 {
@@ -47,7 +47,7 @@ pub fn write_ctl(ctl: &Ctl, out: &mut [u8; 48]) -> usize
 
 /// Whether a line is the one that a control is written as, or its short form.
 pub fn is_spelled(line: &[u8], control: &Ctl) -> bool
-    requires { spec.in_range control.now ≡ true }
+    requires { spec.control_in_range control.now ≡ true }
     ensures { result ≡ (bytes_eq line.now (spec.spelling control.now) || option_map_or (λ (short : List ℕ). bytes_eq line.now short) (spec.short_spelling control.now) false) }
 {
     let mut out = [0; 48];

@@ -4,7 +4,7 @@ use Rattle.net_base.specs.declared.names.Mode.TheVariants as mode
 use Rattle.net_base.specs.declared.reply.Reply.{Reply}
 use Rattle.net_base.specs.declared.world.Step.{Step}
 use Rattle.net_base.specs.declared.world.Step.TheVariants as step
-use Rattle.net_base.specs.Steps.{Names, Fid, Play, Ends, fid_of, is_bound, bind, unbind, puts, closes, netmkaddr, lines_in, clone_path, line_address, is_accepted, announces, play_of}
+use Rattle.net_base.specs.Steps.{Names, Fid, Play, Ends, fid_of, is_bound, bind, unbind, puts_text, closes_fid, netmkaddr, reply_lines, clone_path, line_address, is_accepted, announces_line, play_of}
 use Rattle.dial_lib.specs.Lines.{first, first_line}
 use Rattle.dial_lib.specs.declared.announce.Announce.{Announce}
 use Rattle.dial_lib.specs.declared.announce.AnnouncePhase.{AnnouncePhase}
@@ -43,7 +43,7 @@ phase_after phase.Close r = phase.Through
 phase_after phase.Through r = phase.Through
 
 abbrev pub lines_after : AnnouncePhase → Reply → List (List ℕ) → List (List ℕ)
-lines_after phase.Fresh r lines = lines_in r
+lines_after phase.Fresh r lines = reply_lines r
 lines_after _ r lines = lines
 
 -- the announce after a reply
@@ -53,17 +53,17 @@ after t r = record t { phase = phase_after t.phase r; lines = lines_after t.phas
 -- The play that it stands for.
 
 abbrev pub writing : ℕ → List ℕ → Names → Fid → List ℕ → Play
-writing h called base made line = puts h made made.file (codes "announce " ++ line_address line) (closes h made (Ends base) (Ends base)) (Ends (bind called made base))
+writing h called base made line = puts_text h made made.file (codes "announce " ++ line_address line) (closes_fid h made (Ends base) (Ends base)) (Ends (bind called made base))
 
 pub data Stands (h : ℕ) (called address : List ℕ) (names : Names) : AnnouncePhase → List (List ℕ) → Play → Type 0 where
   IsFresh : (lines : List (List ℕ)) → Stands h called address names phase.Fresh lines (play_of h names (step.Announce called address))
-  IsOpen : (lines : List (List ℕ)) → is_bound names called ≡ false → Stands h called address names phase.Open lines (announces h called names lines)
+  IsOpen : (lines : List (List ℕ)) → is_bound names called ≡ false → Stands h called address names phase.Open lines (announces_line h called names lines)
   -- the name was bound already
   IsOver : Stands h called address names phase.Open [] (Ends names)
   IsWrite : (base : Names) (made : Fid) (line : List ℕ) (lines : List (List ℕ)) → is_bound base called ≡ false → names ≡ bind called made base → made.mode ≡ mode.Both
       → Stands h called address names phase.Write (line ∷ lines) (writing h called base made line)
   IsClose : (base : Names) (made : Fid) (lines : List (List ℕ)) → fid_of called names ≡ Some made → unbind called names ≡ base
-      → Stands h called address names phase.Close lines (closes h made (Ends base) (Ends base))
+      → Stands h called address names phase.Close lines (closes_fid h made (Ends base) (Ends base))
   IsThrough : (lines : List (List ℕ)) → Stands h called address names phase.Through lines (Ends names)
 
 abbrev pub StandsFor : ℕ → Names → Announce → Play → Type 0

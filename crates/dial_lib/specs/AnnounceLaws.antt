@@ -3,8 +3,8 @@ use Rattle.std.proofs.Common.{◌≡◌, ℕ, Bool, true, false, List, [], ◌�
 use Rattle.net_base.specs.declared.names.Mode.TheVariants as mode
 use Rattle.net_base.specs.declared.reply.Reply.{Reply}
 use Rattle.net_base.specs.declared.world.Step.TheVariants as step
-use Rattle.net_base.specs.Paths.{walk, writes}
-use Rattle.net_base.specs.Steps.{Names, Fid, Play, Ends, fid_of, is_bound, bind, unbind, uses, on_fid, puts, closes, asks_cs, netmkaddr, opened_fid, openable, announces, clone_path, line_address, lines_in, is_accepted, if_accepted, play_of}
+use Rattle.net_base.specs.Paths.{walk, mode_writes}
+use Rattle.net_base.specs.Steps.{Names, Fid, Play, Ends, fid_of, is_bound, bind, unbind, uses, on_fid, puts_text, closes_fid, asks_cs, netmkaddr, opened_fid, openable, announces_line, clone_path, line_address, reply_lines, is_accepted, if_accepted, play_of}
 use Rattle.dial_lib.specs.declared.announce.Announce.{Announce}
 use Rattle.dial_lib.specs.declared.announce.AnnouncePhase.{AnnouncePhase}
 use Rattle.dial_lib.specs.declared.announce.AnnouncePhase.TheVariants as phase
@@ -25,7 +25,7 @@ use Rattle.net_base.proofs.Shared.{same_text}
 
 fresh_heads : (h : ℕ) (names : Names) (called address : List ℕ) (b : Bool)
     → Heads h names (Some (if b then request.Unbound called else request.Cs (netmkaddr address (codes "net") (codes "9fs"))))
-    (if b then uses h called names else asks_cs h address (announces h called names))
+    (if b then uses h called names else asks_cs h address (announces_line h called names))
 fresh_heads h names called address true = (_, refl, refl)
 fresh_heads h names called address false = (_, refl, refl)
 
@@ -35,10 +35,10 @@ found called base names made is = rw (is, same_text called) refl
 
 -- a text goes to a file that a name is bound to
 pub writing_heads : (h : ℕ) (names : Names) (called text : List ℕ) (made : Fid) → fid_of called names ≡ Some made → made.mode ≡ mode.Both
-    → (refused next : Play) → Heads h names (Some (request.Write called text)) (puts h made made.file text refused next)
+    → (refused next : Play) → Heads h names (Some (request.Write called text)) (puts_text h made made.file text refused next)
 writing_heads h names called text made is both refused next =
     let put = puts_head h made made.file text in
-    (put.0, put.1 refused next, rw (is) (chosen (writes made.mode) _ _ put.0 (ap writes both) (put.1 (Ends names) (Ends names))))
+    (put.0, put.1 refused next, rw (is) (chosen (mode_writes made.mode) _ _ put.0 (ap mode_writes both) (put.1 (Ends names) (Ends names))))
 
 heads : (h : ℕ) (called address : List ℕ) (names : Names) (ph : AnnouncePhase) (lines : List (List ℕ)) (p : Play)
     → Stands h called address names ph lines p → Heads h names (spec.asks_by ph called address lines names) p
@@ -47,18 +47,18 @@ heads h called address names _ _ _ (IsOpen [] free) = refl
 heads h called address names _ _ _ (IsOpen (line ∷ lines) free) = (_, refl, rw free refl)
 heads h called address names _ _ _ IsOver = refl
 heads h called address names _ _ _ (IsWrite base made line lines free is both) =
-    writing_heads h names called (codes "announce " ++ line_address line) made (found called base names made is) both (closes h made (Ends base) (Ends base)) (Ends (bind called made base))
+    writing_heads h names called (codes "announce " ++ line_address line) made (found called base names made is) both (closes_fid h made (Ends base) (Ends base)) (Ends (bind called made base))
 heads h called address names _ _ _ (IsClose base made lines is left) = (_, refl, rw is refl)
 heads h called address names _ _ _ (IsThrough lines) = refl
 
 -- Its replies.
 
 move_fresh : (h : ℕ) (called address : List ℕ) (names : Names) (r : Reply) (b : Bool) → is_bound names called ≡ b
-    → fits_play (if b then uses h called names else asks_cs h address (announces h called names)) r ≡ true
-    → Stands h called address (settled names (if b then request.Unbound called else request.Cs (netmkaddr address (codes "net") (codes "9fs"))) r) phase.Open (lines_in r)
-    (follow (if b then uses h called names else asks_cs h address (announces h called names)) r)
+    → fits_play (if b then uses h called names else asks_cs h address (announces_line h called names)) r ≡ true
+    → Stands h called address (settled names (if b then request.Unbound called else request.Cs (netmkaddr address (codes "net") (codes "9fs"))) r) phase.Open (reply_lines r)
+    (follow (if b then uses h called names else asks_cs h address (announces_line h called names)) r)
 move_fresh h called address names r true is fit = rw (no_lines r (unopened_no r fit)) IsOver
-move_fresh h called address names r false is fit = IsOpen (lines_in r) is
+move_fresh h called address names r false is fit = IsOpen (reply_lines r) is
 
 move_line : (h : ℕ) (called address : List ℕ) (names : Names) (line : List ℕ) (lines : List (List ℕ)) (o : Option Fid) (r : Reply) → is_bound names called ≡ false → Gave mode.Both o r
     → Stands h called address (bound_after called names o) (if is_opening r then phase.Write else phase.Through) (line ∷ lines) (on_fid o (Ends names) (λ (made : Fid). writing h called names made line))
@@ -73,9 +73,9 @@ pub front_left : (called : List ℕ) (base names : Names) (made : Fid) → is_bo
 front_left called base names made free is = rw (is, same_text called) (unbind_free called base free)
 
 move_write : (h : ℕ) (called address : List ℕ) (base names : Names) (made : Fid) (line : List ℕ) (lines : List (List ℕ)) (r : Reply) → is_bound base called ≡ false → names ≡ bind called made base
-    → Stands h called address names (spec.phase_after phase.Write r) (line ∷ lines) (if_accepted r (Ends (bind called made base)) (closes h made (Ends base) (Ends base)))
+    → Stands h called address names (spec.phase_after phase.Write r) (line ∷ lines) (if_accepted r (Ends (bind called made base)) (closes_fid h made (Ends base) (Ends base)))
 move_write h called address base names made line lines r free is =
-    by_test (λ b p. Stands h called address names (if b then phase.Through else phase.Close) (line ∷ lines) p) (is_accepted r) (Ends (bind called made base)) (closes h made (Ends base) (Ends base))
+    by_test (λ b p. Stands h called address names (if b then phase.Through else phase.Close) (line ∷ lines) p) (is_accepted r) (Ends (bind called made base)) (closes_fid h made (Ends base) (Ends base))
     (subst (λ (bound : Names). Stands h called address names phase.Through (line ∷ lines) (Ends bound)) is (IsThrough (line ∷ lines)))
     (IsClose base made (line ∷ lines) (found called base names made is) (front_left called base names made free is))
 
@@ -91,7 +91,7 @@ moves h called address names _ _ _ q r (IsOpen (line ∷ lines) free) asked fit 
 moves h called address names _ _ _ q r IsOver asked fit = absurd (search (rules, asked))
 moves h called address names _ _ _ q r (IsWrite base made line lines free is both) asked fit =
     subst (λ (p : Play). Stands h called address names (spec.phase_after phase.Write r) (line ∷ lines) p)
-    (sym (put_other h made made.file (codes "announce " ++ line_address line) r (closes h made (Ends base) (Ends base)) (Ends (bind called made base)) (announces_other (line_address line))))
+    (sym (put_other h made made.file (codes "announce " ++ line_address line) r (closes_fid h made (Ends base) (Ends base)) (Ends (bind called made base)) (announces_other (line_address line))))
     (move_write h called address base names made line lines r free is)
 moves h called address names _ _ _ q r (IsClose base made lines is left) asked fit =
     rw (left) (by_test (λ b p. Stands h called address base phase.Through lines p) (is_accepted r) (Ends base) (Ends base) (IsThrough lines) (IsThrough lines))

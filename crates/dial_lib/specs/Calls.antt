@@ -8,7 +8,7 @@ use Rattle.net_base.specs.declared.names.FileName.TheVariants as file
 use Rattle.net_base.specs.declared.names.Mode.{Mode}
 use Rattle.net_base.specs.declared.names.Mode.TheVariants as mode
 use Rattle.net_base.specs.declared.reply.Reply.{Reply}
-use Rattle.net_base.specs.Steps.{Names, Fid, Play, Asks, Ends, fid_of, is_bound, bind, is_accepted, if_accepted, conversation_of, opens_beside, closes as closes_file, data_name, call_name, remote_name, local_name, taken_name, closes_all, bytes_in, address_told, tells_address, with_call}
+use Rattle.net_base.specs.Steps.{Names, Fid, Play, Asks, Ends, fid_of, is_bound, bind, is_accepted, if_accepted, conversation_of, opens_beside, closes_fid as closes_file, data_name, call_name, remote_name, local_name, taken_name, closes_all, bytes_in, address_told, tells_address, with_call}
 use Rattle.dial_lib.specs.declared.call.CallPhase.{CallPhase}
 use Rattle.dial_lib.specs.declared.call.CallPhase.TheVariants as phase
 use Rattle.dial_lib.specs.Beside.{opens_so}

@@ -5,7 +5,7 @@ use Rattle.net_base.specs.declared.names.Mode.TheVariants as mode
 use Rattle.net_base.specs.declared.names.Node.TheVariants as node
 use Rattle.net_base.specs.declared.reply.Reply.{Reply}
 use Rattle.net_base.specs.Paths.{walk}
-use Rattle.net_base.specs.Steps.{Names, Fid, Play, Ends, fid_of, is_bound, bind, unbind, uses, asks_cs, closes_last, connected, dials, dotted_name, clone_path, line_address, opened_fid, openable, on_fid, is_accepted, lines_in}
+use Rattle.net_base.specs.Steps.{Names, Fid, Play, Ends, fid_of, is_bound, bind, unbind, uses, asks_cs, closes_last, connected, dials, dotted_name, clone_path, line_address, opened_fid, openable, on_fid, is_accepted, reply_lines}
 use Rattle.dial_lib.specs.declared.dial.DialPhase.{DialPhase}
 use Rattle.dial_lib.specs.declared.dial.DialPhase.TheVariants as phase
 use Rattle.dial_lib.specs.AnnounceLaws.{front_left, open_settle}
@@ -26,10 +26,10 @@ unbind_front called base names made holds = front_left (dotted_name called) base
 
 move_fresh : (h : ℕ) (called address : List ℕ) (names : Names) (r : Reply) (b c : Bool) → is_bound names called ≡ b → is_bound names (dotted_name called) ≡ c
     → fits_play (if b then uses h called names else (if c then uses h (dotted_name called) names else asks_cs h address (dials h called names))) r ≡ true
-    → Stands h called address names phase.Open (lines_in r) (follow (if b then uses h called names else (if c then uses h (dotted_name called) names else asks_cs h address (dials h called names))) r)
+    → Stands h called address names phase.Open (reply_lines r) (follow (if b then uses h called names else (if c then uses h (dotted_name called) names else asks_cs h address (dials h called names))) r)
 move_fresh h called address names r true c is so fit = rw (no_lines r (unopened_no r fit)) IsOver
 move_fresh h called address names r false true is so fit = rw (no_lines r (unopened_no r fit)) IsOver
-move_fresh h called address names r false false is so fit = IsOpen (lines_in r) (record { name = is; dotted = so })
+move_fresh h called address names r false false is so fit = IsOpen (reply_lines r) (record { name = is; dotted = so })
 
 settle_fresh : (names : Names) (called dotted address : List ℕ) (r : Reply) (b c : Bool) → is_bound names called ≡ b → is_bound names dotted ≡ c → settled names (begins names called dotted address) r ≡ names
 settle_fresh names called dotted address r true c is so = rw (is) refl

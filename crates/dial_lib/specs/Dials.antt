@@ -6,7 +6,7 @@ use Rattle.net_base.specs.declared.names.Mode.TheVariants as mode
 use Rattle.net_base.specs.declared.reply.Reply.{Reply}
 use Rattle.net_base.specs.declared.world.Step.{Step}
 use Rattle.net_base.specs.declared.world.Step.TheVariants as step
-use Rattle.net_base.specs.Steps.{Names, Fid, Play, Asks, Ends, fid_of, is_bound, bind, unbind, is_accepted, if_accepted, conversation_of, puts, closes, closes_last, connected, dials, netmkaddr, lines_in, clone_path, line_address, dotted_name, play_of}
+use Rattle.net_base.specs.Steps.{Names, Fid, Play, Asks, Ends, fid_of, is_bound, bind, unbind, is_accepted, if_accepted, conversation_of, puts_text, closes_fid, closes_last, connected, dials, netmkaddr, reply_lines, clone_path, line_address, dotted_name, play_of}
 use Rattle.dial_lib.specs.Beside.{opens_file}
 use Rattle.dial_lib.specs.Lines.{first, first_line, other_lines}
 use Rattle.dial_lib.specs.declared.dial.DialPhase.{DialPhase}
@@ -67,7 +67,7 @@ phase_after phase.Close r = phase.Through
 phase_after phase.Through r = phase.Through
 
 abbrev pub lines_after : DialPhase → Reply → List (List ℕ) → List (List ℕ)
-lines_after phase.Fresh r lines = lines_in r
+lines_after phase.Fresh r lines = reply_lines r
 lines_after phase.Open r lines = if is_opening r then lines else other_lines lines
 lines_after phase.Retry r lines = other_lines lines
 lines_after _ r lines = lines
@@ -92,12 +92,12 @@ pub record Holds (called : List ℕ) (base names : Names) (made : Fid) : Type 0 
 
 -- the ctl file is closed and the next line is tried
 abbrev pub retrying : ℕ → List ℕ → Names → Fid → List (List ℕ) → Play
-retrying h called base made lines = closes h made (Ends base) (dials h called base lines)
+retrying h called base made lines = closes_fid h made (Ends base) (dials h called base lines)
 
 -- a line's address is written to its ctl file
 abbrev pub connecting : ℕ → List ℕ → Names → Fid → List ℕ → List (List ℕ) → Play
 connecting h called base made line lines =
-    puts h made made.file (codes "connect " ++ line_address line) (retrying h called base made lines) (connected h called base made)
+    puts_text h made made.file (codes "connect " ++ line_address line) (retrying h called base made lines) (connected h called base made)
 
 abbrev pub waiting : ℕ → List ℕ → Names → Fid → List (List ℕ) → Play
 waiting h called base made lines =

@@ -6,7 +6,7 @@ use Rattle.net_base.specs.declared.event.Event.TheVariants as event
 use Rattle.net_base.specs.declared.reply.Reply.{Reply}
 use Rattle.net_base.specs.declared.world.Step.{Step}
 use Rattle.net_base.specs.DomainAnswers.{dns_answer, is_answered}
-use Rattle.net_base.specs.Steps.{Names, Play, Asks, Ends, is_accepted, if_accepted, conversation_of, closes, data_name, bytes_in, closes_all, leaves_call, answers_call, serves, play_of}
+use Rattle.net_base.specs.Steps.{Names, Play, Asks, Ends, is_accepted, if_accepted, conversation_of, closes_fid, data_name, bytes_in, closes_all, leaves_call, answers_call, serves, play_of}
 use Rattle.dial_lib.specs.declared.call.CallPhase.{CallPhase}
 use Rattle.dial_lib.specs.declared.call.CallPhase.TheVariants as phase
 use Rattle.dial_lib.specs.declared.dns.Dns.{Dns}
@@ -87,7 +87,7 @@ pub data Stands (h : ℕ) (called : List ℕ) : Names → CallPhase → ℕ → 
       → Stands h called (calls.open_names base p n g k) phase.LeaveData more message
       (leaves_call h (calls.call_fid p n g) (calls.data_fid p n k) (Ends base) (then_more h called more base))
   IsLeaveCall : (base : Names) (p : Proto) (n g : ℕ) (more : ℕ) (message : List ℕ) → calls.AreFree base
-      → Stands h called (calls.taken_names base p n g) phase.LeaveCall more message (closes h (calls.call_fid p n g) (Ends base) (then_more h called more base))
+      → Stands h called (calls.taken_names base p n g) phase.LeaveCall more message (closes_fid h (calls.call_fid p n g) (Ends base) (then_more h called more base))
 
 abbrev pub StandsFor : ℕ → Names → Dns → Play → Type 0
 StandsFor h names t p = Stands h t.name names t.phase t.more t.message p

@@ -5,9 +5,9 @@ use Rattle.net_base.specs.declared.address.Proto.{Proto}
 use Rattle.net_base.specs.declared.names.FileName.TheVariants as file
 use Rattle.net_base.specs.declared.reply.Reply.{Reply}
 use Rattle.net_base.specs.declared.world.Step.TheVariants as step
-use Rattle.net_base.specs.DomainAnswers.{dns_answer, is_answered, answer_read}
+use Rattle.net_base.specs.DomainAnswers.{dns_answer, is_answered, answer_question}
 use Rattle.net_base.specs.DomainQuestions.{question_of}
-use Rattle.net_base.specs.Steps.{Names, Play, Ends, unbind, is_accepted, closes, data_name, call_name, taken_name, remote_name, local_name, bytes_in, address_told, nowhere, leaves_call, answers_call, serves, with_call, play_of}
+use Rattle.net_base.specs.Steps.{Names, Play, Ends, unbind, is_accepted, closes_fid, data_name, call_name, taken_name, remote_name, local_name, bytes_in, address_told, nowhere, leaves_call, answers_call, serves, with_call, play_of}
 use Rattle.net_base.specs.Versions.{Tuples}
 use Rattle.dial_lib.specs.declared.call.CallPhase.{CallPhase}
 use Rattle.dial_lib.specs.declared.call.CallPhase.TheVariants as phase
@@ -31,7 +31,7 @@ some_left more = lt_test 0 (suc more) (omega arith)
     lt_test : (k n : ℕ) → k < n → nat_lt k n ≡ true
     lt_test k n lt = search (rules, tests, lt)
 
-answer_is_some : (zone : Tuples) (message : List ℕ) → is_answered message ≡ true → dns_answer zone message ≡ Some (answer_read zone message (question_of message))
+answer_is_some : (zone : Tuples) (message : List ℕ) → is_answered message ≡ true → dns_answer zone message ≡ Some (answer_question zone message (question_of message))
 answer_is_some zone message is = rw is refl
 
 -- The beginning.
@@ -94,7 +94,7 @@ asks_so h names t p stands = heads h t.name names t.phase t.more t.message p sta
 -- what is read has an answer, or the call is closed
 moved_read : (h : ℕ) (called : List ℕ) (more : ℕ) (base : Names) (p : Proto) (n g k : ℕ) (message : List ℕ) → AreFree base → (b : Bool) → is_answered message ≡ b
     → Stands h called (open_names base p n g k) (if_so b phase.Answer phase.LeaveData) more message
-    (answers_call h (call_fid p n g) (data_fid p n k) (if b then Some (answer_read base.zone message (question_of message)) else None) (Ends base) (spec.then_more h called more base))
+    (answers_call h (call_fid p n g) (data_fid p n k) (if b then Some (answer_question base.zone message (question_of message)) else None) (Ends base) (spec.then_more h called more base))
 moved_read h called more base p n g k message free true is =
     subst (λ (o : Option (List ℕ)). Stands h called (open_names base p n g k) phase.Answer more message (answers_call h (call_fid p n g) (data_fid p n k) o (Ends base) (spec.then_more h called more base)))
     (answer_is_some base.zone message is) (IsAnswer base p n g k more message free is)
@@ -142,15 +142,15 @@ moved_by h called more message base p n g k r free text o is =
 -- the data file was closed
 left_data : (h : ℕ) (called : List ℕ) (more : ℕ) (message : List ℕ) (base : Names) (p : Proto) (n g : ℕ) → AreFree base → (b : Bool)
     → Stands h called (taken_names base p n g) (if_so b phase.LeaveCall phase.ShutCall) more message
-    (if b then closes h (call_fid p n g) (Ends base) (spec.then_more h called more base) else shuts_call h base p n g)
+    (if b then closes_fid h (call_fid p n g) (Ends base) (spec.then_more h called more base) else shuts_call h base p n g)
 left_data h called more message base p n g free true = IsLeaveCall base p n g more message free
 left_data h called more message base p n g free false = IsTaking _ _ more message nowhere nowhere _ (IsShutCall base p n g nowhere nowhere free)
 
 moved_data : (h : ℕ) (called : List ℕ) (more : ℕ) (message : List ℕ) (base : Names) (p : Proto) (n g k : ℕ) → AreFree base → (b : Bool)
     → Stands h called (unbind data_name (open_names base p n g k)) (if_so b phase.LeaveCall phase.ShutCall) more message
-    (if b then closes h (call_fid p n g) (Ends base) (spec.then_more h called more base) else shuts_call h base p n g)
+    (if b then closes_fid h (call_fid p n g) (Ends base) (spec.then_more h called more base) else shuts_call h base p n g)
 moved_data h called more message base p n g k free b =
-    subst (λ (names : Names). Stands h called names (if_so b phase.LeaveCall phase.ShutCall) more message (if b then closes h (call_fid p n g) (Ends base) (spec.then_more h called more base) else shuts_call h base p n g))
+    subst (λ (names : Names). Stands h called names (if_so b phase.LeaveCall phase.ShutCall) more message (if b then closes_fid h (call_fid p n g) (Ends base) (spec.then_more h called more base) else shuts_call h base p n g))
     (sym (laws.data_left base p n g k free)) (left_data h called more message base p n g free b)
 
 -- the ctl file was closed: the next call is taken, if one is left
@@ -174,7 +174,7 @@ moves h called _ _ _ _ _ r (IsTaking names ph more message remote local p takes)
     subst (λ (o : Option Request). Stands h called (settles names o r) (spec.phase_by ph more r) (spec.more_after ph more) (spec.message_after ph r message) (follow p r))
     (own_is h called more message names ph remote local p takes) (moved_taking h called more message names ph remote local p r takes fit)
 moves h called _ _ _ _ _ r (IsAnswer base p n g k more message free is) fit =
-    moved_by h called more message base p n g k r free (answer_read base.zone message (question_of message)) (dns_answer base.zone message) (sym (answer_is_some base.zone message is))
+    moved_by h called more message base p n g k r free (answer_question base.zone message (question_of message)) (dns_answer base.zone message) (sym (answer_is_some base.zone message is))
 moves h called _ _ _ _ _ r (IsLeaveData base p n g k more message free) fit = moved_data h called more message base p n g k free (is_accepted r)
 moves h called _ _ _ _ _ r (IsLeaveCall base p n g more message free) fit = moved_call h called more message base p n g free (is_accepted r)
 

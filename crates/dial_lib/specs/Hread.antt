@@ -4,7 +4,7 @@ use Rattle.net_base.specs.declared.address.Addr.{Addr}
 use Rattle.net_base.specs.declared.headers.Heard.{Heard}
 use Rattle.net_base.specs.declared.reply.Reply.{Reply}
 use Rattle.net_base.specs.declared.world.Step.{Step}
-use Rattle.net_base.specs.Steps.{Names, Play, data_name, hears, nowhere, play_of}
+use Rattle.net_base.specs.Steps.{Names, Play, data_name, hears_call, nowhere, play_of}
 use Rattle.dial_lib.specs.declared.call.CallPhase.TheVariants as phase
 use Rattle.dial_lib.specs.declared.hread.Hread.{Hread}
 use Rattle.dial_lib.specs.Calls as calls
@@ -36,7 +36,7 @@ after t r = record t {
 
 -- what follows a call that is open
 abbrev pub hears_next : ℕ → List ℕ → ℕ → calls.Next
-hears_next h called count base call data_file remote local = hears h base count call data_file (heard_so called remote local)
+hears_next h called count base call data_file remote local = hears_call h base count call data_file (heard_so called remote local)
 
 abbrev pub StandsFor : ℕ → Names → Hread → Play → Type 0
 StandsFor h names t p = calls.Takes h t.name (hears_next h t.name t.count) names t.phase t.remote t.local p

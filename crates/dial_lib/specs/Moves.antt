@@ -4,7 +4,7 @@ use Rattle.net_base.specs.declared.names.Mode.{Mode}
 use Rattle.net_base.specs.declared.reply.Reply.{Reply}
 use Rattle.net_base.specs.declared.reply.Reply.TheVariants as reply
 use Rattle.net_base.specs.Paths.{walk}
-use Rattle.net_base.specs.Steps.{Ask, Names, Fid, Play, Asks, Ends, is_bound, uses, opens, bind, opened_fid, openable, is_accepted, lines_in}
+use Rattle.net_base.specs.Steps.{Ask, Names, Fid, Play, Asks, Ends, is_bound, uses, opens, bind, opened_fid, openable, is_accepted, reply_lines}
 use Rattle.net_base.specs.declared.request.Request.{Request}
 use Rattle.net_base.specs.declared.request.Request.TheVariants as request
 use Rattle.script_task.specs.Fitting.{fits}
@@ -37,7 +37,7 @@ chosen true p other ask is heads = heads
 chosen false p other ask is heads = absurd (search (rules, is))
 
 -- a reply without lines
-pub no_lines : (r : Reply) → is_accepted r ≡ false → lines_in r ≡ []
+pub no_lines : (r : Reply) → is_accepted r ≡ false → reply_lines r ≡ []
 no_lines (reply.Lines lines) is = absurd (search (rules, is))
 no_lines r is = refl
 

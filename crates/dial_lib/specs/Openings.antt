@@ -11,7 +11,7 @@ use Rattle.net_base.specs.declared.names.Node.TheVariants as node
 use Rattle.net_base.specs.declared.address.Proto.{Proto}
 use Rattle.net_base.specs.declared.reply.Reply.{Reply}
 use Rattle.net_base.specs.declared.reply.Reply.TheVariants as reply
-use Rattle.net_base.specs.Paths.{walk, node_of, checked, may_open, in_range}
+use Rattle.net_base.specs.Paths.{walk, node_of, checked_node, may_open, node_in_range}
 use Rattle.net_base.specs.Steps.{Fid, is_accepted, opened_fid, openable, open_event}
 use Rattle.script_task.specs.Fitting.{fits, fits_write, is_granted, is_opening, is_unopened, fits_reserve, fits_listen, fits_open}
 use Rattle.dial_lib.specs.Names.{below}
@@ -57,7 +57,7 @@ gave_file m p n f r lt fit = Refuses refl (not-true (is_opening r) fit)
 
 -- the node's slot is below 32, if it has one
 abbrev pub Ranged : Option Node → Type 0
-Ranged o = (n : Node) → o ≡ Some n → in_range n ≡ true
+Ranged o = (n : Node) → o ≡ Some n → node_in_range n ≡ true
 
 pub gave : (path : List ℕ) (m : Mode) (o : Option Node) (r : Reply) → Ranged o → fits (open_event path m o) r ≡ true → Gave m (opened_fid m o r) r
 gave path m None r range fit = Refuses refl (not-true (is_opening r) fit)
@@ -74,11 +74,11 @@ gave path m (Some (node.File p n file.Local)) r range fit = gave_file m p n file
 gave path m (Some (node.File p n file.Remote)) r range fit = gave_file m p n file.Remote r (below n (range _ refl)) fit
 gave path m (Some (node.File p n file.Status)) r range fit = gave_file m p n file.Status r (below n (range _ refl)) fit
 
-checked_range : (path : List ℕ) (o : Option Node) → Ranged (checked path o)
+checked_range : (path : List ℕ) (o : Option Node) → Ranged (checked_node path o)
 checked_range path None n is = absurd (none-some n is)
-checked_range path (Some k) n is = each (in_range k) refl is
+checked_range path (Some k) n is = each (node_in_range k) refl is
   where
-    each : (b : Bool) → in_range k ≡ b → checked path (Some k) ≡ Some n → in_range n ≡ true
+    each : (b : Bool) → node_in_range k ≡ b → checked_node path (Some k) ≡ Some n → node_in_range n ≡ true
     each true so is = search (rules, tests, so, is)
     each false not_so is = absurd (search (rules, tests, not_so, is))
 
@@ -86,7 +86,7 @@ openable_range : (m : Mode) (o : Option Node) → Ranged o → Ranged (openable 
 openable_range m None range n is = absurd (none-some n is)
 openable_range m (Some k) range n is = each (may_open k m) is
   where
-    each : (b : Bool) → (if b then Some k else None) ≡ Some n → in_range n ≡ true
+    each : (b : Bool) → (if b then Some k else None) ≡ Some n → node_in_range n ≡ true
     each true is = range n is
     each false is = absurd (none-some n is)
 

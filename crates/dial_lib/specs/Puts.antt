@@ -12,7 +12,7 @@ use Rattle.net_base.specs.declared.names.FileName.TheVariants as file
 use Rattle.net_base.specs.declared.reply.Reply.{Reply}
 use Rattle.net_base.specs.declared.reply.Reply.TheVariants as reply
 use Rattle.net_base.specs.ControlWords as control
-use Rattle.net_base.specs.Steps.{Ask, Fid, Play, Asks, puts, controls, conversation_of, if_accepted, is_accepted}
+use Rattle.net_base.specs.Steps.{Ask, Fid, Play, Asks, puts_text, controls, conversation_of, if_accepted, is_accepted}
 use Rattle.script_task.specs.Fitting.{is_granted, fits_grant}
 use Rattle.net_base.specs.Requests.{head}
 use Rattle.script_task.specs.Task.{follow, fits_play}
@@ -33,7 +33,7 @@ controls_head h f text (Ok (ctl.Ttl n)) = (_, λ refused next. refl)
 controls_head h f text (Ok (ctl.Tos n)) = (_, λ refused next. refl)
 controls_head h f text (Err fault) = (_, λ refused next. refl)
 
-pub puts_head : (h : ℕ) (f : Fid) (to : FileName) (text : List ℕ) → HasHead (λ (refused next : Play). puts h f to text refused next)
+pub puts_head : (h : ℕ) (f : Fid) (to : FileName) (text : List ℕ) → HasHead (λ (refused next : Play). puts_text h f to text refused next)
 puts_head h f file.Data text = (_, λ refused next. refl)
 puts_head h f file.Ctl text = controls_head h f text (control.read text)
 puts_head h f file.Err text = controls_head h f text (control.read text)
@@ -72,7 +72,7 @@ put_control h f text (Ok (ctl.Tos n)) r refused next fit = Goes (not-true (is_gr
 put_control h f text (Err fault) r refused next fit = Goes (not-true (is_granted r) fit) refl
 
 pub put : (h : ℕ) (f : Fid) (to : FileName) (text : List ℕ) (r : Reply) (refused next : Play)
-    → fits_play (puts h f to text refused next) r ≡ true → Put h f r refused next (follow (puts h f to text refused next) r)
+    → fits_play (puts_text h f to text refused next) r ≡ true → Put h f r refused next (follow (puts_text h f to text refused next) r)
 put h f file.Data text r refused next fit = Goes (written_free r fit).0 refl
 put h f file.Ctl text r refused next fit = put_control h f text (control.read text) r refused next fit
 put h f file.Err text r refused next fit = put_control h f text (control.read text) r refused next fit
@@ -98,7 +98,7 @@ other_control h f text (Ok (ctl.Tos n)) r refused next other = refl
 other_control h f text (Err fault) r refused next other = refl
 
 pub put_other : (h : ℕ) (f : Fid) (to : FileName) (text : List ℕ) (r : Reply) (refused next : Play) → IsOther (control.read text)
-    → follow (puts h f to text refused next) r ≡ if_accepted r next refused
+    → follow (puts_text h f to text refused next) r ≡ if_accepted r next refused
 put_other h f file.Data text r refused next other = refl
 put_other h f file.Ctl text r refused next other = other_control h f text (control.read text) r refused next other
 put_other h f file.Err text r refused next other = other_control h f text (control.read text) r refused next other
@@ -114,7 +114,7 @@ no_connect : (rest : List ℕ) (remote : Addr) (lport : Option ℕ) → control.
 no_connect rest remote None = and_none _
 no_connect rest remote (Some port) = and_none _
 
-checked_other : (rest : List ℕ) (o : Option Ctl) → IsOther (ok_or (control.checked (97 ∷ rest) o) control.bad_argument)
+checked_other : (rest : List ℕ) (o : Option Ctl) → IsOther (ok_or (control.checked_control (97 ∷ rest) o) control.bad_argument)
 checked_other rest None remote lport is = absurd (search (rules, is))
 checked_other rest (Some (ctl.Connect at from)) remote lport is = absurd (wrong (control.is_spelled (ctl.Connect at from) (97 ∷ rest)) (no_connect rest at from) is)
   where

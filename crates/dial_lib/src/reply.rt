@@ -18,7 +18,7 @@ pub fn is_unopened(reply: &Reply) -> bool
 
 /// The lines of the reply, or none. It takes no memory.
 pub fn lines_in(alloc: Global, reply: Reply) -> Lines
-    ensures { result ≡ steps.lines_in reply }
+    ensures { result ≡ steps.reply_lines reply }
 {
     match reply {
         Reply::Lines { lines } => lines,

@@ -5,7 +5,7 @@ use Rattle.std.specs.List.{list_all}
 use Rattle.std.proofs.lemmas.Bool.{true≢false, false≢true, and_parts, and_from, ltb-true, leb-true, eqb-true, eq-eqb, ne_eqb}
 use Rattle.std.proofs.lemmas.List.{take_at, drop_at, take-append-drop}
 use Rattle.std.proofs.lemmas.Option.{none-some, same_Some}
-use Rattle.net_base.specs.DomainNames.{is_label, is_label_byte, is_name, labels_bytes, name_bytes}
+use Rattle.net_base.specs.DomainNames.{is_label, is_label_byte, is_domain_name, labels_bytes, name_bytes}
 use Rattle.net_base.specs.DomainQuestions.{labels_in, name_at_front}
 
 -- ---- labels
@@ -71,24 +71,24 @@ labels_found (suc most) (label ∷ labels) rest valid few =
     ∙ one_found most label (name_bytes labels ++ rest) parts.0
     ∙ ap (option_map (λ (more : List (List ℕ)). label ∷ more)) (labels_found most labels rest parts.1 (omega (arith, few)))
 
-kept_name : (labels : List (List ℕ)) → is_name labels ≡ true → cond (is_name labels) (Some labels) None ≡ Some labels
+kept_name : (labels : List (List ℕ)) → is_domain_name labels ≡ true → cond (is_domain_name labels) (Some labels) None ≡ Some labels
 kept_name labels name = ap (λ (b : Bool). cond b (Some labels) None) name
 
-name_parts : (labels : List (List ℕ)) → is_name labels ≡ true → (list_all is_label labels ≡ true) × (nat_le (length (name_bytes labels)) 255 ≡ true)
+name_parts : (labels : List (List ℕ)) → is_domain_name labels ≡ true → (list_all is_label labels ≡ true) × (nat_le (length (name_bytes labels)) 255 ≡ true)
 name_parts labels name = and_parts (list_all is_label labels) (nat_le (length (name_bytes labels)) 255) name
 
-pub name_valid : (labels : List (List ℕ)) → is_name labels ≡ true → list_all is_label labels ≡ true
+pub name_valid : (labels : List (List ℕ)) → is_domain_name labels ≡ true → list_all is_label labels ≡ true
 name_valid labels name = (name_parts labels name).0
 
-pub name_short : (labels : List (List ℕ)) → is_name labels ≡ true → length (name_bytes labels) ≤ 255
+pub name_short : (labels : List (List ℕ)) → is_domain_name labels ≡ true → length (name_bytes labels) ≤ 255
 name_short labels name = leb-true (length (name_bytes labels)) 255 (name_parts labels name).1
 
-pub name_found : (labels : List (List ℕ)) (rest : List ℕ) → is_name labels ≡ true → name_at_front (name_bytes labels ++ rest) ≡ Some labels
+pub name_found : (labels : List (List ℕ)) (rest : List ℕ) → is_domain_name labels ≡ true → name_at_front (name_bytes labels ++ rest) ≡ Some labels
 name_found labels rest name =
     let valid = name_valid labels name in
     let short = name_short labels name in
     let few : length labels < 128 = omega (arith, labels_fit labels valid, short, length-append (labels_bytes labels) (0 ∷ [])) in
-    ap (option_and_then (λ (found : List (List ℕ)). cond (is_name found) (Some found) None)) (labels_found 128 labels rest valid few)
+    ap (option_and_then (λ (found : List (List ℕ)). cond (is_domain_name found) (Some found) None)) (labels_found 128 labels rest valid few)
     ∙ kept_name labels name
 
 -- ---- what is found is spelled
@@ -119,16 +119,16 @@ labels_begin (suc most) [] labels e = absurd (none-some labels e)
 labels_begin (suc most) (count ∷ bytes) labels e =
     begun count bytes labels (labels_in most (drop count bytes)) (labels_begin most (drop count bytes)) (count == 0) refl (is_label (take count bytes) && length (take count bytes) == count) refl e
 
-kept : (most : Option (List (List ℕ))) (labels : List (List ℕ)) → option_and_then (λ (found : List (List ℕ)). cond (is_name found) (Some found) None) most ≡ Some labels → (most ≡ Some labels) × (is_name labels ≡ true)
+kept : (most : Option (List (List ℕ))) (labels : List (List ℕ)) → option_and_then (λ (found : List (List ℕ)). cond (is_domain_name found) (Some found) None) most ≡ Some labels → (most ≡ Some labels) × (is_domain_name labels ≡ true)
 kept None labels e = absurd (none-some labels e)
-kept (Some found) labels e = by (is_name found) refl e
+kept (Some found) labels e = by (is_domain_name found) refl e
   where
-    by : (test : Bool) → is_name found ≡ test → cond test (Some found) None ≡ Some labels → (Some found ≡ Some labels) × (is_name labels ≡ true)
-    by true is e = (e, sym (ap is_name (same_Some found labels e)) ∙ is)
+    by : (test : Bool) → is_domain_name found ≡ test → cond test (Some found) None ≡ Some labels → (Some found ≡ Some labels) × (is_domain_name labels ≡ true)
+    by true is e = (e, sym (ap is_domain_name (same_Some found labels e)) ∙ is)
     by false is e = absurd (none-some labels e)
 
 -- the name that bytes begin with
-pub name_begins : (bytes : List ℕ) (labels : List (List ℕ)) → name_at_front bytes ≡ Some labels → (is_name labels ≡ true) × ((rest : List ℕ) × (bytes ≡ name_bytes labels ++ rest))
+pub name_begins : (bytes : List ℕ) (labels : List (List ℕ)) → name_at_front bytes ≡ Some labels → (is_domain_name labels ≡ true) × ((rest : List ℕ) × (bytes ≡ name_bytes labels ++ rest))
 name_begins bytes labels e =
     let found = kept (labels_in 128 bytes) labels e in
     (found.1, labels_begin 128 bytes labels found.0)

@@ -6,8 +6,8 @@ use Rattle.std.proofs.lemmas.List.{take_at, take-append-drop}
 use Rattle.std.proofs.lemmas.Option.{none-some, same_Some}
 use Rattle.net_base.specs.Bytes.{word_at}
 use Rattle.net_base.specs.declared.question.Question.{Question}
-use Rattle.net_base.specs.DomainNames.{Ended, Pointed, PointsBack, ReadsName, Spells, StandAt, is_name, name_bytes, name_text}
-use Rattle.net_base.specs.DomainQuestions.{HasHeader, ReadsQuestion, name_at_front, question_named, question_of}
+use Rattle.net_base.specs.DomainNames.{Ended, Pointed, PointsBack, ReadsName, Spells, StandAt, is_domain_name, name_bytes, name_text}
+use Rattle.net_base.specs.DomainQuestions.{HasDomainHeader, ReadsQuestion, name_at_front, question_named, question_of}
 use Rattle.dns_text.proofs.Found.{name_begins, name_found}
 
 -- ---- a name at the first place behind a header, to which no pointer leads
@@ -24,7 +24,7 @@ pub stands : (place : ℕ) (message front : List ℕ) → StandAt place front me
 stands place message front stand =
     sym (take-append-drop (length front) (drop place message)) ∙ ap (λ (xs : List ℕ). xs ++ drop (length front) (drop place message)) stand
 
-at_place : (message : List ℕ) (place end : ℕ) (labels : List (List ℕ)) → place ≡ 12 → is_name labels ≡ true → StandAt place (name_bytes labels) message → end ≡ place + length (name_bytes labels) → IsAtFront message labels end
+at_place : (message : List ℕ) (place end : ℕ) (labels : List (List ℕ)) → place ≡ 12 → is_domain_name labels ≡ true → StandAt place (name_bytes labels) message → end ≡ place + length (name_bytes labels) → IsAtFront message labels end
 at_place message place end labels is_twelve name stand past = record {
   found =
       ap (λ (n : ℕ). name_at_front (drop n message)) (sym is_twelve)
@@ -33,7 +33,7 @@ at_place message place end labels is_twelve name stand past = record {
   past = omega (arith, is_twelve, past);
 }
 
-at_front : {message : List ℕ} {place end : ℕ} {labels : List (List ℕ)} → Spells message place labels end → place ≡ 12 → is_name labels ≡ true → IsAtFront message labels end
+at_front : {message : List ℕ} {place end : ℕ} {labels : List (List ℕ)} → Spells message place labels end → place ≡ 12 → is_domain_name labels ≡ true → IsAtFront message labels end
 at_front {message = m} (Ended place labels end stand past) is_twelve name = at_place m place end labels is_twelve name stand past
 at_front {message = m} (Pointed place target past front rest labels end valid stand back behind are ends) is_twelve name = absurd (no_pointer place target is_twelve back)
 
@@ -78,7 +78,7 @@ is_found message q reads =
     ∙ whole_named message reads.name.labels reads.behind front.past (omega (arith, reads.past, reads.whole))
     ∙ ap Some (sym (same_question q message (name_text reads.name.labels) reads.behind reads.id reads.flags reads.name.told reads.kind reads.class reads.past))
 
-named_is_read : (message : List ℕ) (q : Question) (labels : List (List ℕ)) → HasHeader message → word_at 4 message ≡ 1 → name_at_front (drop 12 message) ≡ Some labels → question_named message labels ≡ Some q → ReadsQuestion message q
+named_is_read : (message : List ℕ) (q : Question) (labels : List (List ℕ)) → HasDomainHeader message → word_at 4 message ≡ 1 → name_at_front (drop 12 message) ≡ Some labels → question_named message labels ≡ Some q → ReadsQuestion message q
 named_is_read message q labels header one front e = by (nat_le (12 + length (name_bytes labels) + 4) (length message)) refl e
   where
     by : (whole : Bool) → nat_le (12 + length (name_bytes labels) + 4) (length message) ≡ whole → cond whole (Some (record { id = word_at 0 message; flags = word_at 2 message; name = name_text labels; kind = word_at (12 + length (name_bytes labels)) message; class = word_at (12 + length (name_bytes labels) + 2) message; end = 12 + length (name_bytes labels) + 4 })) None ≡ Some q → ReadsQuestion message q
@@ -98,7 +98,7 @@ named_is_read message q labels header one front e = by (nat_le (12 + length (nam
           whole = leb-true (12 + length (name_bytes labels) + 4) (length message) is;
         })
 
-found_is_read : (message : List ℕ) (q : Question) → HasHeader message → word_at 4 message ≡ 1 → (front : Option (List (List ℕ))) → name_at_front (drop 12 message) ≡ front → option_and_then (question_named message) front ≡ Some q → ReadsQuestion message q
+found_is_read : (message : List ℕ) (q : Question) → HasDomainHeader message → word_at 4 message ≡ 1 → (front : Option (List (List ℕ))) → name_at_front (drop 12 message) ≡ front → option_and_then (question_named message) front ≡ Some q → ReadsQuestion message q
 found_is_read message q header one None front e = absurd (none-some q e)
 found_is_read message q header one (Some labels) front e = named_is_read message q labels header one front e
 

@@ -13,7 +13,7 @@ use Rattle.net_base.specs.declared.history.With.{With}
 use Rattle.net_base.specs.declared.world.World.{World}
 use Rattle.net_base.specs.ActorStep.{Step}
 use Rattle.net_base.specs.Actors.{Actor, IsPlain, actor_step, has_actor, slot_count, table_step}
-use Rattle.net_base.specs.Duties.{Duty, due_of, duties, generation_of, slots_of, tick_at, ticks}
+use Rattle.net_base.specs.Duties.{Duty, due_of, duties, generation_of, slots_of, tick_at, owed_ticks}
 use Rattle.duties.proofs.Ends.{given_when}
 use Rattle.duties.specs.Ticking.{due_at, dues_of, tick_of, ticks_of}
 
@@ -50,20 +50,20 @@ module _ (actors : ActorName → Actor) (s now : ℕ) where
       (of_hosts hs)
 
 -- the ticks of a move
-pub ticks_are : (w : World) (actors : ActorName → Actor) (s now : ℕ) → ticks_of s now (dues_of w actors) ≡ ticks w actors name.Clock s (event.Move now)
+pub ticks_are : (w : World) (actors : ActorName → Actor) (s now : ℕ) → ticks_of s now (dues_of w actors) ≡ owed_ticks w actors name.Clock s (event.Move now)
 ticks_are w actors s now = of_hosts actors s now (range_with_len 0 (length w.hosts))
 
 plain_owes : (w : World) (actors : ActorName → Actor) (s now : ℕ) (with : With) (before : Actor) (moment : ℕ) (step : Step Actor)
     → table_step w name.Clock before moment (record { event = event.Move now; with = with }) ≡ Some step
-    → duties w actors name.Clock s (record { event = event.Move now; with = with }) step ≡ ticks w actors name.Clock s (event.Move now)
+    → duties w actors name.Clock s (record { event = event.Move now; with = with }) step ≡ owed_ticks w actors name.Clock s (event.Move now)
 plain_owes w actors s now with IsPlain moment step gives =
-    subst (λ (t : Step Actor). duties w actors name.Clock s (record { event = event.Move now; with = with }) t ≡ ticks w actors name.Clock s (event.Move now))
-    (same_Some _ step gives) (append-nil (ticks w actors name.Clock s (event.Move now)))
+    subst (λ (t : Step Actor). duties w actors name.Clock s (record { event = event.Move now; with = with }) t ≡ owed_ticks w actors name.Clock s (event.Move now))
+    (same_Some _ step gives) (append-nil (owed_ticks w actors name.Clock s (event.Move now)))
 plain_owes w actors s now with _ moment step gives = absurd (none-some step gives)
 
 -- a move owes its ticks alone
 pub move_owes : (w : World) (actors : ActorName → Actor) (s now : ℕ) (with : With) (before : Actor) (moment : ℕ) (step : Step Actor)
     → actor_step w name.Clock before moment (record { event = event.Move now; with = with }) ≡ Some step
-    → duties w actors name.Clock s (record { event = event.Move now; with = with }) step ≡ ticks w actors name.Clock s (event.Move now)
+    → duties w actors name.Clock s (record { event = event.Move now; with = with }) step ≡ owed_ticks w actors name.Clock s (event.Move now)
 move_owes w actors s now with before moment step gives =
     plain_owes w actors s now with before moment step (given_when (has_actor w name.Clock) _ step gives)

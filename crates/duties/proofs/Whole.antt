@@ -9,14 +9,14 @@ use Rattle.net_base.specs.declared.history.Work.{Work}
 use Rattle.net_base.specs.declared.world.World.{World}
 use Rattle.net_base.specs.ActorStep.{Step}
 use Rattle.net_base.specs.Actors.{Actor, has_actor}
-use Rattle.net_base.specs.Duties.{Duty, courier_duty, duties, emitted_put, follow_up, release, ticks}
+use Rattle.net_base.specs.Duties.{Duty, courier_duty, duties, emitted_put, follow_up, release, owed_ticks}
 use Rattle.net_base.specs.Legal.{IsMove}
 use Rattle.duties.proofs.Ends.{given_when, release_is}
 use Rattle.duties.specs.Owing.{Gives}
 use Rattle.duties.specs.Releasing.{released}
 
 -- what is no move owes no ticks
-no_ticks : (w : World) (actors : ActorName → Actor) (a : ActorName) (s : ℕ) (e : Event) → (IsMove a e → ⊥) → ticks w actors a s e ≡ []
+no_ticks : (w : World) (actors : ActorName → Actor) (a : ActorName) (s : ℕ) (e : Event) → (IsMove a e → ⊥) → owed_ticks w actors a s e ≡ []
 no_ticks w actors name.Clock s (event.Move now) none = absurd (none tt)
 no_ticks w actors _ s _ none = refl
 

@@ -6,7 +6,7 @@ use Rattle.net_base.specs.declared.actor.ActorName.TheVariants as name
 use Rattle.net_base.specs.declared.event.Event.{Event}
 use Rattle.net_base.specs.declared.history.With.{With}
 use Rattle.net_base.specs.declared.reply.Reply.{Reply}
-use Rattle.net_base.specs.Duties.{Duty, follow_up, owes}
+use Rattle.net_base.specs.Duties.{Duty, follow_up, one_duty}
 
 -- of the directory of a host and protocol
 abbrev pub asks : Home → Event → With → Reply → List Duty
@@ -22,4 +22,4 @@ leaves h slot e with answer = follow_up (name.Conv h.host h.proto slot) h.stamp 
 
 -- an event that is owed at a conversation
 abbrev pub owes_at : Home → ℕ → Event → With → List Duty
-owes_at h slot e with = owes h.stamp (name.Conv h.host h.proto slot) e with
+owes_at h slot e with = one_duty h.stamp (name.Conv h.host h.proto slot) e with

@@ -10,13 +10,13 @@ use Rattle.net_base.specs.declared.history.With.TheVariants as given
 use Rattle.net_base.specs.declared.world.World.{World}
 use Rattle.net_base.specs.ActorStep.{Step}
 use Rattle.net_base.specs.Actors.{Actor, actor_step}
-use Rattle.net_base.specs.Duties.{Duty, duties, owes, conversations, due_of, generation_of, ticks}
+use Rattle.net_base.specs.Duties.{Duty, duties, one_duty, conversations, due_of, generation_of, owed_ticks}
 use Rattle.duties.specs.Queue.{Queue, Adds}
 
 -- the tick of a conversation whose due moment has come
 abbrev pub tick_of : ℕ → ℕ → Due → List Duty
 tick_of s now d =
-    if nat_le d.due now then owes s (name.Conv d.host d.proto d.slot) (event.Tick d.generation) given.Nothing else []
+    if nat_le d.due now then one_duty s (name.Conv d.host d.proto d.slot) (event.Tick d.generation) given.Nothing else []
 
 -- the ticks of those of them whose due moment has come, in order
 abbrev pub ticks_of : ℕ → ℕ → List Due → List Duty
@@ -45,4 +45,4 @@ MoveOwes w actors stamp now =
 abbrev pub AddsTicks : ℕ → ℕ → List Due → Queue → Queue → Type 0
 AddsTicks stamp now dues old new =
     (w : World) (actors : ActorName → Actor) → dues ≡ dues_of w actors
-    → Adds old new (ticks w actors name.Clock stamp (event.Move now))
+    → Adds old new (owed_ticks w actors name.Clock stamp (event.Move now))

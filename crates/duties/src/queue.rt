@@ -1,6 +1,6 @@
 //! What a caller owes, in order.
 ghost use Rattle.std.specs.Prelude.{◌≡◌, ◌+◌, ◌<◌, ◌≤◌, ◌==◌, [], ◌∷◌, drop, length, option_copied, slice_get, OnErr, OnOk};
-ghost use Rattle.net_base.specs.Duties.{owes};
+ghost use Rattle.net_base.specs.Duties.{one_duty};
 ghost use Rattle.duties.specs.Queue.{Adds};
 
 use crate::duty::Duty;
@@ -86,7 +86,7 @@ impl Duties {
     /// An event is owed at an actor after the others. It takes no memory.
     pub fn owe(&mut self, cites: u64, actor: ActorName, event: Event, with: With)
         requires { 0 < self.old.room }
-        ensures list { Adds self.old self.new (owes cites actor event with) }
+        ensures list { Adds self.old self.new (one_duty cites actor event with) }
         ensures room { self.new.room + 1 ≡ self.old.room }
     {
         self.push(Duty {

@@ -19,7 +19,7 @@ use Rattle.net_base.specs.declared.reply.Reply.TheVariants as reply
 use Rattle.net_base.specs.declared.world.World.{World}
 use Rattle.net_base.specs.ActorStep.{Step}
 use Rattle.net_base.specs.Actors.{Actor, IsConv}
-use Rattle.net_base.specs.Duties.{Duty, close_calls, conversations, courier_duty, due_of, duties, emitted_put, follow_up, forwarded, generation_of, has_come, owes, put_by, release, slots_of, tick_at, ticks}
+use Rattle.net_base.specs.Duties.{Duty, close_calls, conversations, courier_duty, due_of, duties, emitted_put, follow_up, forwarded, generation_of, has_come, one_duty, put_by, release, slots_of, tick_at, owed_ticks}
 use Rattle.net_base.specs.Net.{Net, opening_net}
 use Rattle.net_base.specs.Routes.{Way, way, has_address}
 use Rattle.net_base.specs.Stamped.{In, same_actor}
@@ -99,9 +99,9 @@ tick_away : (actors : ActorName → Actor) (s now : ℕ) (as' : List ActorName) 
 tick_away actors s now [] away = tt
 tick_away actors s now (a ∷ as') away =
     both (tick_at actors s now a) _
-    (either (has_come now (due_of (actors a))) (owes s a (event.Tick (generation_of (actors a))) given.Nothing) [] (away.0, tt) tt) (tick_away actors s now as' away.1)
+    (either (has_come now (due_of (actors a))) (one_duty s a (event.Tick (generation_of (actors a))) given.Nothing) [] (away.0, tt) tt) (tick_away actors s now as' away.1)
 
-ticks_away : (w : World) (actors : ActorName → Actor) (a : ActorName) (s : ℕ) (e : Event) → AreAway (ticks w actors a s e)
+ticks_away : (w : World) (actors : ActorName → Actor) (a : ActorName) (s : ℕ) (e : Event) → AreAway (owed_ticks w actors a s e)
 ticks_away w actors name.Clock s (event.Move now) = tick_away actors s now (conversations w) (hosts_away _)
 ticks_away w actors _ s _ = tt
 
@@ -111,7 +111,7 @@ release_away _ s _ _ = tt
 
 duties_away : (w : World) (actors : ActorName → Actor) (a : ActorName) (s : ℕ) (work : Work) (t : Step Actor) → AreAway (duties w actors a s work t)
 duties_away w actors a s work t =
-    both (emitted_put w a s t.outcome.emit ++ follow_up a s work.event work.with t.outcome.reply ++ courier_duty w a s t.outcome.taken ++ ticks w actors a s work.event) _
+    both (emitted_put w a s t.outcome.emit ++ follow_up a s work.event work.with t.outcome.reply ++ courier_duty w a s t.outcome.taken ++ owed_ticks w actors a s work.event) _
     (both (emitted_put w a s t.outcome.emit ++ follow_up a s work.event work.with t.outcome.reply ++ courier_duty w a s t.outcome.taken) _
     (both (emitted_put w a s t.outcome.emit ++ follow_up a s work.event work.with t.outcome.reply) _
     (both (emitted_put w a s t.outcome.emit) _ (emitted_away w a s t.outcome.emit) (follow_away a s work.event work.with t.outcome.reply))

@@ -16,7 +16,7 @@ use Rattle.net_base.specs.Callers.{caller_of}
 use Rattle.net_base.specs.Duties.{Duty, duties}
 use Rattle.net_base.specs.Legal.{IsAsked, cites_of, shown_of}
 use Rattle.net_base.specs.Net.{with_of}
-use Rattle.net_base.specs.Next.{next, next_by}
+use Rattle.net_base.specs.Next.{next_recorded, next_by}
 use Rattle.net_base.specs.Steps.{Ask}
 use Rattle.net_base.specs.Stamped.{at, In}
 use Rattle.net_base.specs.Tasks.{Tasks, nobody}
@@ -100,7 +100,7 @@ module _ (still : LaterStands)
   turn = record {
     given = t.given ∙ ap with_of (sym owes);
     cites = t.cites_it ∙ ap cites_of (sym owes);
-    asked = subst (λ (q : List Duty). IsAskedButOfScripts q (caller_of w c) (next w (noted_net w d.past).past c) the.entry) (sym owes)
+    asked = subst (λ (q : List Duty). IsAskedButOfScripts q (caller_of w c) (next_recorded w (noted_net w d.past).past c) the.entry) (sym owes)
         (subst (λ (q : Option Ask). IsAskedButOfScripts ds (caller_of w c) q the.entry) (nexts_are nobody) (t.asked now o));
     step = stepped.0;
     gives = stepped.1;

@@ -88,10 +88,10 @@ module _ (w : World) where
   moment_one net x None = refl
   moment_one net x (Some s) = refl
 
-  same_moment_after : (m : ℕ) (x : Noted) → stamped.moment_after m x ≡ moment_after m x.entry.event
+  same_moment_after : (m : ℕ) (x : Noted) → stamped.moment_after_noted m x ≡ moment_after m x.entry.event
   same_moment_after m x = by_event x.entry.event x refl
     where
-      by_event : (e : Event) (y : Noted) → y.entry.event ≡ e → stamped.moment_after m y ≡ moment_after m y.entry.event
+      by_event : (e : Event) (y : Noted) → y.entry.event ≡ e → stamped.moment_after_noted m y ≡ moment_after m y.entry.event
       by_event (event.Move at) y is = rw is refl
       by_event e y is = rw is refl
 
@@ -108,5 +108,5 @@ module _ (w : World) where
       by_clock false is = refl
 
   -- and its moment is theirs
-  pub moment_is : (log : List Noted) → (noted_net w log).moment ≡ stamped.moment log
+  pub moment_is : (log : List Noted) → (noted_net w log).moment ≡ stamped.moment_noted log
   moment_is log = moment_from (opening_net w) 0 log

@@ -9,7 +9,7 @@ use Rattle.net_base.specs.declared.world.Script.{Script}
 use Rattle.net_base.specs.declared.world.World.{World}
 use Rattle.net_base.specs.Callers.{Caller, IsScript, IsCourier, IsClock, caller_of}
 use Rattle.net_base.specs.Duties.{Duty}
-use Rattle.net_base.specs.Next.{next, next_of}
+use Rattle.net_base.specs.Next.{next_recorded, next_of}
 use Rattle.journal.specs.declared.tokens.Sight.{Sight}
 use Rattle.locked.specs.Acts.{made}
 use Rattle.guest_laws.specs.Works.{entries}
@@ -22,7 +22,7 @@ pub script_turn : (w : World) (c : ℕ) (p : Sight) (s : Script) (a : ActorName)
 script_turn w c p s a work is nothing = record {
   given = nothing;
   cites_it = refl;
-  asked = λ now o. subst (λ (k : Caller). IsAskedButOfScripts [] k (next w (entries p.seen) c) (made a c now work None o).entry) (sym is) tt;
+  asked = λ now o. subst (λ (k : Caller). IsAskedButOfScripts [] k (next_recorded w (entries p.seen) c) (made a c now work None o).entry) (sym is) tt;
 }
 
 -- the first duty
@@ -46,6 +46,6 @@ pub clock_turn : (w : World) (c : ℕ) (p : Sight) (m : ℕ) → caller_of w c �
 clock_turn w c p m is = record {
   given = refl;
   cites_it = refl;
-  asked = λ now o. subst (λ (k : Caller). IsAskedButOfScripts [] k (next w (entries p.seen) c)
+  asked = λ now o. subst (λ (k : Caller). IsAskedButOfScripts [] k (next_recorded w (entries p.seen) c)
       (made name.Clock c now (record { event = event.Move m; with = given.Nothing }) None o).entry) (sym is) tt;
 }

@@ -17,7 +17,7 @@ use Rattle.net_base.specs.Callers.{Caller, IsScript, IsCourier, IsClock, IsNobod
 use Rattle.net_base.specs.Duties.{Duty, duties}
 use Rattle.net_base.specs.Legal.{IsLegalBy, IsTimedBy, IsInTimeBy, IsAsked, asked_by, MayFollowBy, FollowsBy, Shows}
 use Rattle.net_base.specs.Net.{Net, actors_after, after, moment_after, net_after, next_net, outcome_in, owed_after, step_of, work_of}
-use Rattle.net_base.specs.Next.{by, next, next_by, next_of, next_of_by}
+use Rattle.net_base.specs.Next.{by, next_recorded, next_by, next_of, next_of_by}
 use Rattle.net_base.specs.Tasks.{Tasks}
 use Rattle.net_base.specs.Stamped.{In, at}
 use Rattle.history_laws.proofs.Shared.{in_pushed}
@@ -90,7 +90,7 @@ module _ (w : World) (r : Roster) (past : List Noted) (x : Noted) (fits : Fits r
     at_moment = sym here;
     cites = turn.cites;
     is_asked = subst (λ (l : List Entry). IsAskedButOfScripts ((noted_net w past).owed x.entry.caller) (caller_of w x.entry.caller)
-        (next w l x.entry.caller) x.entry) (past_is w past) turn.asked;
+        (next_recorded w l x.entry.caller) x.entry) (past_is w past) turn.asked;
     is_ready = ready;
     is_known = (has, subst (λ (n : ℕ). x.entry.caller < n) count fits.caller);
     has_room = subst (λ (n : ℕ). n < 131072) (sym (count_is x.entry.caller past)) fits.room;

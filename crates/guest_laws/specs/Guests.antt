@@ -12,7 +12,7 @@ use Rattle.net_base.specs.Callers.{caller_count, caller_of}
 use Rattle.net_base.specs.Duties.{Duty, duties}
 use Rattle.net_base.specs.Legal.{IsAsked, IsInTimeBy, cites_of}
 use Rattle.net_base.specs.Net.{with_of}
-use Rattle.net_base.specs.Next.{next, next_by}
+use Rattle.net_base.specs.Next.{next_recorded, next_by}
 use Rattle.net_base.specs.Stamped.{at, In}
 use Rattle.net_base.specs.Tasks.{Tasks}
 use Rattle.journal.specs.declared.law.Roster.{Roster}
@@ -39,7 +39,7 @@ pub record IsTurn (w : World) (c : ℕ) (p : Sight) (ds : List Duty) (a : ActorN
   pub given : work.with ≡ with_of ds
   pub cites_it : cites ≡ cites_of ds
   pub asked : (now : ℕ) (o : Outcome) →
-      IsAskedButOfScripts ds (caller_of w c) (next w (entries p.seen) c) (made a c now work cites o).entry
+      IsAskedButOfScripts ds (caller_of w c) (next_recorded w (entries p.seen) c) (made a c now work cites o).entry
 
 -- one entry of the caller was recorded at the actor's lock
 abbrev pub Records : World → Roster → ActorName → ℕ → ℕ → Work → Option ℕ → Sight → ℕ → Outcome → Sight → Type 0

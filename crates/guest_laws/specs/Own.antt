@@ -11,7 +11,7 @@ use Rattle.net_base.specs.Calm.{most_entries}
 use Rattle.net_base.specs.Duties.{Duty}
 use Rattle.net_base.specs.Legal.{IsAsked, IsInTimeBy, Shows, asked_by, cites_of, shown_by, shown_of}
 use Rattle.net_base.specs.Net.{Net, opening_net, after, outcome_in, owed, with_of}
-use Rattle.net_base.specs.Next.{by, next, next_by}
+use Rattle.net_base.specs.Next.{by, next_recorded, next_by}
 use Rattle.net_base.specs.Steps.{Ask}
 use Rattle.net_base.specs.Tasks.{Tasks}
 use Rattle.guest_laws.specs.Works.{step_by, next_noted, noted_net, owed_in, entries}
@@ -26,7 +26,7 @@ pub record IsTurnOf (w : World) (net : Net) (x : Noted) : Type 0 where
   pub given : x.work.with ≡ with_of (net.owed x.entry.caller)
   pub cites : x.entry.cites ≡ cites_of (net.owed x.entry.caller)
   pub asked : IsAskedButOfScripts (net.owed x.entry.caller) (caller_of w x.entry.caller)
-      (next w net.past x.entry.caller) x.entry
+      (next_recorded w net.past x.entry.caller) x.entry
   pub step : Step Actor
   pub gives : step_by w net x ≡ Some step
   pub shows : shown_by x.entry ≡ shown_of step.outcome
@@ -81,7 +81,7 @@ pub record FollowsButScripts (w : World) (past : List Entry) (net : Net) (x : En
   pub answers : Shows (outcome_in w net x) x
   pub at_moment : x.moment ≡ net.moment
   pub cites : x.cites ≡ cites_of (net.owed x.caller)
-  pub is_asked : IsAskedButOfScripts (net.owed x.caller) (caller_of w x.caller) (next w past x.caller) x
+  pub is_asked : IsAskedButOfScripts (net.owed x.caller) (caller_of w x.caller) (next_recorded w past x.caller) x
   pub is_ready : IsSome (outcome_in w net x)
   pub is_known : (has_actor w x.actor ≡ true) × (x.caller < caller_count w)
   pub has_room : length (by past x.caller) < most_entries

@@ -21,7 +21,7 @@ ghost use Rattle.net_base.specs.Duties as duties;
 ghost use Rattle.net_base.specs.Duties.{Duty};
 ghost use Rattle.net_base.specs.Legal.{IsInTimeBy, IsLegalBy, IsTimedBy};
 ghost use Rattle.net_base.specs.Net.{Net, after};
-ghost use Rattle.net_base.specs.Stamped.{In, at, moment, same_actor};
+ghost use Rattle.net_base.specs.Stamped.{In, at, moment_noted, same_actor};
 ghost use Rattle.net_base.specs.Tasks.{Tasks};
 ghost use Rattle.journal.specs.declared.law.Roster.{Roster};
 ghost use Rattle.journal.specs.declared.tokens.Sight.{Sight};
@@ -39,7 +39,7 @@ pub fn nets_of_works_grow()
     ensures next { (w : World) (log : List Noted) (x : Noted)
         → noted_net w (log ++ x ∷ []) ≡ next_noted w (noted_net w log) x }
     ensures past { (w : World) (log : List Noted) → (noted_net w log).past ≡ entries log }
-    ensures moment { (w : World) (log : List Noted) → (noted_net w log).moment ≡ moment log }
+    ensures moment { (w : World) (log : List Noted) → (noted_net w log).moment ≡ moment_noted log }
 {}
 
 /// What lies under an actor's lock is that actor of the net of the works.

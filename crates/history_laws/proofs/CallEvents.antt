@@ -21,17 +21,17 @@ use Rattle.net_base.specs.declared.world.Step.{Step}
 use Rattle.net_base.specs.declared.world.Step.TheVariants as step
 use Rattle.net_base.specs.Asks as asked
 use Rattle.net_base.specs.ControlWords as control
-use Rattle.net_base.specs.Exports.{Own, and_then, asks, by_text, closes_each, dotted_fid, dotted_step, export_play, exported, exports, is_dotted, most_requests, own_of, serves_text, sharing, then_play, unheard, Sharing}
-use Rattle.net_base.specs.Imports.{attach_message, clunk_message, imports, is_open, is_version, is_whole, longest_text, open_message, opens_remote, read_message, sends, sends_by, sends_for, sends_once, version_message, walk_message, was_opened, write_message}
+use Rattle.net_base.specs.Exports.{Own, and_then, asks_on, by_text, closes_each, dotted_fid, dotted_step, export_play, exported, exports, is_dotted, most_requests, own_of, serves_text, sharing, then_play, unheard, Sharing}
+use Rattle.net_base.specs.Imports.{attach_message, clunk_message, imports, is_open, is_version, is_whole, longest_text, open_message, opens_remote, read_message, sends_message, sends_by, sends_for, sends_once, version_message, walk_message, was_opened, write_message}
 use Rattle.net_base.specs.NinepMessages.{t_bytes}
 use Rattle.net_base.specs.NinepReading.{read_t}
-use Rattle.net_base.specs.Paths.{reads, writes}
+use Rattle.net_base.specs.Paths.{mode_reads, mode_writes}
 use Rattle.net_base.specs.Remotes.{free_fid, is_remote, is_remote_path, remote_of, with_remote}
-use Rattle.net_base.specs.Scripts.{Kept, heard, kept_after, left_after, new_names, own_play, play_by, position, step_play}
+use Rattle.net_base.specs.Scripts.{Kept, heard_replies, kept_after, left_after, new_names, own_play, play_by, position, step_play}
 use Rattle.net_base.specs.Server.{Doing, Does, Gives, Server, doing_of}
 use Rattle.net_base.specs.Session.{State, by_last, serves_by}
 use Rattle.net_base.specs.SessionFiles.{access, is_cs, is_plain}
-use Rattle.net_base.specs.SessionScript.{close_step, cs_step, fid_name, gives_nothing, is_query, open_step, opens, read_count, read_step, reads as reads_fid, room, step_of, write_step}
+use Rattle.net_base.specs.SessionScript.{close_step, cs_step, fid_name, gives_nothing, is_query, open_step, opening_step, read_count, read_step, reading_step as reads_fid, room, message_step, write_step}
 use Rattle.net_base.specs.SessionTable.{Table, used}
 use Rattle.net_base.specs.Steps.{Ask, Names, Fid, Play, Asks, Ends, conversation_of, fid_of, is_accepted, is_bound, play_of, stands, uses, read_event, bytes_in}
 use Rattle.history_laws.proofs.Ordered.{Each}
@@ -52,10 +52,10 @@ module _ (h : ℕ) (P : ActorName → Event → Type 0) (R : Reply → Type 0) (
   either_ask true x y f g = f
   either_ask false x y f g = g
 
-  reads_well : (called : List ℕ) (o : Option Fid) → IsNamed h P called → AsksWell (asked.read h called 8192 o)
+  reads_well : (called : List ℕ) (o : Option Fid) → IsNamed h P called → AsksWell (asked.read_ask h called 8192 o)
   reads_well called None named = named.0
   reads_well called (Some f) named =
-      either_ask (reads f.mode) (asked.at_file h f (read_event f 8192 f.file)) (asked.at_desk h (event.Misuse called))
+      either_ask (mode_reads f.mode) (asked.at_file h f (read_event f 8192 f.file)) (asked.at_desk h (event.Misuse called))
       (one.reads_of h P R fits (conversation_of h f) f 8192 f.file) named.1
 
   controls_well : (f : Fid) (text : List ℕ) (read : Result Ctl ℕ) → AsksWell (asked.controls_by h f text read)
@@ -67,7 +67,7 @@ module _ (h : ℕ) (P : ActorName → Event → Type 0) (R : Reply → Type 0) (
   controls_well f text (Ok (ctl.Tos n)) = fits.other _ (event.Tos f.generation n) tt
   controls_well f text (Err fault) = fits.other _ (event.Ctl f.generation text) tt
 
-  puts_well : (f : Fid) (text : List ℕ) (to : FileName) → AsksWell (asked.put h f text to)
+  puts_well : (f : Fid) (text : List ℕ) (to : FileName) → AsksWell (asked.put_ask h f text to)
   puts_well f text file.Data = fits.other _ (event.Write f.generation text) tt
   puts_well f text file.Ctl = controls_well f text (control.read text)
   puts_well f text file.Listen = controls_well f text (control.read text)
@@ -79,7 +79,7 @@ module _ (h : ℕ) (P : ActorName → Event → Type 0) (R : Reply → Type 0) (
   writes_well : (called text : List ℕ) (o : Option Fid) → IsNamed h P called → AsksWell (asked.write h called text o)
   writes_well called text None named = named.0
   writes_well called text (Some f) named =
-      either_ask (writes f.mode) (asked.put h f text f.file) (asked.at_desk h (event.Misuse called)) (puts_well f text f.file) named.1
+      either_ask (mode_writes f.mode) (asked.put_ask h f text f.file) (asked.at_desk h (event.Misuse called)) (puts_well f text f.file) named.1
 
   -- P holds of what a step asks on its own file
   pub record OwnWell (own : Own) : Type 0 where
@@ -98,10 +98,10 @@ module _ (h : ℕ) (P : ActorName → Event → Type 0) (R : Reply → Type 0) (
 
   -- ---- importing
 
-  sends_good : (own : Own) (m : Tmsg) (refused : Play) (next : List ℕ → Play) → OwnWell own → Good refused → ((u : List ℕ) → Good (next u)) → Good (sends own m refused next)
+  sends_good : (own : Own) (m : Tmsg) (refused : Play) (next : List ℕ → Play) → OwnWell own → Good refused → ((u : List ℕ) → Good (next u)) → Good (sends_message own m refused next)
   sends_good own m refused next well f g = (
     well.writing (t_bytes m),
-    λ w fine. one.either h P R fits (is_accepted w) (asks own.reads (λ (r : Reply). by_text (bytes_in r) refused next)) refused
+    λ w fine. one.either h P R fits (is_accepted w) (asks_on own.reads (λ (r : Reply). by_text (bytes_in r) refused next)) refused
         (well.reading, λ r good. by_text_good (bytes_in r) refused next f g) f,
   )
 
@@ -184,9 +184,9 @@ module _ (h : ℕ) (P : ActorName → Event → Type 0) (R : Reply → Type 0) (
 
   module _ (is : IsExporting h P) where
     on_open : (fid mode : ℕ) (f : Target) → OnStep (open_step fid mode f)
-    on_open fid mode f = on_either (is_plain f.node) (option_map (opens fid f.node) (access mode)) None (by_mode (access mode)) tt
+    on_open fid mode f = on_either (is_plain f.node) (option_map (opening_step fid f.node) (access mode)) None (by_mode (access mode)) tt
       where
-        by_mode : (o : Option Mode) → OnStep (option_map (opens fid f.node) o)
+        by_mode : (o : Option Mode) → OnStep (option_map (opening_step fid f.node) o)
         by_mode None = tt
         by_mode (Some m) = (is.named fid, is.opened f.node)
 
@@ -205,7 +205,7 @@ module _ (h : ℕ) (P : ActorName → Event → Type 0) (R : Reply → Type 0) (
     on_close : (fid : ℕ) (f : Target) → OnStep (close_step fid f)
     on_close fid f = on_either (is_plain f.node) (Some (step.Close (fid_name fid))) None (is.named fid) tt
 
-    on_step : (table : Table) (m : Tmsg) → OnStep (step_of table m)
+    on_step : (table : Table) (m : Tmsg) → OnStep (message_step table m)
     on_step table (t.Open tag fid mode) = on_then (table.fids fid) (open_step fid mode) (on_open fid mode)
     on_step table (t.Read tag fid offset count) = on_then (used table fid) (read_step table fid offset count) (on_read table fid offset count)
     on_step table (t.Write tag fid offset bytes) = on_then (used table fid) (write_step fid bytes) (on_write fid bytes)
@@ -229,7 +229,7 @@ module _ (h : ℕ) (P : ActorName → Event → Type 0) (R : Reply → Type 0) (
     on_text : (s : Sharing) (o : Option Tmsg) → DoingRecords (serves_text h s o)
     on_text s None = tt
     on_text s (Some m) =
-        shared s.opened m None (serves_by h s.session m (option_map dotted_step (step_of s.session.table m))) (by_step s.session m (step_of s.session.table m) (on_step s.session.table m))
+        shared s.opened m None (serves_by h s.session m (option_map dotted_step (message_step s.session.table m))) (by_step s.session m (message_step s.session.table m) (on_step s.session.table m))
 
     then_each : (p : Play) (go_on : Names → Play) → Good p → ((names : Names) → Good (go_on names)) → Good (and_then p go_on)
     then_each (Ends names) go_on f g = g names
@@ -319,6 +319,6 @@ module _ (h : ℕ) (P : ActorName → Event → Type 0) (R : Reply → Type 0) (
   next_event [] k rs left says fine = tt
   next_event (s ∷ ss) k rs left says fine =
       one.next_by h P R fits (stands (step_play h k s) rs) (s ∷ ss)
-      (λ (names : Names) (later : List Reply). position h ss (kept_after k s names (heard (step_play h k s) rs)) later)
+      (λ (names : Names) (later : List Reply). position h ss (kept_after k s names (heard_replies (step_play h k s) rs)) later)
       (one.standing h P R fits (step_play h k s) rs (step_good k s left says.0) fine)
-      (λ names later good. next_event ss (kept_after k s names (heard (step_play h k s) rs)) later (left_fine k.left s (heard (step_play h k s) rs) left says.0) says.1 good)
+      (λ names later good. next_event ss (kept_after k s names (heard_replies (step_play h k s) rs)) later (left_fine k.left s (heard_replies (step_play h k s) rs) left says.0) says.1 good)

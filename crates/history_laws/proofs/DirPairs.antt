@@ -22,7 +22,7 @@ use Rattle.net_base.specs.declared.world.World.{World}
 use Rattle.net_base.specs.ActorStep.{Step, when}
 use Rattle.net_base.specs.Conversation.{is_sync}
 use Rattle.net_base.specs.Directory as directory
-use Rattle.net_base.specs.Directory.{Dir, Slot, dir_step, pair_place, pair_of, in_found_slot, first_slot, is_free, reserves, grants, grants_by, grants_pair, announces, binds, gets, listens, listens_at, next_call, bears, born_or_not, Taker, taker_of, home_at, refused_or_dropped, arrives_at, is_live_with, is_of, is_reserved, port_for}
+use Rattle.net_base.specs.Directory.{Dir, Slot, dir_step, pair_place, packet_pair, in_found_slot, first_slot, is_free, reserves, grants, grants_by, grants_pair, announces, slot_binds, gets, slot_listens, listens_at, next_call, bears, born_or_not, Taker, taker_of, home_at, refused_or_dropped, arrives_at, is_live_with, is_of, is_reserved, port_for}
 use Rattle.net_base.specs.Routes.{Way, way}
 use Rattle.net_base.specs.Same.{same_addr, same_pair}
 use Rattle.net_base.specs.Stamped.{In}
@@ -65,7 +65,7 @@ IsNew pair before after = (In pair before.pairs → ⊥) × In pair after.pairs
 pub record Moves (d : Dir) (with : With) (s : Step Dir) : Type 0 where
   pub grows : (q : Pair) → In q d.pairs → In q s.state.pairs
   pub granted : (pair : Pair) (start limit : ℕ) → s.outcome.reply ≡ reply.Granted pair start limit → IsNew pair d s.state
-  pub born : (packet : Packet) (n g start limit : ℕ) → with ≡ given.Packet packet → s.outcome.reply ≡ reply.Born n g start limit → IsNew (pair_of packet) d s.state
+  pub born : (packet : Packet) (n g start limit : ℕ) → with ≡ given.Packet packet → s.outcome.reply ≡ reply.Born n g start limit → IsNew (packet_pair packet) d s.state
 
 abbrev pub MovesIf : Dir → With → Option (Step Dir) → Type 0
 MovesIf d with None = Unit {0}
@@ -134,7 +134,7 @@ gets_move n new ports d with (Some holder) = plain d with _ refl refl
 announces_move : (n : ℕ) (ip port : Option ℕ) (d : Dir) (with : With) (s : Slot) → Moves d with (announces n ip port d s)
 announces_move n ip port d with s = either d with (is_reserved s.kind) _ _ (gets_move n _ _ d with _) (plain d with _ refl refl)
 
-binds_move : (n port : ℕ) (d : Dir) (with : With) (s : Slot) → Moves d with (binds n port d s)
+binds_move : (n port : ℕ) (d : Dir) (with : With) (s : Slot) → Moves d with (slot_binds n port d s)
 binds_move n port d with s = either d with (is_reserved s.kind) _ _ (gets_move n _ _ d with _) (plain d with _ refl refl)
 
 calls_move : (calls : List Call) (n : ℕ) (d : Dir) (with : With) (s : Slot) → MovesIf d with (next_call calls n d s)
@@ -146,7 +146,7 @@ listens_at_move name.Announced n d with s = calls_move s.calls n d with s
 listens_at_move name.Free n d with s = plain d with _ refl refl
 listens_at_move _ n d with s = plain d with _ refl refl
 
-listens_move : (o : Option Slot) (n : ℕ) (d : Dir) (with : With) → MovesIf d with (listens o n d)
+listens_move : (o : Option Slot) (n : ℕ) (d : Dir) (with : With) → MovesIf d with (slot_listens o n d)
 listens_move None n d with = tt
 listens_move (Some s) n d with = listens_at_move s.kind n d with s
 
@@ -156,13 +156,13 @@ refused_moves : (b : Body) (packet : Packet) (d : Dir) (with : With) → Moves d
 refused_moves (body.Udp text) packet d with = plain d with _ refl refl
 refused_moves (body.Il m) packet d with = either d with (is_sync m.kind) _ _ (plain d with _ refl refl) (plain d with _ refl refl)
 
-bears_moves : (w : World) (h : ℕ) (p : Proto) (packet : Packet) (t : Taker) (d : Dir) → pair_place (pair_of packet) 1 d.pairs ≡ None → Moves d (given.Packet packet) (bears (home_at w h p) (pair_of packet) t d)
+bears_moves : (w : World) (h : ℕ) (p : Proto) (packet : Packet) (t : Taker) (d : Dir) → pair_place (packet_pair packet) 1 d.pairs ≡ None → Moves d (given.Packet packet) (bears (home_at w h p) (packet_pair packet) t d)
 bears_moves w h p packet t d is =
     record {
-      grows = λ q there. in_front q d.pairs (pair_of packet ∷ []) there;
+      grows = λ q there. in_front q d.pairs (packet_pair packet ∷ []) there;
       granted = λ other start limit same. absurd (true≢false (ap is_birth same));
       born = λ other m g start limit same_given same.
-          subst (λ (q : Packet). IsNew (pair_of q) d (bears (home_at w h p) (pair_of packet) t d).state) (ap packet_in same_given) (not_placed (pair_of packet) 1 d.pairs is, in_last (pair_of packet) d.pairs);
+          subst (λ (q : Packet). IsNew (packet_pair q) d (bears (home_at w h p) (packet_pair packet) t d).state) (ap packet_in same_given) (not_placed (packet_pair packet) 1 d.pairs is, in_last (packet_pair packet) d.pairs);
     }
   where
     is_birth : Reply → Bool
@@ -173,12 +173,12 @@ bears_moves w h p packet t d is =
     packet_in (given.Packet q) = q
     packet_in _ = packet
 
-born_or_not_moves : (w : World) (h : ℕ) (p : Proto) (packet : Packet) (d : Dir) (taker : Option Taker) → taker_of (pair_of packet) packet d ≡ taker
-    → Moves d (given.Packet packet) (born_or_not taker (home_at w h p) (pair_of packet) packet d)
+born_or_not_moves : (w : World) (h : ℕ) (p : Proto) (packet : Packet) (d : Dir) (taker : Option Taker) → taker_of (packet_pair packet) packet d ≡ taker
+    → Moves d (given.Packet packet) (born_or_not taker (home_at w h p) (packet_pair packet) packet d)
 born_or_not_moves w h p packet d None is = refused_moves packet.body packet d (given.Packet packet)
-born_or_not_moves w h p packet d (Some t) is = bears_moves w h p packet t d (taker_found (pair_of packet) packet d t is).unlisted
+born_or_not_moves w h p packet d (Some t) is = bears_moves w h p packet t d (taker_found (packet_pair packet) packet d t is).unlisted
 
-arrives_moves : (w : World) (h : ℕ) (p : Proto) (packet : Packet) (d : Dir) (o : Option (ℕ × Slot)) → Moves d (given.Packet packet) (arrives_at o (home_at w h p) (pair_of packet) packet d)
+arrives_moves : (w : World) (h : ℕ) (p : Proto) (packet : Packet) (d : Dir) (o : Option (ℕ × Slot)) → Moves d (given.Packet packet) (arrives_at o (home_at w h p) (packet_pair packet) packet d)
 arrives_moves w h p packet d (Some found) = plain d (given.Packet packet) _ refl refl
 arrives_moves w h p packet d None = born_or_not_moves w h p packet d _ refl
 
@@ -196,6 +196,6 @@ dir_moves w h p (event.Listen n) with d = listens_move (slice_get d.slots n) n d
 dir_moves w h p (event.Withdraw n g) with d = in_slot_moves d with (slice_get d.slots n) g _ (λ s. plain d with _ refl refl)
 dir_moves w h p (event.Release n g) with d = in_slot_moves d with (slice_get d.slots n) g _ (λ s. plain d with _ refl refl)
 dir_moves w h p event.Arrive (given.Packet packet) d =
-    when_moves d (given.Packet packet) (is_of p packet.body) _ (arrives_moves w h p packet d (first_slot (is_live_with (pair_of packet)) 0 d.slots))
+    when_moves d (given.Packet packet) (is_of p packet.body) _ (arrives_moves w h p packet d (first_slot (is_live_with (packet_pair packet)) 0 d.slots))
 dir_moves w h p event.Ls with d = plain d with _ refl refl
 dir_moves w h p _ _ d = tt

@@ -19,7 +19,7 @@ use Rattle.net_base.specs.declared.reply.Reply.TheVariants as reply
 use Rattle.net_base.specs.declared.world.World.{World}
 use Rattle.net_base.specs.ActorStep.{Step}
 use Rattle.net_base.specs.Actors.{Actor, IsConv}
-use Rattle.net_base.specs.Duties.{Duty, duties, put_by, emitted_put, close_calls, follow_up, forwarded, courier_duty, tick_at, ticks, has_come, due_of, conversations, release}
+use Rattle.net_base.specs.Duties.{Duty, duties, put_by, emitted_put, close_calls, follow_up, forwarded, courier_duty, tick_at, owed_ticks, has_come, due_of, conversations, release}
 use Rattle.net_base.specs.Net.{Net, opening_net, net_after, next_net, net_of, step_of, work_of, owed}
 use Rattle.net_base.specs.Routes.{Way, way, has_address}
 use Rattle.net_base.specs.Stamped.{In}
@@ -72,7 +72,7 @@ module _ (P : Duty → Type 0) (s : ℕ) (holds : (a : ActorName) (e : Event) (g
   tick_each : (actors : ActorName → Actor) (now : ℕ) (a : ActorName) → Each P (tick_at actors s now a)
   tick_each actors now a = either_each (has_come now (due_of (actors a))) _ [] (holds _ _ _ tt, tt) tt
 
-  ticks_each : (w : World) (actors : ActorName → Actor) (a : ActorName) (e : Event) → Each P (ticks w actors a s e)
+  ticks_each : (w : World) (actors : ActorName → Actor) (a : ActorName) (e : Event) → Each P (owed_ticks w actors a s e)
   ticks_each w actors name.Clock (event.Move now) = each_flat_map P (tick_at actors s now) (tick_each actors now) (conversations w)
   ticks_each w actors _ _ = tt
 
@@ -83,7 +83,7 @@ module _ (P : Duty → Type 0) (s : ℕ) (holds : (a : ActorName) (e : Event) (g
   pub duties_each : (w : World) (actors : ActorName → Actor) (a : ActorName) (work : Work) (step : Step Actor) → Each P (duties w actors a s work step)
   duties_each w actors a work step =
       each_append P _ (release a s step.state step.outcome.ended)
-      (each_append P _ (ticks w actors a s work.event)
+      (each_append P _ (owed_ticks w actors a s work.event)
       (each_append P _ (courier_duty w a s step.outcome.taken)
       (each_append P (emitted_put w a s step.outcome.emit) (follow_up a s work.event work.with step.outcome.reply)
       (emitted_each w a step.outcome.emit)

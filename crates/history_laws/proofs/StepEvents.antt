@@ -24,8 +24,8 @@ use Rattle.net_base.specs.ControlWords as control
 use Rattle.net_base.specs.DatagramHeaders.{text_behind}
 use Rattle.net_base.specs.DomainAnswers.{dns_answer}
 use Rattle.net_base.specs.Exports.{dotted_fid}
-use Rattle.net_base.specs.Paths.{path_of, walk, reads, writes as may_write}
-use Rattle.net_base.specs.Steps.{Fid, Names, fid_of, is_bound, bind, unbind, hearing, Play, Asks, Ends, is_accepted, if_accepted, ends_with, uses, misuses, on_fid, with_bound, with_new, with_readable, with_writable, conversation_of, default_mode, openable, open_actor, open_event, opened_fid, opens_node, opens, opens_beside, read_event, controls, puts, closes, closes_last, ls_actor, ls_event, netmkaddr, lines_in, asks_cs, clone_path, line_address, dotted_name, connected, dials, announces, data_name, call_name, call_names, first_bound, on_taken, closes_all, bytes_in, address_told, tells_address, takes_call, with_call, hears, is_answer, open_call, answers, leaves_call, answers_call, serves_call, serves, play_of, Ask, Stand, Asking, Finished, stands, Position, position_by}
+use Rattle.net_base.specs.Paths.{path_of, walk, mode_reads, mode_writes as may_write}
+use Rattle.net_base.specs.Steps.{Fid, Names, fid_of, is_bound, bind, unbind, hearing, Play, Asks, Ends, is_accepted, if_accepted, ends_with, uses, misuses, on_fid, with_bound, with_new, with_readable, with_writable, conversation_of, default_mode, openable, open_actor, open_event, opened_fid, opens_node, opens, opens_beside, read_event, controls, puts_text, closes_fid, closes_last, ls_actor, ls_event, netmkaddr, reply_lines, asks_cs, clone_path, line_address, dotted_name, connected, dials, announces_line, data_name, call_name, call_names, first_bound, on_taken, closes_all, bytes_in, address_told, tells_address, takes_call, with_call, hears_call, is_answer, open_call, answers, leaves_call, answers_call, serves_call, serves, play_of, Ask, Stand, Asking, Finished, stands, Position, position_by}
 use Rattle.history_laws.proofs.Ordered.{Each}
 
 -- an event that neither opens a path at the desk, nor names what isn't open, nor waits for a moment
@@ -75,7 +75,7 @@ IsNamed h P called = P (name.Desk h) (event.Use called) × P (name.Desk h) (even
 -- P holds of the events for which it doesn't matter what the step says, and of opening what a reply gives to dial
 pub record Fits (P : ActorName → Event → Type 0) (R : Reply → Type 0) : Type 0 where
   pub other : (a : ActorName) (e : Event) → IsOwn e → P a e
-  pub dialled : (r : Reply) → R r → Each (λ (line : List ℕ). IsOpened P (clone_path line)) (lines_in r)
+  pub dialled : (r : Reply) → R r → Each (λ (line : List ℕ). IsOpened P (clone_path line)) (reply_lines r)
 
 -- the names of an exporting step's files, and the paths by which they are opened
 pub record IsExporting (h : ℕ) (P : ActorName → Event → Type 0) : Type 0 where
@@ -136,8 +136,8 @@ module _ (h : ℕ) (P : ActorName → Event → Type 0) (R : Reply → Type 0) (
 
   readable : (called : List ℕ) (names : Names) (next : Fid → Play) → IsNamed h P called → ((f : Fid) → Good (next f)) → Good (with_readable h called names next)
   readable called names next named g =
-      bound called names (λ (f : Fid). cond (reads f.mode) (next f) (misuses h called names)) named
-      (λ f. either (reads f.mode) (next f) (misuses h called names) (g f) (ending _ _ names named.1))
+      bound called names (λ (f : Fid). cond (mode_reads f.mode) (next f) (misuses h called names)) named
+      (λ f. either (mode_reads f.mode) (next f) (misuses h called names) (g f) (ending _ _ names named.1))
 
   writable : (called : List ℕ) (names : Names) (next : Fid → Play) → IsNamed h P called → ((f : Fid) → Good (next f)) → Good (with_writable h called names next)
   writable called names next named g =
@@ -186,7 +186,7 @@ module _ (h : ℕ) (P : ActorName → Event → Type 0) (R : Reply → Type 0) (
   controlled x text (Ok (ctl.Tos n)) refused next f g = tried _ (event.Tos x.generation n) refused next tt f g
   controlled x text (Err fault) refused next f g = tried _ (event.Ctl x.generation text) refused next tt f g
 
-  put : (x : Fid) (name : FileName) (text : List ℕ) (refused next : Play) → Good refused → Good next → Good (puts h x name text refused next)
+  put : (x : Fid) (name : FileName) (text : List ℕ) (refused next : Play) → Good refused → Good next → Good (puts_text h x name text refused next)
   put x file.Data text refused next f g = tried _ (event.Write x.generation text) refused next tt f g
   put x file.Ctl text refused next f g = controlled x text (control.read text) refused next f g
   put x file.Listen text refused next f g = controlled x text (control.read text) refused next f g
@@ -195,7 +195,7 @@ module _ (h : ℕ) (P : ActorName → Event → Type 0) (R : Reply → Type 0) (
   put x file.Status text refused next f g = controlled x text (control.read text) refused next f g
   put x file.Err text refused next f g = controlled x text (control.read text) refused next f g
 
-  closing : (x : Fid) (refused next : Play) → Good refused → Good next → Good (closes h x refused next)
+  closing : (x : Fid) (refused next : Play) → Good refused → Good next → Good (closes_fid h x refused next)
   closing x refused next f g = tried _ (event.Close x.generation) refused next tt f g
 
   ls_of : (a : ActorName) (path : List ℕ) (n : Option Node) → P a (ls_event path n)
@@ -216,7 +216,7 @@ module _ (h : ℕ) (P : ActorName → Event → Type 0) (R : Reply → Type 0) (
       (closing made (Ends names) (dials h called names lines) tt (dialling called names lines all.1))
       (connects called names made))
 
-  announcing : (called : List ℕ) (names : Names) (lines : List (List ℕ)) → Each (λ (line : List ℕ). IsOpened P (clone_path line)) lines → Good (announces h called names lines)
+  announcing : (called : List ℕ) (names : Names) (lines : List (List ℕ)) → Each (λ (line : List ℕ). IsOpened P (clone_path line)) lines → Good (announces_line h called names lines)
   announcing called names [] all = tt
   announcing called names (line ∷ lines) all =
       opens_path (clone_path line) mode.Both (Ends names) _ all.0 tt (λ made.
@@ -224,7 +224,7 @@ module _ (h : ℕ) (P : ActorName → Event → Type 0) (R : Reply → Type 0) (
       (closing made (Ends names) (Ends names) tt tt) tt)
 
   asks_lines : (address : List ℕ) (next : List (List ℕ) → Play) → ((lines : List (List ℕ)) → Each (λ (line : List ℕ). IsOpened P (clone_path line)) lines → Good (next lines)) → Good (asks_cs h address next)
-  asks_lines address next g = (fits.other _ (event.Cs (netmkaddr address (codes "net") (codes "9fs"))) tt, λ r fine. g (lines_in r) (fits.dialled r fine))
+  asks_lines address next g = (fits.other _ (event.Cs (netmkaddr address (codes "net") (codes "9fs"))) tt, λ r fine. g (reply_lines r) (fits.dialled r fine))
 
   -- calls of datagrams
 
@@ -247,9 +247,9 @@ module _ (h : ℕ) (P : ActorName → Event → Type 0) (R : Reply → Type 0) (
   closing_both call data_file next f = closing_all (data_file ∷ call ∷ []) next f
 
   told_by : (opened : Fid) (others : List Fid) (refused : Play) (next : Addr → Play) (r : Reply) → Good refused → ((a : Addr) → Good (next a))
-      → Good (if_accepted r (closes h opened (closes_all h others refused) (next (address_told (bytes_in r)))) (closes_all h (opened ∷ others) refused))
+      → Good (if_accepted r (closes_fid h opened (closes_all h others refused) (next (address_told (bytes_in r)))) (closes_all h (opened ∷ others) refused))
   told_by opened others refused next r f g =
-      accepted r (closes h opened (closes_all h others refused) (next (address_told (bytes_in r)))) (closes_all h (opened ∷ others) refused)
+      accepted r (closes_fid h opened (closes_all h others refused) (next (address_told (bytes_in r)))) (closes_all h (opened ∷ others) refused)
       (closing opened (closes_all h others refused) (next (address_told (bytes_in r))) (closing_all others refused f) (g (address_told (bytes_in r))))
       (closing_all (opened ∷ others) refused f)
 
@@ -259,7 +259,7 @@ module _ (h : ℕ) (P : ActorName → Event → Type 0) (R : Reply → Type 0) (
       opens_at [] mode.Read n (closes_all h others refused)
       (λ (opened : Fid).
       Asks (conversation_of h opened) (event.File opened.generation told 64) (λ (r : Reply).
-      if_accepted r (closes h opened (closes_all h others refused) (next (address_told (bytes_in r)))) (closes_all h (opened ∷ others) refused)))
+      if_accepted r (closes_fid h opened (closes_all h others refused) (next (address_told (bytes_in r)))) (closes_all h (opened ∷ others) refused)))
       (open_beside (open_actor h n) mode.Read x.proto x.slot told) (closing_all others refused f)
       (λ opened. (fits.other (conversation_of h opened) (event.File opened.generation told 64) tt, λ r fine. told_by opened others refused next r f g))
 
@@ -289,7 +289,7 @@ module _ (h : ℕ) (P : ActorName → Event → Type 0) (R : Reply → Type 0) (
       taken names call_names (with_bound h called names (λ (f : Fid). takes_call h f (Ends names) next)) all
       (bound called names (λ (f : Fid). takes_call h f (Ends names) next) named (λ x. taking x (Ends names) next tt g))
 
-  heard_so : (names : Names) (count : ℕ) (call data_file : Fid) (heard : Heard) → Good (hears h names count call data_file heard)
+  heard_so : (names : Names) (count : ℕ) (call data_file : Fid) (heard : Heard) → Good (hears_call h names count call data_file heard)
   heard_so names count call data_file heard =
       tried (conversation_of h data_file) (event.Read data_file.generation count) (closes_all h (data_file ∷ call ∷ []) (Ends (hearing heard names)))
       (Ends (bind data_name data_file (bind call_name call (hearing heard names)))) tt
@@ -311,7 +311,7 @@ module _ (h : ℕ) (P : ActorName → Event → Type 0) (R : Reply → Type 0) (
 
   leaving : (call data_file : Fid) (refused next : Play) → Good refused → Good next → Good (leaves_call h call data_file refused next)
   leaving call data_file refused next f g =
-      closing data_file (closes_all h (call ∷ []) refused) (closes h call refused next) (closing_all (call ∷ []) refused f) (closing call refused next f g)
+      closing data_file (closes_all h (call ∷ []) refused) (closes_fid h call refused next) (closing_all (call ∷ []) refused f) (closing call refused next f g)
 
   answering : (call data_file : Fid) (answer : Option (List ℕ)) (refused next : Play) → Good refused → Good next → Good (answers_call h call data_file answer refused next)
   answering call data_file None refused next f g = leaving call data_file refused next f g
@@ -353,7 +353,7 @@ module _ (h : ℕ) (P : ActorName → Event → Type 0) (R : Reply → Type 0) (
   played names step.Refresh says = ending _ _ names (fits.other (name.Desk h) event.Refresh tt)
   played names (step.Dial called address) says =
       new called names _ says.0 (new (dotted_name called) names _ says.1 (asks_lines address (dials h called names) (dialling called names)))
-  played names (step.Announce called address) says = new called names _ says (asks_lines address (announces h called names) (announcing called names))
+  played names (step.Announce called address) says = new called names _ says (asks_lines address (announces_line h called names) (announcing called names))
   played names (step.Listen called from) says =
       bound from names _ says.1 (λ f. new called names _ says.0 (beside f file.Listen (Ends names) _ tt (λ call. tt)))
   played names (step.Accept called from) says =
@@ -363,7 +363,7 @@ module _ (h : ℕ) (P : ActorName → Event → Type 0) (R : Reply → Type 0) (
   played names (step.Hangup called) says = writable called names _ says (λ f. put f f.file (codes "hangup") (Ends names) (Ends names) tt tt)
   played names (step.Hread called count) says =
       calling called names
-      (λ (call data_file : Fid) (remote local : Addr). hears h names count call data_file (record { name = called; remote = remote; local = local }))
+      (λ (call data_file : Fid) (remote local : Addr). hears_call h names count call data_file (record { name = called; remote = remote; local = local }))
       says.0 says.1
       (λ call data_file remote local. heard_so names count call data_file (record { name = called; remote = remote; local = local }))
   played names (step.Hwrite called bytes) says =

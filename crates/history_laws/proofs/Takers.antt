@@ -6,7 +6,7 @@ use Rattle.std.proofs.lemmas.Bool.{and_parts, not-true}
 use Rattle.net_base.specs.declared.address.Addr.{Addr}
 use Rattle.net_base.specs.declared.address.Pair.{Pair}
 use Rattle.net_base.specs.declared.packet.Packet.{Packet}
-use Rattle.net_base.specs.Directory.{Key, Slot, Dir, is_free, is_announced, is_keyed, Exactly, ByPort, ByAny, key_at, match_of, or_else, first_slot, pair_place, Taker, taker_of, may_bear}
+use Rattle.net_base.specs.Directory.{Key, Slot, Dir, is_free, is_announced, is_keyed, Exactly, ByPort, ByAny, key_at, match_of, or_else, first_slot, pair_place, Taker, taker_of, is_first_packet}
 use Rattle.net_base.specs.Mirror.{mirror}
 use Rattle.net_base.specs.Same.{same_pair}
 use Rattle.net_base.proofs.Members.{none_is}
@@ -51,14 +51,14 @@ pub record TakerFound (pair : Pair) (packet : Packet) (d : Dir) (t : Taker) : Ty
   pub announces : is_announced t.listener.1.kind ≡ true
   pub unlisted : pair_place pair 1 d.pairs ≡ None
   pub apart : same_pair pair (mirror pair) ≡ false
-  pub bears : may_bear packet.body ≡ true
+  pub bears : is_first_packet packet.body ≡ true
 
 -- the pair is new, and passes the other tests
 abbrev new_and : Pair → Packet → Slot → Dir → Bool
 new_and pair packet listener d =
     is_none (pair_place pair 1 d.pairs)
     && (not (same_pair pair (mirror pair))
-    && (may_bear packet.body
+    && (is_first_packet packet.body
     && nat_lt (length listener.calls) 10))
 
 abbrev taken : Pair → Packet → Dir → Option (ℕ × Slot) → Option (ℕ × Slot) → Option Taker
@@ -84,7 +84,7 @@ taker_found pair packet d t is = go (first_slot is_free 0 d.slots) (match_of pac
           announces = hears.1;
           unlisted = none_is _ unlisted.0;
           apart = not-true _ apart.0;
-          bears = (and_parts (may_bear packet.body) _ apart.1).0;
+          bears = (and_parts (is_first_packet packet.body) _ apart.1).0;
         })
 
     go : (x y : Option (ℕ × Slot)) → first_slot is_free 0 d.slots ≡ x → match_of packet.dst d.slots ≡ y → taken pair packet d x y ≡ Some t → TakerFound pair packet d t

@@ -12,7 +12,7 @@ use Rattle.net_base.specs.Addresses.{parts_at}
 use Rattle.net_base.specs.Hexadecimal.{hex_byte, hex_bytes, hex_digit, hex_digits, hex_text, hex_value, hex_word}
 use Rattle.net_base.specs.Paths.{file_name, file_named}
 use Rattle.net_base.specs.Plain.{AreBytes, AreLines}
-use Rattle.net_base.specs.Transcript.{lines_of}
+use Rattle.net_base.specs.Transcript.{as_lines}
 use Rattle.net_base.specs.World.{is_byte}
 use Rattle.history_reader.specs.Fields as spec
 use Rattle.history_reader.specs.Fields.{Words}
@@ -71,30 +71,30 @@ text_exact = exact_one hex_text hex_word AreBytes hex_exact
 
 -- Lines.
 
-cut_spelled : (parts lines : List (List ℕ)) → spec.cut_texts parts ≡ Some lines → AreFree 10 parts → (join_with_byte 10 parts ≡ lines_of lines) × AreLines lines
+cut_spelled : (parts lines : List (List ℕ)) → spec.cut_texts parts ≡ Some lines → AreFree 10 parts → (join_with_byte 10 parts ≡ as_lines lines) × AreLines lines
 cut_spelled [] lines e free = absurd (none-some lines e)
-cut_spelled ([] ∷ []) lines e free = let same = same_Some [] lines e in (ap lines_of same, subst AreLines same tt)
+cut_spelled ([] ∷ []) lines e free = let same = same_Some [] lines e in (ap as_lines same, subst AreLines same tt)
 cut_spelled ((b ∷ last) ∷ []) lines e free = absurd (none-some lines e)
 cut_spelled ([] ∷ next ∷ parts) lines e free = by (spec.cut_texts (next ∷ parts)) refl e (λ ls f. cut_spelled (next ∷ parts) ls f free.1)
   where
     by : (o : Option (List (List ℕ))) → spec.cut_texts (next ∷ parts) ≡ o → option_map (λ (ts : List (List ℕ)). [] ∷ ts) o ≡ Some lines
-        → ((ls : List (List ℕ)) → spec.cut_texts (next ∷ parts) ≡ Some ls → (join_with_byte 10 (next ∷ parts) ≡ lines_of ls) × AreLines ls)
-        → (join_with_byte 10 ([] ∷ next ∷ parts) ≡ lines_of lines) × AreLines lines
+        → ((ls : List (List ℕ)) → spec.cut_texts (next ∷ parts) ≡ Some ls → (join_with_byte 10 (next ∷ parts) ≡ as_lines ls) × AreLines ls)
+        → (join_with_byte 10 ([] ∷ next ∷ parts) ≡ as_lines lines) × AreLines lines
     by None q f later = absurd (none-some lines f)
     by (Some ls) q f later =
         let is = later ls q in
         let same = same_Some ([] ∷ ls) lines f in
-        (ap (λ ws. 10 ∷ ws) is.0 ∙ ap lines_of same, subst AreLines same (tt, is.1))
+        (ap (λ ws. 10 ∷ ws) is.0 ∙ ap as_lines same, subst AreLines same (tt, is.1))
 cut_spelled ((b ∷ text) ∷ next ∷ parts) lines e free = by (spec.cut_texts (next ∷ parts)) refl e (λ ls f. cut_spelled (next ∷ parts) ls f free.1)
   where
     by : (o : Option (List (List ℕ))) → spec.cut_texts (next ∷ parts) ≡ o → option_map (λ (ts : List (List ℕ)). (b ∷ text) ∷ ts) o ≡ Some lines
-        → ((ls : List (List ℕ)) → spec.cut_texts (next ∷ parts) ≡ Some ls → (join_with_byte 10 (next ∷ parts) ≡ lines_of ls) × AreLines ls)
-        → (join_with_byte 10 ((b ∷ text) ∷ next ∷ parts) ≡ lines_of lines) × AreLines lines
+        → ((ls : List (List ℕ)) → spec.cut_texts (next ∷ parts) ≡ Some ls → (join_with_byte 10 (next ∷ parts) ≡ as_lines ls) × AreLines ls)
+        → (join_with_byte 10 ((b ∷ text) ∷ next ∷ parts) ≡ as_lines lines) × AreLines lines
     by None q f later = absurd (none-some lines f)
     by (Some ls) q f later =
         let is = later ls q in
         let same = same_Some ((b ∷ text) ∷ ls) lines f in
-        (ap (λ ws. (b ∷ text) ++ 10 ∷ ws) is.0 ∙ sym (append_assoc (b ∷ text) (10 ∷ []) (lines_of ls)) ∙ ap lines_of same, subst AreLines same (free_line (b ∷ text) free.0, is.1))
+        (ap (λ ws. (b ∷ text) ++ 10 ∷ ws) is.0 ∙ sym (append_assoc (b ∷ text) (10 ∷ []) (as_lines ls)) ∙ ap as_lines same, subst AreLines same (free_line (b ∷ text) free.0, is.1))
 
 -- lines before a last part that isn't left out
 cut_more : (text : List ℕ) (parts lines : List (List ℕ)) → spec.cut_texts parts ≡ Some lines → spec.cut_texts (text ∷ parts) ≡ Some (text ∷ lines)
@@ -102,12 +102,12 @@ cut_more text [] lines e = absurd (none-some lines e)
 cut_more [] (next ∷ parts) lines e = ap (option_map (λ (ts : List (List ℕ)). [] ∷ ts)) e
 cut_more (b ∷ text) (next ∷ parts) lines e = ap (option_map (λ (ts : List (List ℕ)). (b ∷ text) ∷ ts)) e
 
-cut_told : (lines : List (List ℕ)) → AreLines lines → spec.cut_texts (parts_at 10 (lines_of lines)) ≡ Some lines
+cut_told : (lines : List (List ℕ)) → AreLines lines → spec.cut_texts (parts_at 10 (as_lines lines)) ≡ Some lines
 cut_told [] are = refl
 cut_told (line ∷ lines) are =
-    ap (λ ws. spec.cut_texts (parts_at 10 ws)) (append_assoc line (10 ∷ []) (lines_of lines))
-    ∙ ap spec.cut_texts (first_part 10 line (lines_of lines) (line_free line are.0))
-    ∙ cut_more line (parts_at 10 (lines_of lines)) lines (cut_told lines are.1)
+    ap (λ ws. spec.cut_texts (parts_at 10 ws)) (append_assoc line (10 ∷ []) (as_lines lines))
+    ∙ ap spec.cut_texts (first_part 10 line (as_lines lines) (line_free line are.0))
+    ∙ cut_more line (parts_at 10 (as_lines lines)) lines (cut_told lines are.1)
 
 bytes_parts : (xs ys : List ℕ) → AreBytes (xs ++ ys) → AreBytes xs × AreBytes ys
 bytes_parts [] ys are = (tt, are)
@@ -117,39 +117,39 @@ bytes_both : (xs ys : List ℕ) → AreBytes xs → AreBytes ys → AreBytes (xs
 bytes_both [] ys ax ay = ay
 bytes_both (x ∷ xs) ys ax ay = (ax.0, bytes_both xs ys ax.1 ay)
 
-byte_lines : (lines : List (List ℕ)) → AreBytes (lines_of lines) → AreByteLines lines
+byte_lines : (lines : List (List ℕ)) → AreBytes (as_lines lines) → AreByteLines lines
 byte_lines [] are = tt
 byte_lines (line ∷ lines) are =
-    let both = bytes_parts (line ++ 10 ∷ []) (lines_of lines) are in
+    let both = bytes_parts (line ++ 10 ∷ []) (as_lines lines) are in
     ((bytes_parts line (10 ∷ []) both.0).0, byte_lines lines both.1)
 
-lines_bytes : (lines : List (List ℕ)) → AreByteLines lines → AreBytes (lines_of lines)
+lines_bytes : (lines : List (List ℕ)) → AreByteLines lines → AreBytes (as_lines lines)
 lines_bytes [] are = tt
-lines_bytes (line ∷ lines) are = bytes_both (line ++ 10 ∷ []) (lines_of lines) (bytes_both line (10 ∷ []) are.0 (omega arith, tt)) (lines_bytes lines are.1)
+lines_bytes (line ∷ lines) are = bytes_both (line ++ 10 ∷ []) (as_lines lines) (bytes_both line (10 ∷ []) are.0 (omega arith, tt)) (lines_bytes lines are.1)
 
 abbrev pub AreTexts : List (List ℕ) → Type 0
 AreTexts lines = AreByteLines lines × AreLines lines
 
 abbrev pub line_hexes : List (List ℕ) → Words
-line_hexes lines = hex_word (lines_of lines) ∷ []
+line_hexes lines = hex_word (as_lines lines) ∷ []
 
-texts_sound : (word : List ℕ) (lines : List (List ℕ)) → spec.texts_in (hex_text word) ≡ Some lines → (word ≡ hex_word (lines_of lines)) × AreTexts lines
+texts_sound : (word : List ℕ) (lines : List (List ℕ)) → spec.texts_in (hex_text word) ≡ Some lines → (word ≡ hex_word (as_lines lines)) × AreTexts lines
 texts_sound word lines e = by (hex_text word) refl e
   where
-    by : (o : Option (List ℕ)) → hex_text word ≡ o → spec.texts_in o ≡ Some lines → (word ≡ hex_word (lines_of lines)) × AreTexts lines
+    by : (o : Option (List ℕ)) → hex_text word ≡ o → spec.texts_in o ≡ Some lines → (word ≡ hex_word (as_lines lines)) × AreTexts lines
     by None q f = absurd (none-some lines f)
     by (Some bytes) q f =
         let is = cut_spelled (parts_at 10 bytes) lines f (parts_free 10 bytes) in
-        let same : bytes ≡ lines_of lines = sym (join_with_byte-slice_split 10 bytes) ∙ is.0 in
+        let same : bytes ≡ as_lines lines = sym (join_with_byte-slice_split 10 bytes) ∙ is.0 in
         (hex-spelled word bytes q ∙ ap hex_word same, (byte_lines lines (subst AreBytes same (text_small word bytes q)), is.1))
 
 pub texts_exact : Exact (List (List ℕ)) spec.texts line_hexes AreTexts
 texts_exact =
-    exact_one (λ word. spec.texts_in (hex_text word)) (λ lines. hex_word (lines_of lines)) AreTexts
+    exact_one (λ word. spec.texts_in (hex_text word)) (λ lines. hex_word (as_lines lines)) AreTexts
     (record {
       sound = texts_sound;
-      told = λ lines are. ap spec.texts_in (hex_exact.told (lines_of lines) (lines_bytes lines are.0)) ∙ cut_told lines are.1;
-      bare = λ lines are. (free_hex 32 (lines_of lines) (omega arith), free_hex 10 (lines_of lines) (omega arith));
+      told = λ lines are. ap spec.texts_in (hex_exact.told (as_lines lines) (lines_bytes lines are.0)) ∙ cut_told lines are.1;
+      bare = λ lines are. (free_hex 32 (as_lines lines) (omega arith), free_hex 10 (as_lines lines) (omega arith));
     })
 
 -- The digits of bytes aren't the name of a file.

@@ -7,7 +7,7 @@ use Rattle.net_base.specs.declared.address.Pair.{Pair}
 use Rattle.net_base.specs.declared.il.StateName.{StateName}
 use Rattle.net_base.specs.declared.il.StateName.TheVariants as name
 use Rattle.net_base.specs.declared.packet.Packet.{Packet}
-use Rattle.net_base.specs.Directory.{Dir, Slot, Key, Exactly, ByPort, ByAny, first_slot, is_announced, is_free, is_keyed, key_at, match_of, may_bear, or_else, pair_place}
+use Rattle.net_base.specs.Directory.{Dir, Slot, Key, Exactly, ByPort, ByAny, first_slot, is_announced, is_free, is_keyed, key_at, match_of, is_first_packet, or_else, pair_place}
 use Rattle.net_base.specs.Mirror.{mirror}
 use Rattle.net_base.specs.Same.{same_pair}
 use Rattle.host_dir.specs.declared.slots.TakerAt.{TakerAt}
@@ -36,7 +36,7 @@ pub takes_is : (d : Dir) (pair : Pair) (packet : Packet) (free listener : ℕ)
 takes_is d pair packet free listener one two low high tests =
     let new = and_parts (is_none (pair_place pair 1 d.pairs)) _ tests in
     let apart = and_parts (not (same_pair pair (mirror pair))) _ new.1 in
-    let bears = and_parts (may_bear packet.body) _ apart.1 in
+    let bears = and_parts (is_first_packet packet.body) _ apart.1 in
     record {
       free_within = low;
       free = passes_at is_free d.slots free one;

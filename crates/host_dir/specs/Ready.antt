@@ -5,7 +5,7 @@ use Rattle.net_base.specs.declared.event.Event.{Event}
 use Rattle.net_base.specs.declared.event.Event.TheVariants as event
 use Rattle.net_base.specs.declared.history.With.{With}
 use Rattle.net_base.specs.declared.history.With.TheVariants as given
-use Rattle.net_base.specs.Directory.{Dir, is_of, listens}
+use Rattle.net_base.specs.Directory.{Dir, is_of, slot_listens}
 
 -- a packet of the protocol is given
 abbrev pub takes : Proto → With → Bool
@@ -18,7 +18,7 @@ is_ready p event.Reserve with d = true
 is_ready p (event.Grant n g remote port) with d = nat_lt n (length d.slots)
 is_ready p (event.Announce n g ip port) with d = nat_lt n (length d.slots)
 is_ready p (event.Bind n g port) with d = nat_lt n (length d.slots)
-is_ready p (event.Listen n) with d = is_some (listens (slice_get d.slots n) n d)
+is_ready p (event.Listen n) with d = is_some (slot_listens (slice_get d.slots n) n d)
 is_ready p (event.Withdraw n g) with d = nat_lt n (length d.slots)
 is_ready p (event.Release n g) with d = nat_lt n (length d.slots)
 is_ready p event.Arrive with d = takes p with

@@ -2,7 +2,7 @@
 use Rattle.std.specs.Prelude.{◌≡◌, ℕ, ◌<◌, ◌&&◌, not, Bool, true, List, Option, Some, None, is_none, length, nat_lt}
 use Rattle.net_base.specs.declared.address.Pair.{Pair}
 use Rattle.net_base.specs.declared.packet.Packet.{Packet}
-use Rattle.net_base.specs.Directory.{Dir, Slot, is_announced, is_free, may_bear, pair_place}
+use Rattle.net_base.specs.Directory.{Dir, Slot, is_announced, is_free, is_first_packet, pair_place}
 use Rattle.net_base.specs.Mirror.{mirror}
 use Rattle.net_base.specs.Same.{same_pair}
 use Rattle.host_dir.specs.declared.slots.TakerAt.{TakerAt}
@@ -18,7 +18,7 @@ chosen None None used = drawn used
 -- the pair was never granted or born and isn't its own mirror, the packet may bear, and there is room at the listener
 abbrev pub may_take : Pair → Packet → Slot → Dir → Bool
 may_take pair packet listener d =
-    is_none (pair_place pair 1 d.pairs) && (not (same_pair pair (mirror pair)) && (may_bear packet.body && nat_lt (length listener.calls) 10))
+    is_none (pair_place pair 1 d.pairs) && (not (same_pair pair (mirror pair)) && (is_first_packet packet.body && nat_lt (length listener.calls) 10))
 
 -- what a birth stands on
 pub record Takes (d : Dir) (pair : Pair) (t : TakerAt) : Type 0 where

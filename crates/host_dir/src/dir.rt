@@ -353,11 +353,11 @@ impl Dir {
     /// A slot is bound to a port.
     fn bind(&mut self, n: u32, generation: u64, port: u16) -> Result<Outcome, AllocError>
         requires { n < length self.old.dir.slots }
-        ensures ok { IfOk result (λ o. Leaves self.new o (spec.in_slot n generation self.old.dir (spec.binds n port
+        ensures ok { IfOk result (λ o. Leaves self.new o (spec.in_slot n generation self.old.dir (spec.slot_binds n port
             self.old.dir))) }
         ensures stays { Stays self.old self.new }
         ensures err { OnErr result (self.new ≡ self.old) }
-        ensures memory { OnErr result (StepMayWant (spec.in_slot n generation self.old.dir (spec.binds n port
+        ensures memory { OnErr result (StepMayWant (spec.in_slot n generation self.old.dir (spec.slot_binds n port
             self.old.dir))) }
     {
         let slot = self.slots.at(n);
@@ -378,8 +378,8 @@ impl Dir {
 
     /// Takes the oldest call of an announcing slot.
     fn listen(&mut self, n: u32) -> Outcome
-        requires { IsTrue (is_some (spec.listens (slice_get self.old.dir.slots n) n self.old.dir)) }
-        ensures step { Leaves self.new result (spec.listens (slice_get self.old.dir.slots n) n self.old.dir) }
+        requires { IsTrue (is_some (spec.slot_listens (slice_get self.old.dir.slots n) n self.old.dir)) }
+        ensures step { Leaves self.new result (spec.slot_listens (slice_get self.old.dir.slots n) n self.old.dir) }
         ensures stays { Stays self.old self.new }
     {
         match self.slots.at(n).kind() {
@@ -467,13 +467,13 @@ impl Dir {
     /// refused, and all else is dropped.
     fn arrive(&mut self, packet: &Packet) -> Result<Outcome, AllocError>
         ensures ok { IfOk result (λ o. Gives self.old self.new o (λ at. Some (spec.arrives_at
-            (spec.first_slot (spec.is_live_with (spec.pair_of packet.now)) 0 self.old.dir.slots)
-            at (spec.pair_of packet.now) packet.now self.old.dir))) }
+            (spec.first_slot (spec.is_live_with (spec.packet_pair packet.now)) 0 self.old.dir.slots)
+            at (spec.packet_pair packet.now) packet.now self.old.dir))) }
         ensures stays { Stays self.old self.new }
         ensures err { OnErr result (self.new ≡ self.old) }
         ensures memory { OnErr result (Wants self.old (λ at. Some (spec.arrives_at
-            (spec.first_slot (spec.is_live_with (spec.pair_of packet.now)) 0 self.old.dir.slots)
-            at (spec.pair_of packet.now) packet.now self.old.dir))) }
+            (spec.first_slot (spec.is_live_with (spec.packet_pair packet.now)) 0 self.old.dir.slots)
+            at (spec.packet_pair packet.now) packet.now self.old.dir))) }
     {
         let pair = Pair {
             local: packet.dst,
@@ -573,7 +573,7 @@ fn limit_of(proto: Proto, mtu: u32) -> u32
 
 /// Whether the packet with this body may bear a conversation: a datagram of UDP, or a sync of IL with ack 0.
 fn may_bear(body: &Body) -> bool
-    ensures { result ≡ spec.may_bear body.now }
+    ensures { result ≡ spec.is_first_packet body.now }
 {
     match body {
         Body::Il(message) => message.kind == IlKind::Sync && message.ack == 0,

@@ -2,7 +2,7 @@
 ghost use Rattle.std.specs.Prelude.{◌≡◌, ◌<◌, ℕ, [], ◌∷◌, ◌++◌, drop, length, slice_get, is_some, Some, IfOk};
 ghost use Rattle.net_base.specs.declared.il.StateName.TheVariants as state_name;
 ghost use Rattle.net_base.specs.Directory as spec;
-ghost use Rattle.net_base.specs.Directory.{Dir as AnyDir, listens, free_slot, is_bound, is_free, is_keyed, is_live_with};
+ghost use Rattle.net_base.specs.Directory.{Dir as AnyDir, slot_listens, free_slot, is_slot_bound, is_free, is_keyed, is_live_with};
 
 use listen_queue::CallQueue;
 use net_base::{Call, Pair, StateName};
@@ -99,7 +99,7 @@ impl Slot {
 
     /// Whether a listen has an answer at it.
     pub fn hears(&self) -> bool
-        ensures { (n : ℕ) (d : AnyDir) → result ≡ is_some (listens (Some self.now) n d) }
+        ensures { (n : ℕ) (d : AnyDir) → result ≡ is_some (slot_listens (Some self.now) n d) }
     {
         self.kind != StateName::Announced || self.calls.first().is_some()
     }
@@ -130,7 +130,7 @@ impl Slot {
 
     /// Whether it is taken and bound to the port.
     pub fn is_bound(&self, port: u16) -> bool
-        ensures { result ≡ is_bound port self.now }
+        ensures { result ≡ is_slot_bound port self.now }
     {
         !self.is_free() && self.bound == Some(port)
     }

@@ -5,7 +5,7 @@ ghost use Rattle.std.specs.Map.{lookup};
 ghost use Rattle.std.specs.Option.{option_map_or};
 ghost use Rattle.net_base.specs.declared.il.StateName.TheVariants as state_name;
 ghost use Rattle.net_base.specs.Actors.{slot_count};
-ghost use Rattle.net_base.specs.Directory.{Dir as AnyDir, first_slot, free_slot, is_bound, is_free, is_keyed, is_live_with, listens, match_of, pair_place};
+ghost use Rattle.net_base.specs.Directory.{Dir as AnyDir, first_slot, free_slot, is_slot_bound, is_free, is_keyed, is_live_with, slot_listens, match_of, pair_place};
 ghost use Rattle.host_dir.specs.Found.{found_at, slot_at};
 ghost use Rattle.net_base.specs.Same.{same_pair};
 ghost use Rattle.host_dir.specs.Tables.{IsIndexed, pair_of};
@@ -92,7 +92,7 @@ fn keyed_place(slots: &[Slot], key: Key) -> Option<u32>
 /// Where the first slot stands that is bound to the port.
 fn bound_position(slots: &[Slot], port: u16) -> Option<usize>
     ensures within { IfSome result (λ n. n < length slots.now) }
-    ensures value { result ≡ position_from (is_bound port) 0 slots.now }
+    ensures value { result ≡ position_from (is_slot_bound port) 0 slots.now }
 {
     slots.iter().position(|slot| slot.is_bound(port))
 }
@@ -102,7 +102,7 @@ fn bound_position(slots: &[Slot], port: u16) -> Option<usize>
 fn bound_place(slots: &[Slot], port: u16) -> Option<u32>
     requires { length slots.now ≡ 32 }
     ensures within { IfSome result (λ n. n < length slots.now) }
-    ensures value { first_slot (is_bound port) 0 slots.now ≡ found_at slots.now result }
+    ensures value { first_slot (is_slot_bound port) 0 slots.now ≡ found_at slots.now result }
 {
     match bound_position(slots, port) {
         Some(n) => Some(n as u32),
@@ -212,7 +212,7 @@ impl Slots {
 
     /// Whether a listen at the slot has an answer: there is the slot, and it doesn't announce or a call waits.
     pub fn hears(&self, n: u32) -> bool
-        ensures { (d : AnyDir) → result ≡ is_some (listens (slice_get self.now.slots n) n d) }
+        ensures { (d : AnyDir) → result ≡ is_some (slot_listens (slice_get self.now.slots n) n d) }
     {
         match self.slots.get(n as usize) {
             Some(slot) => slot.hears(),
@@ -248,7 +248,7 @@ impl Slots {
     /// The first slot that is bound to the port.
     pub fn bound_to(&self, port: u16) -> Option<u32>
         ensures within { IfSome result (λ n. n < length self.now.slots) }
-        ensures value { first_slot (is_bound port) 0 self.now.slots ≡ found_at self.now.slots result }
+        ensures value { first_slot (is_slot_bound port) 0 self.now.slots ≡ found_at self.now.slots result }
     {
         bound_place(&self.slots, port)
     }

@@ -117,7 +117,7 @@ own_reply c log x is cites =
 
 -- An actor is the fold of its works, so its replies fit.
 
-abbrev plays_of : List (ℕ × Noted) → List nets.Play
+abbrev plays_of : List (ℕ × Noted) → List nets.WorkAt
 plays_of xs = map (λ (x : ℕ × Noted). record { moment = x.1.entry.moment; work = x.1.work }) xs
 
 -- what is known of what lies under a lock, and of replies
@@ -125,7 +125,7 @@ abbrev pub KeepsActors : Type 0
 KeepsActors = (w : World) (log : List Noted) (a : ActorName) → state_at (opening w) (answer_in w) a log ≡ named a ((noted_net w log).actors a)
 
 abbrev pub FitWorks : Type 0
-FitWorks = (w : World) (a : ActorName) (ps : List nets.Play) (now : ℕ) (work : Work) (t : Step Actor)
+FitWorks = (w : World) (a : ActorName) (ps : List nets.WorkAt) (now : ℕ) (work : Work) (t : Step Actor)
     → actor_step w a (played w a (opening_actor w.timers a) ps) now work ≡ Some t → fits work.event t.outcome.reply ≡ true
 
 module _ (w : World) (a : ActorName) where

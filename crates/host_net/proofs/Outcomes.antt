@@ -15,7 +15,7 @@ use Rattle.net_base.specs.Callers.{IsClock, caller_of}
 use Rattle.net_base.specs.ActorStep.{Step}
 use Rattle.net_base.specs.Actors.{Actor, actor_step}
 use Rattle.net_base.specs.Calm.{done_by, limited_by, movable_by, stopped_by, target_by}
-use Rattle.net_base.specs.Duties.{Duty, duties, ticks}
+use Rattle.net_base.specs.Duties.{Duty, duties, owed_ticks}
 use Rattle.net_base.specs.Net.{Net, after}
 use Rattle.net_base.specs.Next.{own_replies, zone_of}
 use Rattle.net_base.specs.Stamped.{In, at, at_from}
@@ -117,8 +117,8 @@ pushed c stamp log x is long =
 
 -- a move owes its ticks alone
 move_owes : (w : World) (actors : ActorName → Actor) (stamp m : ℕ) (step : Step Actor)
-    → duties w actors name.Clock stamp (bare (event.Move m)) step ≡ ticks w actors name.Clock stamp (event.Move m)
-move_owes w actors stamp m step = append-nil (ticks w actors name.Clock stamp (event.Move m))
+    → duties w actors name.Clock stamp (bare (event.Move m)) step ≡ owed_ticks w actors name.Clock stamp (event.Move m)
+move_owes w actors stamp m step = append-nil (owed_ticks w actors name.Clock stamp (event.Move m))
 
 -- a move of the same caller at the same moment is one
 same_move : (u v : Visit) (m : ℕ) (step : Step Actor) → u.caller ≡ v.caller → u.now ≡ v.now → moved u m step ≡ moved v m step
@@ -200,18 +200,18 @@ module _ {T : Type 0} (ts : Tasks) (w : World) (r : Roster) (gs lent : List (Gro
 
     owed_after : (l : List Noted) → l ≡ a.at.sight.seen → drop 1 a.at.owed ++ duties w (noted_net w l).actors
         name.Clock d.entry.stamp (bare (event.Move m)) d.entry.turn.step
-        ≡ ticks w (noted_net w a.at.sight.seen).actors name.Clock d.entry.stamp (event.Move m)
+        ≡ owed_ticks w (noted_net w a.at.sight.seen).actors name.Clock d.entry.stamp (event.Move m)
     owed_after l is =
         let t = d.entry.turn in
         let s = d.entry.stamp in
         ap (λ (ds : List Duty). drop 1 ds ++ duties w (noted_net w l).actors name.Clock s (bare (event.Move m)) t.step) d.free
         ∙ (move_owes w (noted_net w l).actors s m t.step
-        ∙ ap (λ (k : List Noted). ticks w (noted_net w k).actors name.Clock s (event.Move m)) is)
+        ∙ ap (λ (k : List Noted). owed_ticks w (noted_net w k).actors name.Clock s (event.Move m)) is)
 
     owes : AfterAll ts w (visits (all_members gs)) (λ (net_ : Net).
-        q.visit.owed ≡ ticks w net_.actors name.Clock d.entry.stamp (event.Move m))
+        q.visit.owed ≡ owed_ticks w net_.actors name.Clock d.entry.stamp (event.Move m))
     owes =
-        clock_told (λ (net_ : Net). q.visit.owed ≡ ticks w net_.actors name.Clock d.entry.stamp (event.Move m))
+        clock_told (λ (net_ : Net). q.visit.owed ≡ owed_ticks w net_.actors name.Clock d.entry.stamp (event.Move m))
         (a.owed_is ∙ (d.entry.turn.owed ∙ owed_after d.entry.turn.past past_is))
 
     has_moved : HasMoved ts w (visits (all_members gs)) m p.visit q.visit

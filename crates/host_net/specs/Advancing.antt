@@ -13,7 +13,7 @@ use Rattle.net_base.specs.declared.world.World.{World}
 use Rattle.net_base.specs.ActorStep.{Step}
 use Rattle.net_base.specs.Actors.{Actor, actor_step}
 use Rattle.net_base.specs.Calm.{done_by, limited_by, movable_by, stopped_by, target_by}
-use Rattle.net_base.specs.Duties.{ticks}
+use Rattle.net_base.specs.Duties.{owed_ticks}
 use Rattle.net_base.specs.Legal.{IsLegalBy, IsTimedBy}
 use Rattle.net_base.specs.Net.{Net, after}
 use Rattle.net_base.specs.Next.{next_by}
@@ -122,7 +122,7 @@ pub record HasMoved (ts : Tasks) (w : World) (all : List Visit) (m : ℕ) (old n
   pub stamp_is : (h : List Entry) → IsHistoryOf ts w all h → stamp ≡ length h
   pub stepped : AfterAll ts w all (λ (net : Net).
       actor_step w name.Clock (net.actors name.Clock) old.now (bare (event.Move m)) ≡ Some step)
-  pub owes : AfterAll ts w all (λ (net : Net). new.owed ≡ ticks w net.actors name.Clock stamp (event.Move m))
+  pub owes : AfterAll ts w all (λ (net : Net). new.owed ≡ owed_ticks w net.actors name.Clock stamp (event.Move m))
 
 -- it recorded nothing, and has the moment that it had
 pub record HasRested (old new : Visit) : Type 0 where

@@ -7,7 +7,7 @@ use Rattle.net_base.specs.declared.history.Work.{Work}
 use Rattle.net_base.specs.declared.world.Version.{Version}
 use Rattle.net_base.specs.declared.world.World.{World}
 use Rattle.net_base.specs.Actors.{Actor, actor_step, has_actor, opening_actor}
-use Rattle.net_base.specs.Net.{Play, actors_after, play, played, stepped_to}
+use Rattle.net_base.specs.Net.{WorkAt, actors_after, play, played, stepped_to}
 use Rattle.net_base.specs.Stamped.{same_actor}
 use Rattle.net_base.specs.World.{IsDatabase, IsWorld}
 use Rattle.net_actors.specs.Numbers.{is_among}
@@ -34,13 +34,13 @@ can_step w v n a now work told led few has is tells =
       ready = sym (tells w led.states led.are) ∙ is;
     }
 
-played_more : (w : World) (a : ActorName) (s : Actor) (ps : List Play) (p : Play) → played w a s (ps ++ p ∷ []) ≡ play w a (played w a s ps) p
+played_more : (w : World) (a : ActorName) (s : Actor) (ps : List WorkAt) (p : WorkAt) → played w a s (ps ++ p ∷ []) ≡ play w a (played w a s ps) p
 played_more w a s [] p = refl
 played_more w a s (q ∷ ps) p = played_more w a (play w a s q) ps p
 
 one_more : (w : World) (a : ActorName) (s t : Actor) (n now : ℕ) (work : Work) (o : Outcome) → IsLedTo w a s n → actor_step w a s now work ≡ Some (record { state = t; outcome = o }) → IsLedTo w a t (n + 1)
 one_more w a s t n now work o led step =
-    let p : Play = record { moment = now; work = work } in
+    let p : WorkAt = record { moment = now; work = work } in
     let more = length-append led.works (p ∷ []) in
     let count = led.few in
     record {

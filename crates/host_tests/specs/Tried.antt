@@ -7,7 +7,7 @@ use Rattle.net_base.specs.declared.world.MediumSpec.{MediumSpec}
 use Rattle.net_base.specs.declared.world.World.{World}
 use Rattle.net_base.specs.declared.timer.Timers.TheVariants.{Fixed}
 use Rattle.net_base.specs.Actors.{Actor, opening_actor}
-use Rattle.net_base.specs.Net.{Play, played}
+use Rattle.net_base.specs.Net.{WorkAt, played}
 use Rattle.net_actors.specs.Together.{AreActors, Numbered}
 
 abbrev pub tried_host : List ℕ → ℕ → HostSpec
@@ -37,7 +37,7 @@ tried_world =
 
 -- at most n works led the actor to this state
 pub record IsLedTo (w : World) (a : ActorName) (s : Actor) (n : ℕ) : Type 0 where
-  pub works : List Play
+  pub works : List WorkAt
   pub led : s ≡ played w a (opening_actor w.timers a) works
   pub few : length works ≤ n
 

@@ -3,7 +3,7 @@ use Rattle.std.proofs.Common.{arith, subst, ◌≡◌, ℕ, zero, suc, ◌+◌, 
 use Rattle.net_base.specs.declared.il.IlMsg.{IlMsg}
 use Rattle.net_base.specs.Number.{number}
 use Rattle.net_base.specs.Timer.{Timer}
-use Rattle.net_base.specs.IlEnd.{End, rstart_of, backlog, early_at, without, becomes_early, comes_in_turn, come_in_turn, accepts, acked_to, hears, hears_ack, moves, acks}
+use Rattle.net_base.specs.IlEnd.{End, rstart_of, backlog, early_at, without_early, becomes_early, comes_in_turn, come_in_turn, accepts, acked_to, hears, hears_ack, waits_anew, acks}
 use Rattle.il_machine.specs.InTurn.{in_turn, with_turned}
 use Rattle.il_machine.specs.Windows.{AreWithin, Windows, rstart_kept, windows_of}
 use Rattle.il_machine.proofs.InTurn.{moves_in_turn, none_moves}
@@ -15,7 +15,7 @@ ChangesBoth e after = after ≡ record e { got = after.got; early = after.early 
 
 both_if : (n : ℕ) (e : End) (o : Option (List ℕ)) → ((e' : End) → ChangesBoth e' (come_in_turn n e')) → ChangesBoth e (come_in_turn n (comes_in_turn o e))
 both_if n e None rest = rest e
-both_if n e (Some text) rest = rest (record e { got = e.got ++ text ∷ []; early = without (length e.got + 1) e.early })
+both_if n e (Some text) rest = rest (record e { got = e.got ++ text ∷ []; early = without_early (length e.got + 1) e.early })
 
 both_in_turn : (n : ℕ) (e : End) → ChangesBoth e (come_in_turn n e)
 both_in_turn zero e = refl
@@ -28,7 +28,7 @@ stamped acked t e = record e { acked = acked; timer = t }
 stamped_if : (n acked : ℕ) (t : Timer) (e : End) (o : Option (List ℕ)) → ((e' : End) → come_in_turn n (stamped acked t e') ≡ stamped acked t (come_in_turn n e'))
     → come_in_turn n (comes_in_turn o (stamped acked t e)) ≡ stamped acked t (come_in_turn n (comes_in_turn o e))
 stamped_if n acked t e None rest = rest e
-stamped_if n acked t e (Some text) rest = rest (record e { got = e.got ++ text ∷ []; early = without (length e.got + 1) e.early })
+stamped_if n acked t e (Some text) rest = rest (record e { got = e.got ++ text ∷ []; early = without_early (length e.got + 1) e.early })
 
 stamped_in_turn : (n acked : ℕ) (t : Timer) (e : End) → come_in_turn n (stamped acked t e) ≡ stamped acked t (come_in_turn n e)
 stamped_in_turn zero acked t e = refl
@@ -76,18 +76,18 @@ accepts_stamped m acked t e = stamped_of (number (rstart_of e) m.id (length e.go
 -- Taking the ack before or after is the same.
 
 acked_if : (now k : ℕ) (m : IlMsg) (e : End) (b : Bool)
-    → accepts m (if b then moves now (acks now k e) else e) ≡ (if b then moves now (acks now k (accepts m e)) else accepts m e)
+    → accepts m (if b then waits_anew now (acks now k e) else e) ≡ (if b then waits_anew now (acks now k (accepts m e)) else accepts m e)
 acked_if now k m e false = refl
 acked_if now k m e true =
-    accepts_stamped m k (moves now (acks now k e)).timer e
-    ∙ ap (λ (e' : End). stamped k (moves now (acks now k e)).timer e') (accepts_both m e)
-    ∙ sym (ap (λ (e' : End). moves now (acks now k e')) (accepts_both m e))
+    accepts_stamped m k (waits_anew now (acks now k e)).timer e
+    ∙ ap (λ (e' : End). stamped k (waits_anew now (acks now k e)).timer e') (accepts_both m e)
+    ∙ sym (ap (λ (e' : End). waits_anew now (acks now k e')) (accepts_both m e))
 
 accepts_acked : (now : ℕ) (o : Option ℕ) (m : IlMsg) (e : End) → accepts m (acked_to now o e) ≡ acked_to now o (accepts m e)
 accepts_acked now None m e = refl
 accepts_acked now (Some k) m e =
     acked_if now k m e (nat_le k (length e.sent))
-    ∙ ap (λ (sent : List (List ℕ)). if nat_le k (length sent) then moves now (acks now k (accepts m e)) else accepts m e) (sym (ap (λ (e' : End). e'.sent) (accepts_both m e)))
+    ∙ ap (λ (sent : List (List ℕ)). if nat_le k (length sent) then waits_anew now (acks now k (accepts m e)) else accepts m e) (sym (ap (λ (e' : End). e'.sent) (accepts_both m e)))
 
 pub accepts_hears_ack : (now : ℕ) (m : IlMsg) (e : End) → accepts m (hears_ack now m e) ≡ hears_ack now m (accepts m e)
 accepts_hears_ack now m e =

@@ -1,6 +1,6 @@
 -- What is early moves in turn.
 use Rattle.std.proofs.Common.{◌≡◌, ℕ, zero, suc, ◌+◌, List, [], ◌∷◌, ◌++◌, length, Option, Some, None, refl, arith, ap, sym, ◌∙◌, append_assoc, append-nil, length-append}
-use Rattle.net_base.specs.IlEnd.{End, Early, early_at, without, comes_in_turn, come_in_turn}
+use Rattle.net_base.specs.IlEnd.{End, Early, early_at, without_early, comes_in_turn, come_in_turn}
 use Rattle.il_machine.specs.InTurn.{Turned, in_turn, next_of, with_turned}
 use Rattle.il_machine.proofs.Near.{one_less}
 
@@ -24,7 +24,7 @@ with_more e text left t = rw append_assoc refl
 
 step_in_turn : (n : ℕ) (e : End) (o : Option (List ℕ)) → early_at (length e.got + 1) e.early ≡ o
     → ((e' : End) → come_in_turn n e' ≡ with_turned e' (in_turn n (length e'.got) e'.early))
-    → come_in_turn n (comes_in_turn o e) ≡ with_turned e (next_of o e.early (in_turn n (length e.got + 1) (without (length e.got + 1) e.early)))
+    → come_in_turn n (comes_in_turn o e) ≡ with_turned e (next_of o e.early (in_turn n (length e.got + 1) (without_early (length e.got + 1) e.early)))
 step_in_turn n e None none others = none_moves n e none ∙ with_none e
 step_in_turn n e (Some text) there others =
     others after
@@ -32,7 +32,7 @@ step_in_turn n e (Some text) there others =
     ∙ with_more e text left (in_turn n (length e.got + 1) left)
   where
     left : List Early
-    left = without (length e.got + 1) e.early
+    left = without_early (length e.got + 1) e.early
 
     after : End
     after = record e { got = e.got ++ text ∷ []; early = left }
@@ -53,13 +53,13 @@ pub record Steps (last : ℕ) (text : List ℕ) (early left : List Early) : Type
   pub got : last + 1 + length (in_turn (length left) (last + 1) left).texts ≡ last + length (in_turn (length early) last early).texts
 
 one_in_turn : (m n got : ℕ) (text : List ℕ) (early : List Early) → n + 1 ≡ m → early_at (got + 1) early ≡ Some text
-    → in_turn m got early ≡ (let t : Turned = in_turn n (got + 1) (without (got + 1) early) in record t { texts = text ∷ t.texts })
+    → in_turn m got early ≡ (let t : Turned = in_turn n (got + 1) (without_early (got + 1) early) in record t { texts = text ∷ t.texts })
 one_in_turn zero n got text early more there = absurd (omega (arith, more))
 one_in_turn (suc m) n got text early more there =
     let same : m ≡ n = omega (arith, more) in
     rw (there, same) refl
 
-pub steps : (last : ℕ) (text : List ℕ) (early left : List Early) → left ≡ without (last + 1) early → early_at (last + 1) early ≡ Some text → Steps last text early left
+pub steps : (last : ℕ) (text : List ℕ) (early left : List Early) → left ≡ without_early (last + 1) early → early_at (last + 1) early ≡ Some text → Steps last text early left
 steps last text early left is there =
     record {
       less = less;

@@ -4,7 +4,7 @@ use Rattle.net_base.specs.declared.il.IlKind.{IlKind}
 use Rattle.net_base.specs.declared.il.IlKind.TheVariants.{Sync, Data, DataQuery, Ack, Query, State, Close}
 use Rattle.net_base.specs.declared.il.IlMsg.{IlMsg}
 use Rattle.net_base.specs.Number.{number}
-use Rattle.net_base.specs.IlEnd.{End, Turn, rstart_of, emitting, accepts, acked_to, establishes, has_unacked, hears, hears_ack, moves, acks}
+use Rattle.net_base.specs.IlEnd.{End, Turn, rstart_of, emitting, accepts, acked_to, establishes, has_unacked, hears, hears_ack, waits_anew, acks}
 use Rattle.net_base.specs.IlTable.{at_established}
 use Rattle.il_machine.specs.Windows.{Windows, own_message, rstart_kept, windows_of}
 use Rattle.il_machine.specs.Stands.{established_takes, is_new}
@@ -14,7 +14,7 @@ use Rattle.il_machine.proofs.Accepting.{accepts_both}
 rstart_kept_by : (now : ℕ) (m : IlMsg) (e : End) → rstart_of (accepts m (hears_ack now m e)) ≡ rstart_of e
 rstart_kept_by now m e = ap rstart_of (accepts_both m (hears_ack now m e)) ∙ kept_of (number e.start m.ack e.acked) (hears now e)
   where
-    kept_if : (k : ℕ) (e' : End) (b : Bool) → rstart_of (if b then moves now (acks now k e') else e') ≡ rstart_of e'
+    kept_if : (k : ℕ) (e' : End) (b : Bool) → rstart_of (if b then waits_anew now (acks now k e') else e') ≡ rstart_of e'
     kept_if k e' true = refl
     kept_if k e' false = refl
 
@@ -57,7 +57,7 @@ question_answered now m e kept kind b is_question is missing =
 -- Completing the handshake.
 
 -- what is acknowledged doesn't hang on the state
-acked_if : (now k : ℕ) (e after : End) (b : Bool) → after.acked ≡ e.acked → (if b then moves now (acks now k after) else after).acked ≡ (if b then moves now (acks now k e) else e).acked
+acked_if : (now k : ℕ) (e after : End) (b : Bool) → after.acked ≡ e.acked → (if b then waits_anew now (acks now k after) else after).acked ≡ (if b then waits_anew now (acks now k e) else e).acked
 acked_if now k e after true same = refl
 acked_if now k e after false same = same
 

@@ -1,6 +1,6 @@
 -- The early messages whose turn has come.
 use Rattle.std.specs.Prelude.{ℕ, zero, suc, ◌+◌, List, [], ◌∷◌, ◌++◌, Option, Some, None}
-use Rattle.net_base.specs.IlEnd.{End, Early, early_at, without}
+use Rattle.net_base.specs.IlEnd.{End, Early, early_at, without_early}
 
 -- messages in sequence, and the early ones that are left
 pub record Turned : Type 0 where
@@ -15,7 +15,7 @@ next_of (Some text) early others = record others { texts = text ∷ others.texts
 -- the early messages behind message `got`, as far as they follow in sequence; at most n of them
 abbrev pub in_turn : ℕ → ℕ → List Early → Turned
 in_turn zero got early = record { texts = []; early = early }
-in_turn (suc n) got early = next_of (early_at (got + 1) early) early (in_turn n (got + 1) (without (got + 1) early))
+in_turn (suc n) got early = next_of (early_at (got + 1) early) early (in_turn n (got + 1) (without_early (got + 1) early))
 
 -- the end with these messages got, and the early ones that are left
 abbrev pub with_turned : End → Turned → End

@@ -158,7 +158,7 @@ impl IlEnd {
     /// Hears a message.
     fn hear(&mut self, now: u64)
         requires { now < 2 ^ 63 }
-        ensures { self.new ≡ record self.old { timer = timer.hears now self.old.timer } }
+        ensures { self.new ≡ record self.old { timer = timer.timer_hears now self.old.timer } }
     {
         self.timer.heard(now);
     }
@@ -195,7 +195,7 @@ impl IlEnd {
     /// Waits anew, where something still waits to be acknowledged.
     fn restart_timer(&mut self, now: u64)
         requires { now < 2 ^ 63 }
-        ensures end { Becomes self.old self.new (λ e. spec.moves now e) }
+        ensures end { Becomes self.old self.new (λ e. spec.waits_anew now e) }
         ensures got { self.new.got ≡ self.old.got }
     {
         let waits = self.waits();

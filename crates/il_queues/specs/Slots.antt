@@ -1,7 +1,7 @@
 -- The messages that stand in slots.
 use Rattle.std.specs.Prelude.{◌≡◌, ℕ, ◌+◌, ◌<◌, ◌==◌, Bool, false, List, [], ◌∷◌, length, Option, Some, None, slice_index_or, remove, is_some, IsTrue}
 use Rattle.il_queues.specs.declared.early.Numbered.{Numbered}
-use Rattle.net_base.specs.IlEnd.{Early, early_at, without}
+use Rattle.net_base.specs.IlEnd.{Early, early_at, without_early}
 
 -- the messages in these slots, in order
 abbrev pub messages_in : List (Option Numbered) → List Early
@@ -24,10 +24,10 @@ pub record IsAt (k : ℕ) (slots : List (Option Numbered)) (place : ℕ) : Type 
   pub within : place < length slots
   pub there : IsTrue (is_some (early_at k (messages_in slots)))
   pub text : text_in (slice_index_or slots place None) ≡ early_at k (messages_in slots)
-  pub rest : messages_in (remove slots place) ≡ without k (messages_in slots)
+  pub rest : messages_in (remove slots place) ≡ without_early k (messages_in slots)
   pub one_less : length (messages_in (remove slots place)) + 1 ≡ length (messages_in slots)
 
 -- it stands in no slot
 pub record IsNowhere (k : ℕ) (slots : List (Option Numbered)) : Type 0 where
   pub none : early_at k (messages_in slots) ≡ None
-  pub stays : without k (messages_in slots) ≡ messages_in slots
+  pub stays : without_early k (messages_in slots) ≡ messages_in slots

@@ -38,7 +38,7 @@ impl Model for Early {
 }
 
 impl Early {
-    ghost use Rattle.net_base.specs.IlEnd.{early_at, without};
+    ghost use Rattle.net_base.specs.IlEnd.{early_at, without_early};
 
     /// No messages.
     pub fn new() -> Early
@@ -84,7 +84,7 @@ impl Early {
     /// Gives out the message with this number, if it is there.
     pub fn take(&mut self, k: u64) -> Option<Octets>
         ensures value { result ≡ early_at k self.old }
-        ensures rest { self.new ≡ without k self.old }
+        ensures rest { self.new ≡ without_early k self.old }
     {
         match place_of(self.slots.as_slice(), k) {
             Some(place) => text_of(self.slots.remove(place)),

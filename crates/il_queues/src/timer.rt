@@ -104,7 +104,7 @@ impl Timer {
     /// The message k was sent for the first time: it is the probe, where timers are measured and there is none.
     pub fn sent(&mut self, now: u64, k: u64)
         requires { now < 2 ^ 63 }
-        ensures { self.new ≡ spec.sends now k self.old }
+        ensures { self.new ≡ spec.timer_sends now k self.old }
     {
         match (self.timers, self.probe) {
             (Timers::Measured, None) => self.probe = Some(Probe { k, at: now }),
@@ -115,7 +115,7 @@ impl Timer {
     /// The messages up to k were acknowledged: where the probe is one of them, its round trip is measured.
     pub fn acked(&mut self, now: u64, k: u64)
         requires { now < 2 ^ 63 }
-        ensures { self.new ≡ spec.acks now k self.old }
+        ensures { self.new ≡ spec.timer_acks now k self.old }
     {
         match self.probe {
             Some(probe) if probe.k <= k => self.measure(round_trip(now, probe.at)),
@@ -142,7 +142,7 @@ impl Timer {
     /// The end begins to wait for an answer.
     pub fn start(&mut self, now: u64)
         requires { now < 2 ^ 63 }
-        ensures { self.new ≡ spec.starts now self.old }
+        ensures { self.new ≡ spec.timer_starts now self.old }
     {
         let base = self.base();
         self.due = Some(now + base);
@@ -153,7 +153,7 @@ impl Timer {
     /// A message came.
     pub fn heard(&mut self, now: u64)
         requires { now < 2 ^ 63 }
-        ensures { self.new ≡ spec.hears now self.old }
+        ensures { self.new ≡ spec.timer_hears now self.old }
     {
         self.heard = now;
     }
@@ -161,7 +161,7 @@ impl Timer {
     /// Something was acknowledged, and the end still waits for something or doesn't.
     pub fn moved(&mut self, now: u64, waits: bool)
         requires { now < 2 ^ 63 }
-        ensures { self.new ≡ spec.moves now waits self.old }
+        ensures { self.new ≡ spec.timer_moves now waits self.old }
     {
         let base = self.base();
         self.interval = base;
@@ -171,8 +171,8 @@ impl Timer {
     /// Time has passed: says whether the end asks once more, or gives up.
     pub fn tick(&mut self, now: u64) -> Tick
         requires { now < 2 ^ 63 }
-        ensures says { result ≡ (spec.ticks now self.old).says }
-        ensures timer { self.new ≡ (spec.ticks now self.old).timer }
+        ensures says { result ≡ (spec.timer_ticks now self.old).says }
+        ensures timer { self.new ≡ (spec.timer_ticks now self.old).timer }
     {
         match self.due {
             Some(due) if due <= now => {}

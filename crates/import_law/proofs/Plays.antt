@@ -11,7 +11,7 @@ use Rattle.net_base.specs.declared.reply.Reply.{Reply}
 use Rattle.net_base.specs.declared.world.Script.{Script}
 use Rattle.net_base.specs.declared.world.Step.{Step}
 use Rattle.net_base.specs.Legal.{asked_by}
-use Rattle.net_base.specs.Scripts.{Kept, heard, kept_after, position, step_play}
+use Rattle.net_base.specs.Scripts.{Kept, heard_replies, kept_after, position, step_play}
 use Rattle.net_base.specs.Steps.{Ask, Names, Play, Asks, Ends, Position, Stand, Asking, Finished, position_by, stands}
 use Rattle.import_law.specs.Order.{Begins, Finishes, IsPlayed, StandInOrder}
 use Rattle.net_base.specs.Versions.{Tuples}
@@ -34,7 +34,7 @@ played_finishes (Ends names) (x ∷ xs) bound rs played = absurd played
 played_finishes (Asks a e next) [] bound rs played = absurd played
 played_finishes (Asks a e next) (x ∷ xs) bound rs played = played_finishes (next x.reply) xs bound rs played.1
 
-played_heard : (p : Play) (xs : List Entry) (bound : Names) (rs : List Reply) → IsPlayed p xs bound → heard p (replies xs ++ rs) ≡ replies xs
+played_heard : (p : Play) (xs : List Entry) (bound : Names) (rs : List Reply) → IsPlayed p xs bound → heard_replies p (replies xs ++ rs) ≡ replies xs
 played_heard (Ends names) [] bound rs played = refl
 played_heard (Ends names) (x ∷ xs) bound rs played = absurd played
 played_heard (Asks a e next) [] bound rs played = absurd played
@@ -95,8 +95,8 @@ none_stood zone sc k (s ∷ ss) = by (no_entry (step_play sc.host k s)) (λ boun
         (suc rest.0, record { own = []; rest = []; bound = over.0; all = refl; played = over.1; later = rest.1 })
 
 position_at : (zone : Tuples) (sc : Script) (k : Kept) (s : Step) (ss : List Step) (rs : List Reply) (at : Stand) → stands (step_play sc.host k s) rs ≡ at
-    → position sc.host (s ∷ ss) k rs ≡ position_by at (s ∷ ss) (λ (bound : Names) (later : List Reply). position sc.host ss (kept_after k s bound (heard (step_play sc.host k s) rs)) later)
-position_at zone sc k s ss rs at is = ap (λ (stand : Stand). position_by stand (s ∷ ss) (λ (bound : Names) (later : List Reply). position sc.host ss (kept_after k s bound (heard (step_play sc.host k s) rs)) later)) is
+    → position sc.host (s ∷ ss) k rs ≡ position_by at (s ∷ ss) (λ (bound : Names) (later : List Reply). position sc.host ss (kept_after k s bound (heard_replies (step_play sc.host k s) rs)) later)
+position_at zone sc k s ss rs at is = ap (λ (stand : Stand). position_by stand (s ∷ ss) (λ (bound : Names) (later : List Reply). position sc.host ss (kept_after k s bound (heard_replies (step_play sc.host k s) rs)) later)) is
 
 -- where a step is finished, the later steps go on by the other replies
 pub goes_on : (zone : Tuples) (sc : Script) (k : Kept) (s : Step) (ss : List Step) (n : ℕ) (xs : List Entry)
@@ -105,10 +105,10 @@ goes_on zone sc k s ss n xs f =
     position_at zone sc k s ss (replies xs) (Finished f.bound (replies f.rest)) finished
     ∙ ap (λ (rs : List Reply). position sc.host ss (kept_after k s f.bound rs) (replies f.rest)) heard_own
   where
-    heard_own : heard (step_play sc.host k s) (replies xs) ≡ replies f.own
+    heard_own : heard_replies (step_play sc.host k s) (replies xs) ≡ replies f.own
     heard_own =
-        ap (λ (ys : List Entry). heard (step_play sc.host k s) (replies ys)) f.all
-        ∙ (ap (λ (rs : List Reply). heard (step_play sc.host k s) rs) (map-append (λ (x : Entry). x.reply) f.own f.rest)
+        ap (λ (ys : List Entry). heard_replies (step_play sc.host k s) (replies ys)) f.all
+        ∙ (ap (λ (rs : List Reply). heard_replies (step_play sc.host k s) rs) (map-append (λ (x : Entry). x.reply) f.own f.rest)
         ∙ played_heard (step_play sc.host k s) f.own f.bound (replies f.rest) f.played)
 
     finished : stands (step_play sc.host k s) (replies xs) ≡ Finished f.bound (replies f.rest)

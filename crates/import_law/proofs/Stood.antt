@@ -11,7 +11,7 @@ use Rattle.net_base.specs.Callers.{Caller, IsScript, caller_of}
 use Rattle.net_base.specs.Duties.{Duty}
 use Rattle.net_base.specs.Legal.{IsAsked, IsLegal, MayFollow, asked_by, cites_of}
 use Rattle.net_base.specs.Net.{owed}
-use Rattle.net_base.specs.Next.{by, finished_by, next, next_of, own_entries, own_replies, standing, zone_of}
+use Rattle.net_base.specs.Next.{by, finished_by, next_recorded, next_of, own_entries, own_replies, standing, zone_of}
 use Rattle.net_base.specs.Scripts.{at_first}
 use Rattle.history_laws.proofs.Shared.{by_entries}
 use Rattle.import_law.specs.ImportLaw.{StandsInOrder}
@@ -42,7 +42,7 @@ module _ (w : World) (c : ℕ) (s : Script) (caller_is : caller_of w c ≡ IsScr
           subst HasStood (ap (λ (xs : List Entry). own_entries h c ++ xs) (sym (one_own x is)))
           (stood_push (zone_of w) s (at_first (zone_of w)) s.steps there.0 (own_entries h c) x there.1
           (asks_next w h (owed w h c) (caller_of w c) c s x (sym is ∙ subst (λ (d : ℕ). x.cites ≡ cites_of (owed w h d)) same may.cites) caller_is
-          (subst (λ (d : ℕ). IsAsked (owed w h d) (caller_of w d) (next w h d) x) same may.is_asked)))
+          (subst (λ (d : ℕ). IsAsked (owed w h d) (caller_of w d) (next_recorded w h d) x) same may.is_asked)))
 
       by_caller : (b : Bool) → (x.caller == c) ≡ b → HasStood (own_entries h c ++ own_entries (x ∷ []) c)
       by_caller false is = rw is unmoved

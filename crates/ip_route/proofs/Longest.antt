@@ -2,7 +2,7 @@
 use Rattle.std.proofs.Common.{◌≡◌, ℕ, ◌+◌, ◌<◌, Bool, true, false, List, ◌∷◌, Option, Some, None, nat_lt, get_or, drop, refl, ap, sym, ◌∙◌, arith, if◌then◌else◌, length}
 use Rattle.std.proofs.lemmas.List.{drop_more}
 use Rattle.std.proofs.lemmas.Bool.Decides.{nat_tests}
-use Rattle.net_base.specs.Routes.{Route, longer, longest_match, matches}
+use Rattle.net_base.specs.Routes.{Route, longer, longest_match, route_contains}
 use Rattle.ip_route.specs.Adding.{better}
 
 longer_yes : (r s : Route) → nat_lt r.mask s.mask ≡ true → longer r (Some s) ≡ s
@@ -32,11 +32,11 @@ assoc (Some r) (Some s) None = refl
 assoc (Some r) (Some s) (Some t) = sym (ap Some (three r s t _ _ _ refl refl refl))
 
 -- the match among the rest, with one more route in front
-front : (ip : ℕ) (r : Route) (rs : List Route) (m : Bool) → matches ip r ≡ m → longest_match ip (r ∷ rs) ≡ better (if m then Some r else None) (longest_match ip rs)
+front : (ip : ℕ) (r : Route) (rs : List Route) (m : Bool) → route_contains ip r ≡ m → longest_match ip (r ∷ rs) ≡ better (if m then Some r else None) (longest_match ip rs)
 front ip r rs true e = rw e refl
 front ip r rs false e = rw e refl
 
-pub next_matches : (ip i : ℕ) (best : Option Route) (r : Route) (rs : List Route) → i < length rs → r ≡ get_or rs i r → matches ip r ≡ true
+pub next_matches : (ip i : ℕ) (best : Option Route) (r : Route) (rs : List Route) → i < length rs → r ≡ get_or rs i r → route_contains ip r ≡ true
     → better (better best (Some r)) (longest_match ip (drop (i + 1) rs)) ≡ better best (longest_match ip (drop i rs))
 next_matches ip i best r rs within is e =
     assoc best (Some r) (longest_match ip (drop (i + 1) rs))
@@ -45,7 +45,7 @@ next_matches ip i best r rs within is e =
     at_front : i < length rs → r ≡ get_or rs i r → r ∷ drop (i + 1) rs ≡ drop i rs
     at_front within is = ap (λ (x : Route). x ∷ drop (i + 1) rs) is ∙ sym (drop_more rs i r within)
 
-pub next_not : (ip i : ℕ) (best : Option Route) (r : Route) (rs : List Route) → i < length rs → r ≡ get_or rs i r → matches ip r ≡ false
+pub next_not : (ip i : ℕ) (best : Option Route) (r : Route) (rs : List Route) → i < length rs → r ≡ get_or rs i r → route_contains ip r ≡ false
     → better best (longest_match ip (drop (i + 1) rs)) ≡ better best (longest_match ip (drop i rs))
 next_not ip i best r rs within is e =
     ap (better best) (sym (front ip r (drop (i + 1) rs) false e) ∙ ap (longest_match ip) (at_front within is))

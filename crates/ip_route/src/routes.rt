@@ -42,7 +42,7 @@ impl Model for Route {
 impl Route {
     /// Whether the route's network contains the address.
     fn matches(self, ip: u32) -> bool
-        ensures { result ≡ spec.matches ip self }
+        ensures { result ≡ spec.route_contains ip self }
     {
         ip & self.mask == self.net
     }

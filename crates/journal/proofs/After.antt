@@ -4,7 +4,7 @@ use Rattle.net_base.specs.declared.actor.ActorName.{ActorName}
 use Rattle.net_base.specs.declared.noted.Noted.{Noted}
 use Rattle.net_base.specs.declared.noted.Number.{Number}
 use Rattle.net_base.specs.declared.noted.Number.TheVariants as number
-use Rattle.net_base.specs.Stamped.{same_actor, matches, at, clock, latest, moment, In}
+use Rattle.net_base.specs.Stamped.{same_actor, matches, at, clock, latest, moment_noted, In}
 use Rattle.journal.specs.declared.law.Roster.{Roster}
 use Rattle.journal.specs.declared.law.View.{View}
 use mathlib.Core.List.{IsPrefix}
@@ -96,7 +96,7 @@ module _ (v u : View) (a : ActorName) (list : List (ℕ × Noted)) (agrees : Agr
   pub book_in : In (number.Actor a, list) (both v u).held
   book_in = in_back (number.Actor a, list) v.held u.held (subst (λ (hs : List Held). In (number.Actor a, list) hs) (sym held) (inl refl))
 
-  pub may_add : (r : Roster) (x : Noted) (es : List (ℕ × Noted)) → In (number.Caller x.entry.caller, es) v.held → length es < 131072 → x.entry.actor ≡ a → x.entry.moment ≡ moment v.seen
+  pub may_add : (r : Roster) (x : Noted) (es : List (ℕ × Noted)) → In (number.Caller x.entry.caller, es) v.held → length es < 131072 → x.entry.actor ≡ a → x.entry.moment ≡ moment_noted v.seen
       → x.entry.event ≡ x.work.event → Timely r v.held x → MayAdd r (both v u) x
   may_add r x es i room is now event timely =
       let h : has_caller v.held ≡ true = in_has_caller v.held x.entry.caller es i in

@@ -14,7 +14,7 @@ use Rattle.net_base.specs.declared.reply.Reply.TheVariants as reply
 use Rattle.net_base.specs.declared.noted.Noted.{Noted}
 use Rattle.net_base.specs.declared.noted.Number.{Number}
 use Rattle.net_base.specs.declared.noted.Number.TheVariants as number
-use Rattle.net_base.specs.Stamped.{same_actor, matches, at, clock, latest, moment, In}
+use Rattle.net_base.specs.Stamped.{same_actor, matches, at, clock, latest, moment_noted, In}
 use Rattle.journal.specs.declared.law.Roster.{Roster}
 use Rattle.journal.specs.declared.law.View.{View}
 
@@ -31,7 +31,7 @@ Held = Number × List (ℕ × Noted)
 pub record Fits (r : Roster) (past : List Noted) (x : Noted) : Type 0 where
   pub caller : x.entry.caller < r.callers
   pub actor : In x.entry.actor r.actors
-  pub moment_is : x.entry.moment ≡ moment past
+  pub moment_is : x.entry.moment ≡ moment_noted past
   pub room : length (at (number.Caller x.entry.caller) past) < 131072
   pub event_is : x.entry.event ≡ x.work.event
 

@@ -10,7 +10,7 @@ use Rattle.net_base.specs.declared.history.Work.{Work}
 use Rattle.net_base.specs.declared.noted.Noted.{Noted}
 use Rattle.net_base.specs.declared.noted.Number.{Number}
 use Rattle.net_base.specs.declared.noted.Number.TheVariants as number
-use Rattle.net_base.specs.Stamped.{matches, at, clock, moment, In}
+use Rattle.net_base.specs.Stamped.{matches, at, clock, moment_noted, In}
 use Rattle.journal.specs.declared.law.Roster.{Roster}
 use Rattle.journal.specs.declared.law.View.{View}
 use Rattle.journal.specs.declared.tokens.Sight.{Sight}
@@ -84,7 +84,7 @@ pub record MayRecord (p : Sight) (b : Volume) (x : Noted) : Type 0 where
   pub caller : Holds p x.entry.caller of_caller
   pub room : length of_caller < 131072
   pub actor : x.entry.actor ≡ b.actor
-  pub moment_is : x.entry.moment ≡ moment p.seen
+  pub moment_is : x.entry.moment ≡ moment_noted p.seen
   pub event_is : x.entry.event ≡ x.work.event
 
 -- past is the history before the stamp. It has all that the pass and the book had seen, and no more of the pass's callers and
@@ -99,8 +99,8 @@ pub record Recorded (r : Roster) (b : Volume) (p : Sight) (x : Noted) (stamp : �
   pub held : p'.held ≡ map (gain stamp x) p.held
   pub lists : (k : Number) (es : List (ℕ × Noted)) → In (k, es) p.held → at k past ≡ es
   pub actor_list : at (number.Actor b.actor) past ≡ b.list
-  pub moment_is : moment past ≡ moment p.seen
-  pub moment_kept : matches clock x ≡ false → moment p'.seen ≡ moment p.seen
+  pub moment_is : moment_noted past ≡ moment_noted p.seen
+  pub moment_kept : matches clock x ≡ false → moment_noted p'.seen ≡ moment_noted p.seen
   pub whole : HoldsAll r p → past ≡ p.seen
   pub lawful : Lawful r p'.seen
   pub book_list : b'.list ≡ b.list ++ (stamp, x) ∷ []
@@ -113,7 +113,7 @@ pub record Looked (r : Roster) (p : Sight) (front : ℕ) (p' : Sight) : Type 0 w
   pub before : IsPrefix p.seen p'.seen
   pub held : p'.held ≡ p.held
   pub lists : (k : Number) (es : List (ℕ × Noted)) → In (k, es) p.held → at k p'.seen ≡ es
-  pub moment_is : has_caller p.held ≡ true → moment p'.seen ≡ moment p.seen
+  pub moment_is : has_caller p.held ≡ true → moment_noted p'.seen ≡ moment_noted p.seen
   pub whole : HoldsAll r p → p'.seen ≡ p.seen
   pub lawful : Lawful r p'.seen
 
@@ -133,8 +133,8 @@ pub record Met (r : Roster) (p : Sight) (q : Sight) (p' : Sight) : Type 0 where
   pub this : IsPrefix p.seen p'.seen
   pub that : IsPrefix q.seen p'.seen
   pub lists : (k : Number) (es : List (ℕ × Noted)) → In (k, es) p'.held → at k p'.seen ≡ es
-  pub moment_is : has_caller p.held ≡ true → moment p'.seen ≡ moment p.seen
-  pub moment_that : has_caller q.held ≡ true → moment p'.seen ≡ moment q.seen
+  pub moment_is : has_caller p.held ≡ true → moment_noted p'.seen ≡ moment_noted p.seen
+  pub moment_that : has_caller q.held ≡ true → moment_noted p'.seen ≡ moment_noted q.seen
   pub lawful : Lawful r p'.seen
 
 -- no actor stands twice

@@ -7,7 +7,7 @@ use Rattle.net_base.specs.declared.history.Outcome.{Outcome}
 use Rattle.net_base.specs.declared.history.Work.{Work}
 use Rattle.net_base.specs.declared.noted.Noted.{Noted}
 use Rattle.net_base.specs.ActorStep.{Step}
-use Rattle.net_base.specs.Stamped.{matches, clock, moment}
+use Rattle.net_base.specs.Stamped.{matches, clock, moment_noted}
 use Rattle.journal.specs.Rule.{gain}
 use Rattle.journal.specs.declared.law.Roster.{Roster}
 use Rattle.journal.specs.declared.tokens.Sight.{Sight}
@@ -53,7 +53,7 @@ module _ {S : Type 0} (begin : ActorName → S) (answer : S → ℕ → Work →
               (replays-snoc (begin b.actor) b.list (n, x) stands.replays (subst (λ z. Keeps begin answer z x) stands.state_is keeps)));
         }
 
-    pub is_done : out ≡ without_copy o → now ≡ moment p.seen → IsDone begin answer r b.actor c now work cites p n out p'
+    pub is_done : out ≡ without_copy o → now ≡ moment_noted p.seen → IsDone begin answer r b.actor c now work cites p n out p'
     is_done given here =
         let same : noted e work ≡ made b.actor c now work cites out = whole_entry ∙ ap (made b.actor c now work cites) (sym given) in
         record {

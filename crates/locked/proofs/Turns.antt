@@ -7,7 +7,7 @@ use Rattle.net_base.specs.declared.history.Work.{Work}
 use Rattle.net_base.specs.declared.noted.Noted.{Noted}
 use Rattle.net_base.specs.declared.noted.Number.TheVariants as number
 use Rattle.net_base.specs.ActorStep.{Step}
-use Rattle.net_base.specs.Stamped.{same_actor, matches, moment, In}
+use Rattle.net_base.specs.Stamped.{same_actor, matches, moment_noted, In}
 use Rattle.journal.specs.declared.law.Roster.{Roster}
 use Rattle.journal.specs.declared.tokens.Sight.{Sight}
 use Rattle.journal.specs.Rule.{Held, gain}
@@ -38,10 +38,10 @@ module _ {S : Type 0} (begin : ActorName → S) (answer : S → ℕ → Work →
 
   -- only the clock changes the moment
   pub same_moment : (r : Roster) (a : ActorName) (c now : ℕ) (work : Work) (cites : Option ℕ) (p : Sight) (es : List (ℕ × Noted)) (o : Answer) (p' : Sight)
-      → same_actor a name.Clock ≡ false → Holds p c es → Acted begin answer r a c now work cites p o p' → moment p'.seen ≡ moment p.seen
+      → same_actor a name.Clock ≡ false → Holds p c es → Acted begin answer r a c now work cites p o p' → moment_noted p'.seen ≡ moment_noted p.seen
   same_moment r a c now work cites p es (answered.Done stamp o) p' other h d = d.moment_kept other
   same_moment r a c now work cites p es (answered.NotReady front) p' other h d = d.look.moment_is (in_has_caller p.held c es h)
-  same_moment r a c now work cites p es answered.Memory p' other h d = ap (λ (z : Sight). moment z.seen) d
+  same_moment r a c now work cites p es answered.Memory p' other h d = ap (λ (z : Sight). moment_noted z.seen) d
 
 pub below_one : (P : ℕ → Type 0) → P 0 → (k : ℕ) → k < 1 → P k
 below_one P a zero lt = a

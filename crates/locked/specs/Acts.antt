@@ -10,7 +10,7 @@ use Rattle.net_base.specs.declared.noted.Number.{Number}
 use Rattle.net_base.specs.declared.noted.Number.TheVariants as number
 use Rattle.net_base.specs.ActorStep.{Step}
 use Rattle.net_base.specs.Headers.{header}
-use Rattle.net_base.specs.Stamped.{same_actor, at, moment, In}
+use Rattle.net_base.specs.Stamped.{same_actor, at, moment_noted, In}
 use Rattle.journal.specs.declared.law.Roster.{Roster}
 use Rattle.journal.specs.declared.tokens.Sight.{Sight}
 use Rattle.journal.specs.declared.tokens.Volume.{Volume}
@@ -89,8 +89,8 @@ module _ {S : Type 0} (begin : ActorName → S) (answer : S → ℕ → Work →
     pub step : Step S
     pub ready : answer (state_at a past) now work ≡ Some step
     pub outcome : o ≡ without_copy step.outcome
-    pub moment_is : moment past ≡ now
-    pub moment_kept : same_actor a name.Clock ≡ false → moment p'.seen ≡ moment p.seen
+    pub moment_is : moment_noted past ≡ now
+    pub moment_kept : same_actor a name.Clock ≡ false → moment_noted p'.seen ≡ moment_noted p.seen
     pub whole : HoldsAll r p → past ≡ p.seen
     pub lawful : Lawful r p'.seen
 

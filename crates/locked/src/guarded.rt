@@ -1,7 +1,7 @@
 //! What a lock guards: a machine beside the book that says how its state came about.
 ghost use Rattle.std.specs.Prelude.{◌≡◌, ℕ, ◌<◌, ◌^◌, List, length, false, Some, is_some, MatchOption};
 ghost use Rattle.net_base.specs.declared.noted.Noted.{Noted};
-ghost use Rattle.net_base.specs.Stamped.{moment};
+ghost use Rattle.net_base.specs.Stamped.{moment_noted};
 ghost use Rattle.journal.specs.Tokens.{Holds, LookedWith, MayRecord, Recorded, noted};
 ghost use Rattle.locked.specs.Acts.{Acted, IsTimely, Leaves, Stands, state_at, made, without_copy};
 
@@ -84,7 +84,7 @@ impl<J: Naming, M: Machine> Guarded<J, M> {
     ) -> Answer
         requires copy { event ≡ asked.work.now.event }
         requires room { (es : List (ℕ × Noted)) × Holds pass.old asked.caller es × (length es < 131072) }
-        requires moment { asked.now ≡ moment pass.old.seen }
+        requires moment { asked.now ≡ moment_noted pass.old.seen }
         requires now { asked.now < 2 ^ 63 }
         requires timely { IsTimely J.run.roster self.old.actor pass.old }
         ensures acted { Acted M.begin M.answer J.run.roster self.old.actor asked.entry.caller asked.entry.now

@@ -2,7 +2,7 @@
 ghost use Rattle.std.specs.Prelude.{◌≡◌, ℕ, ◌<◌, ◌^◌, List, length, false, is_some, MatchOption};
 ghost use Rattle.net_base.specs.declared.actor.ActorName.TheVariants.{Clock};
 ghost use Rattle.net_base.specs.declared.noted.Noted.{Noted};
-ghost use Rattle.net_base.specs.Stamped.{same_actor, moment};
+ghost use Rattle.net_base.specs.Stamped.{same_actor, moment_noted};
 ghost use Rattle.journal.specs.Tokens.{Holds, HoldsAll, Looked};
 ghost use Rattle.locked.specs.Acts.{Acted, IsTimely, Stands, state_at};
 
@@ -68,7 +68,7 @@ impl<J: Naming, M: Machine> Locked<J, M> {
         cites: Option<u64>,
     ) -> Answer
         requires room { (es : List (ℕ × Noted)) × Holds pass.old caller es × (length es < 131072) }
-        requires moment { now ≡ moment pass.old.seen }
+        requires moment { now ≡ moment_noted pass.old.seen }
         requires now { now < 2 ^ 63 }
         requires actor { same_actor self.now.actor Clock ≡ false }
         ensures { Acted M.begin M.answer J.run.roster self.now.actor caller now work.now cites
@@ -96,7 +96,7 @@ impl<J: Naming, M: Machine> Locked<J, M> {
         cites: Option<u64>,
     ) -> Answer
         requires room { (es : List (ℕ × Noted)) × Holds pass.old caller es × (length es < 131072) }
-        requires moment { now ≡ moment pass.old.seen }
+        requires moment { now ≡ moment_noted pass.old.seen }
         requires now { now < 2 ^ 63 }
         requires all { HoldsAll J.run.roster pass.old }
         ensures { Acted M.begin M.answer J.run.roster self.now.actor caller now work.now cites
@@ -121,7 +121,7 @@ impl<J: Naming, M: Machine> Locked<J, M> {
         asked: Asked<'_>,
     ) -> Answer
         requires room { (es : List (ℕ × Noted)) × Holds pass.old asked.caller es × (length es < 131072) }
-        requires moment { asked.now ≡ moment pass.old.seen }
+        requires moment { asked.now ≡ moment_noted pass.old.seen }
         requires now { asked.now < 2 ^ 63 }
         requires timely { IsTimely J.run.roster self.now.actor pass.old }
         ensures { Acted M.begin M.answer J.run.roster self.now.actor asked.entry.caller asked.entry.now
@@ -148,7 +148,7 @@ impl<J: Naming, M: Machine> Locked<J, M> {
     ) -> Answer
         requires copy { event ≡ asked.work.now.event }
         requires room { (es : List (ℕ × Noted)) × Holds pass.old asked.caller es × (length es < 131072) }
-        requires moment { asked.now ≡ moment pass.old.seen }
+        requires moment { asked.now ≡ moment_noted pass.old.seen }
         requires now { asked.now < 2 ^ 63 }
         requires timely { IsTimely J.run.roster self.now.actor pass.old }
         ensures { Acted M.begin M.answer J.run.roster self.now.actor asked.entry.caller asked.entry.now

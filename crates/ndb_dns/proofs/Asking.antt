@@ -3,13 +3,13 @@ use Rattle.std.proofs.Common.{◌≡◌, ℕ, ◌+◌, ◌<◌, ◌≤◌, List,
 use Rattle.net_base.specs.Bytes.{word_at}
 use Rattle.net_base.specs.declared.question.Question.{Question}
 use Rattle.net_base.specs.DomainNames.{ReadsName}
-use Rattle.net_base.specs.DomainQuestions.{HasHeader, question_of}
+use Rattle.net_base.specs.DomainQuestions.{HasDomainHeader, question_of}
 use Rattle.dns_text.proofs.Shared.{name_short, is_found, is_read, read_at_front}
 use Rattle.ndb_dns.specs.declared.fault.DnsError.{DnsError}
 use Rattle.ndb_dns.specs.Runs.{IsRefused}
 use Rattle.ndb_dns.proofs.Spelling.{name_once}
 
-pub asks : (message : List ℕ) (q : Question) (behind : ℕ) → HasHeader message → word_at 4 message ≡ 1 → q.id ≡ word_at 0 message → q.flags ≡ word_at 2 message → ReadsName message 12 q.name behind → q.kind ≡ word_at behind message → q.class ≡ word_at (behind + 2) message → q.end ≡ behind + 4 → behind + 4 ≤ length message → question_of message ≡ Some q
+pub asks : (message : List ℕ) (q : Question) (behind : ℕ) → HasDomainHeader message → word_at 4 message ≡ 1 → q.id ≡ word_at 0 message → q.flags ≡ word_at 2 message → ReadsName message 12 q.name behind → q.kind ≡ word_at behind message → q.class ≡ word_at (behind + 2) message → q.end ≡ behind + 4 → behind + 4 ≤ length message → question_of message ≡ Some q
 asks message q behind header one id flags name kind class past whole =
     is_found message q (record {
       header = header;

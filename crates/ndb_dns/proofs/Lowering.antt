@@ -8,7 +8,7 @@ use Rattle.std.proofs.lemmas.Bool.Decides.{nat_tests}
 use Rattle.std.proofs.lemmas.List.{length-map}
 use Rattle.net_base.specs.Addresses.{parts_at}
 use Rattle.net_base.specs.NdbBundle.{each_once}
-use Rattle.net_base.specs.DomainNames.{is_label, is_label_byte, is_name, labels_bytes, labels_of, lowered, name_bytes, name_in}
+use Rattle.net_base.specs.DomainNames.{is_label, is_label_byte, is_domain_name, labels_bytes, labels_of, lowered, name_bytes, name_in}
 
 lower_dot : (b : ℕ) → (to_ascii_lowercase b == 46) ≡ (b == 46)
 lower_dot b = grind (arith, nat_tests)
@@ -44,7 +44,7 @@ lower_size (label ∷ labels) =
       lower_size labels,
     )
 
-lower_name : (labels : List (List ℕ)) → is_name (map lowered labels) ≡ is_name labels
+lower_name : (labels : List (List ℕ)) → is_domain_name (map lowered labels) ≡ is_domain_name labels
 lower_name labels =
     let size : length (name_bytes (map lowered labels)) ≡ length (name_bytes labels) =
     omega (arith, length-append (labels_bytes (map lowered labels)) (0 ∷ []), length-append (labels_bytes labels) (0 ∷ []), lower_size labels)
@@ -70,15 +70,15 @@ lower_labels_of (b ∷ value) = lower_parts (b ∷ value)
 
 -- a name as a text
 abbrev pub is_valid : List ℕ → Bool
-is_valid name = is_name (labels_of name)
+is_valid name = is_domain_name (labels_of name)
 
 pub lower_valid : (value : List ℕ) → is_valid (lowered value) ≡ is_valid value
-lower_valid value = ap is_name (lower_labels_of value) ∙ lower_name (labels_of value)
+lower_valid value = ap is_domain_name (lower_labels_of value) ∙ lower_name (labels_of value)
 
 named : (value : List ℕ) (names : List (List ℕ)) → list_all is_valid names ≡ true → list_all is_valid (cons_option (name_in value) names) ≡ true
-named value names all = by (is_name (labels_of value)) refl
+named value names all = by (is_domain_name (labels_of value)) refl
   where
-    by : (test : Bool) → is_name (labels_of value) ≡ test → list_all is_valid (cons_option (cond test (Some (lowered value)) None) names) ≡ true
+    by : (test : Bool) → is_domain_name (labels_of value) ≡ test → list_all is_valid (cons_option (cond test (Some (lowered value)) None) names) ≡ true
     by false is = all
     by true is = and_from (is_valid (lowered value)) (list_all is_valid names) (lower_valid value ∙ is) all
 

@@ -7,7 +7,7 @@ use Rattle.std.proofs.lemmas.Bool.{false≢true, and_parts, and_from, ltb-false,
 use Rattle.std.proofs.lemmas.List.{take_at, drop_at, take-append-drop, length-map, map-append}
 use Rattle.std.proofs.lemmas.Option.{none-some, same_Some}
 use Rattle.wire_text.proofs.Shared.{word_again}
-use Rattle.net_base.specs.DomainNames.{is_label, is_name, label_bytes, labels_bytes, lowered, name_bytes, name_text, pointer_bytes}
+use Rattle.net_base.specs.DomainNames.{is_label, is_domain_name, label_bytes, labels_bytes, lowered, name_bytes, name_text, pointer_bytes}
 use Rattle.dns_text.proofs.Shared.{label_few}
 use Rattle.ndb_dns.specs.declared.name.End.{End}
 use Rattle.ndb_dns.proofs.Sizes.{size_of}
@@ -151,13 +151,13 @@ text_size label labels valid =
     omega (arith, text, bytes, joins, size_of label labels)
 
 -- a short text is a name's
-pub short_is_name : (labels : List (List ℕ)) → list_all is_label labels ≡ true → length (with_labels [] labels) ≤ 253 → is_name labels ≡ true
+pub short_is_name : (labels : List (List ℕ)) → list_all is_label labels ≡ true → length (with_labels [] labels) ≤ 253 → is_domain_name labels ≡ true
 short_is_name [] valid short = refl
 short_is_name (label ∷ labels) valid short =
     and_from (list_all is_label (label ∷ labels)) (nat_le (length (name_bytes (label ∷ labels))) 255) valid
     (le-leb (length (name_bytes (label ∷ labels))) 255 (omega (arith, short, text_size label labels valid)))
 
-pub name_is_short : (labels : List (List ℕ)) → is_name labels ≡ true → length (with_labels [] labels) ≤ 253
+pub name_is_short : (labels : List (List ℕ)) → is_domain_name labels ≡ true → length (with_labels [] labels) ≤ 253
 name_is_short [] name = omega arith
 name_is_short (label ∷ labels) name =
     let parts = and_parts (list_all is_label (label ∷ labels)) (nat_le (length (name_bytes (label ∷ labels))) 255) name in

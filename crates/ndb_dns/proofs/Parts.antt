@@ -21,7 +21,7 @@ use Rattle.ndb_index.specs.Kept.{spots_with}
 use Rattle.ndb_index.specs.Near.{spot_tuples}
 use Rattle.ndb_index.proofs.Shared.{Db, spots_count, spots_found}
 use Rattle.cs_resolver.proofs.Shared.{among, once_push, same_any}
-use Rattle.net_base.specs.DomainAnswers.{Key, is_unknown, naming_record, records_beside, records_found}
+use Rattle.net_base.specs.DomainAnswers.{ZoneKey, is_unknown, naming_record, records_beside, records_found}
 use Rattle.net_base.specs.DomainNames.{name_in}
 use Rattle.ndb_dns.proofs.Lowering.{is_valid, valid_at}
 use Rattle.ndb_tuple.proofs.Firsts.{turned}
@@ -153,20 +153,20 @@ spots_cost attr value db spots are = ap (λ (those : List Spot). length those) a
 
 -- ---- keys
 
-unknown : (db : Db) (key : Key) (spots : List Spot) (b : Bool) → spots ≡ spots_with key.attr key.value db → (length spots == 0) ≡ b → is_unknown db (Some key) ≡ b
+unknown : (db : Db) (key : ZoneKey) (spots : List Spot) (b : Bool) → spots ≡ spots_with key.attr key.value db → (length spots == 0) ≡ b → is_unknown db (Some key) ≡ b
 unknown db key spots b are is = sym (unknown_is key.attr key.value db spots are) ∙ is
 
 abbrev coded : Bool → ℕ
 coded b = cond b 3 0
 
-pub code_unknown : (db : Db) (key : Key) (o : Option Key) (spots : List Spot) → Some key ≡ o → spots ≡ spots_with key.attr key.value db → (length spots == 0) ≡ true → ◌≡◌ {A = ℕ} 3 (cond (is_unknown db o) 3 0)
+pub code_unknown : (db : Db) (key : ZoneKey) (o : Option ZoneKey) (spots : List Spot) → Some key ≡ o → spots ≡ spots_with key.attr key.value db → (length spots == 0) ≡ true → ◌≡◌ {A = ℕ} 3 (cond (is_unknown db o) 3 0)
 code_unknown db key o spots is are none =
-    sym (ap (λ (k : Option Key). coded (is_unknown db k)) (sym is) ∙ ap coded (unknown db key spots true are none))
+    sym (ap (λ (k : Option ZoneKey). coded (is_unknown db k)) (sym is) ∙ ap coded (unknown db key spots true are none))
 
-pub code_known : (db : Db) (key : Key) (o : Option Key) (spots : List Spot) → Some key ≡ o → spots ≡ spots_with key.attr key.value db → (length spots == 0) ≡ false → ◌≡◌ {A = ℕ} 0 (cond (is_unknown db o) 3 0)
+pub code_known : (db : Db) (key : ZoneKey) (o : Option ZoneKey) (spots : List Spot) → Some key ≡ o → spots ≡ spots_with key.attr key.value db → (length spots == 0) ≡ false → ◌≡◌ {A = ℕ} 0 (cond (is_unknown db o) 3 0)
 code_known db key o spots is are some =
-    sym (ap (λ (k : Option Key). coded (is_unknown db k)) (sym is) ∙ ap coded (unknown db key spots false are some))
+    sym (ap (λ (k : Option ZoneKey). coded (is_unknown db k)) (sym is) ∙ ap coded (unknown db key spots false are some))
 
-pub records_unknown : (db : Db) (kind : ℕ) (key : Key) (o : Option Key) (spots : List Spot) → Some key ≡ o → spots ≡ spots_with key.attr key.value db → (length spots == 0) ≡ true → [] ≡ records_found db kind o
+pub records_unknown : (db : Db) (kind : ℕ) (key : ZoneKey) (o : Option ZoneKey) (spots : List Spot) → Some key ≡ o → spots ≡ spots_with key.attr key.value db → (length spots == 0) ≡ true → [] ≡ records_found db kind o
 records_unknown db kind key o spots is are none =
     sym (ap (records_found db kind) (sym is) ∙ ap (λ (b : Bool). cond b [] (records_beside db kind key.attr key.value)) (unknown db key spots true are none))

@@ -4,7 +4,7 @@ use Rattle.std.specs.List.{list_all, join_with_byte}
 use Rattle.std.proofs.lemmas.Bool.Decides.{nat_tests}
 use Rattle.std.proofs.lemmas.List.Splits.{join_with_byte-slice_split}
 use Rattle.net_base.specs.Addresses.{parts_at}
-use Rattle.net_base.specs.DomainNames.{is_label, is_name, labels_bytes, labels_of, name_bytes}
+use Rattle.net_base.specs.DomainNames.{is_label, is_domain_name, labels_bytes, labels_of, name_bytes}
 
 -- labels have a byte more than their text
 pub size_of : (label : List ℕ) (labels : List (List ℕ)) → length (labels_bytes (label ∷ labels)) ≡ length (join_with_byte 46 (label ∷ labels)) + 1
@@ -31,7 +31,7 @@ and_fails true b e = sym e
 and_fails false b e = refl
 
 -- a text that isn't too long is a name where its parts are labels
-pub short_name : (text : List ℕ) (all : Bool) → 0 < length text → length text ≤ 253 → all ≡ list_all is_label (parts_at 46 text) → all ≡ is_name (labels_of text)
+pub short_name : (text : List ℕ) (all : Bool) → 0 < length text → length text ≤ 253 → all ≡ list_all is_label (parts_at 46 text) → all ≡ is_domain_name (labels_of text)
 short_name [] all some few e = absurd (omega (arith, some))
 short_name (b ∷ text) all some few e =
     let size = size_parts (parts_at 46 (b ∷ text)) (b ∷ text) (join_with_byte-slice_split 46 (b ∷ text)) some in
@@ -39,7 +39,7 @@ short_name (b ∷ text) all some few e =
     e ∙ and_holds (list_all is_label (parts_at 46 (b ∷ text))) (nat_le (length (name_bytes (parts_at 46 (b ∷ text)))) 255) fits
 
 -- a longer one is none
-pub long_name : (text : List ℕ) → 253 < length text → false ≡ is_name (labels_of text)
+pub long_name : (text : List ℕ) → 253 < length text → false ≡ is_domain_name (labels_of text)
 long_name [] many = absurd (omega (arith, many))
 long_name (b ∷ text) many =
     let some : 0 < length (b ∷ text) = omega arith in

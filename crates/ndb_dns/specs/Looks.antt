@@ -4,7 +4,7 @@ use Rattle.std.specs.Option.{option_map_or}
 use Rattle.net_base.specs.Ndb.{NdbPair}
 use Rattle.ndb_index.specs.Index.{found}
 use Rattle.net_base.specs.declared.question.Question.{Question}
-use Rattle.net_base.specs.DomainAnswers.{Key, alias_of, host_address, key_of}
+use Rattle.net_base.specs.DomainAnswers.{ZoneKey, alias_of, host_address, key_of}
 use Rattle.net_base.specs.DomainQuestions.{question_of}
 
 -- the tuples of the name for which a name stands
@@ -18,7 +18,7 @@ looks_beside db kind attr value =
     if kind == host_address
     then 2 * found (codes "dom") value db + alias_looks db (alias_of value db) else found attr value db
 
-abbrev pub looks_for : List (List (List NdbPair)) → ℕ → Option Key → ℕ
+abbrev pub looks_for : List (List (List NdbPair)) → ℕ → Option ZoneKey → ℕ
 looks_for db kind None = 0
 looks_for db kind (Some key) = looks_beside db kind key.attr key.value
 

@@ -97,7 +97,7 @@ pub fn names_beside<L: Ledger>(
     steps: &mut Steps<L>,
 ) -> Result<IndexSet<Vec<u8>>, AllocError>
     ensures names { IfOk result (λ names. names_seen names.keys ≡ answers.names_beside attr.now value.now other.now index.now) }
-    ensures valid { IfOk result (λ names. list_all (λ name. labels.is_name (labels.labels_of name)) (names_seen names.keys) ≡ true) }
+    ensures valid { IfOk result (λ names. list_all (λ name. labels.is_domain_name (labels.labels_of name)) (names_seen names.keys) ≡ true) }
     ensures cost { steps.new ≤ steps.old + found attr.now value.now index.now }
 {
     let values = values_beside(alloc, index, attr, value, other, steps)?;

@@ -4,7 +4,7 @@ ghost use Rattle.std.specs.List.{list_all};
 ghost use Rattle.ndb_reader.specs.Names.{names_seen};
 ghost use Rattle.ndb_index.specs.Index.{found};
 ghost use Rattle.net_base.specs.DomainAnswers as spec;
-ghost use Rattle.net_base.specs.DomainNames.{is_name, labels_of};
+ghost use Rattle.net_base.specs.DomainNames.{is_domain_name, labels_of};
 ghost use Rattle.ndb_dns.specs.Looks.{alias_looks, looks_beside};
 ghost use Rattle.ndb_dns.specs.Taken.{Adds, IsFew};
 
@@ -65,7 +65,7 @@ fn add_names(
     records: &mut Records,
 ) -> Result<(), AllocError>
     requires few { IsFew records.old }
-    requires valid { list_all (λ name. is_name (labels_of name)) (names_seen names.now.keys) ≡ true }
+    requires valid { list_all (λ name. is_domain_name (labels_of name)) (names_seen names.now.keys) ≡ true }
     ensures { OnOk result (Adds records.old (map (spec.naming_record kind) (names_seen names.now.keys)) records.new) }
 {
     for name in names.as_slice() {
@@ -139,7 +139,7 @@ fn follow<L: Ledger>(
     steps: &mut Steps<L>,
 ) -> Result<(), AllocError>
     requires few { IsFew records.old }
-    requires valid { is_name (labels_of alias.now) ≡ true }
+    requires valid { is_domain_name (labels_of alias.now) ≡ true }
     ensures took { OnOk result (Adds records.old (spec.alias_records index.now (Some alias.now)) records.new) }
     ensures cost { steps.new ≤ steps.old + found (codes "dom") alias.now index.now }
 {

@@ -1,7 +1,7 @@
 //! Questions.
 ghost use Rattle.std.specs.Prelude.{◌≡◌, ◌<◌, ◌≤◌, ◌↔◌, ◌^◌, length, IfOk, IfErr, IsErrOf, Some, None};
 ghost use Rattle.net_base.specs.Bytes.{word_at};
-ghost use Rattle.net_base.specs.DomainQuestions.{HasHeader, question_of};
+ghost use Rattle.net_base.specs.DomainQuestions.{HasDomainHeader, question_of};
 ghost use Rattle.ndb_dns.specs.Refusals.{IsQuery, Refuses};
 ghost use Rattle.ndb_dns.specs.Runs.{IsRefused};
 
@@ -23,7 +23,7 @@ pub fn read_question(alloc: Global, bytes: &[u8]) -> Result<Question, DnsError>
     ensures within { IfOk result (λ q. (12 ≤ q.end) × (q.end ≤ 271) × (q.end ≤ length bytes.now)) }
     // Which refusal it is: the first of these.
     ensures short { IsErrOf result DnsError.Short ↔ (length bytes.now < 12) }
-    ensures response { IsErrOf result DnsError.Response ↔ (HasHeader bytes.now × (2 ^ 15 ≤ word_at 2 bytes.now)) }
+    ensures response { IsErrOf result DnsError.Response ↔ (HasDomainHeader bytes.now × (2 ^ 15 ≤ word_at 2 bytes.now)) }
     // want of memory apart, which may come at any message
     ensures refused { IfErr result (λ e. Refuses e bytes.now) }
 {
@@ -42,7 +42,7 @@ pub fn read_question(alloc: Global, bytes: &[u8]) -> Result<Question, DnsError>
 
 // The question behind the header.
 fn read_asked(alloc: Global, bytes: &[u8], id: u16, flags: u16) -> Result<Question, DnsError>
-    requires header { HasHeader bytes.now }
+    requires header { HasDomainHeader bytes.now }
     requires one { word_at 4 bytes.now ≡ 1 }
     requires id { id ≡ word_at 0 bytes.now }
     requires flags { flags ≡ word_at 2 bytes.now }

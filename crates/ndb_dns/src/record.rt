@@ -1,7 +1,7 @@
 //! Records of answers.
 ghost use Rattle.std.specs.Prelude.{◌≡◌, ◌<◌, ◌^◌, true, length, IfOk};
 ghost use Rattle.net_base.specs.DomainAnswers as spec;
-ghost use Rattle.net_base.specs.DomainNames.{is_name, labels_of, spelling};
+ghost use Rattle.net_base.specs.DomainNames.{is_domain_name, labels_of, bytes_of_name};
 
 use crate::field::{put_long, put_word};
 use crate::value::put_name;
@@ -47,7 +47,7 @@ pub fn address_record(alloc: Global, owner: &[u8], ip: u32) -> Result<Octets, Al
 
 /// A record of the question's name that tells a name.
 pub fn naming_record(alloc: Global, kind: u16, name: &[u8]) -> Result<Octets, AllocError>
-    requires { is_name (labels_of name.now) ≡ true }
+    requires { is_domain_name (labels_of name.now) ≡ true }
     ensures { IfOk result (λ r. r ≡ spec.naming_record kind name.now) }
 {
     let told = spelled(alloc, name)?;
@@ -56,8 +56,8 @@ pub fn naming_record(alloc: Global, kind: u16, name: &[u8]) -> Result<Octets, Al
 
 /// The bytes of a name.
 pub fn spelled(alloc: Global, name: &[u8]) -> Result<Octets, AllocError>
-    requires { is_name (labels_of name.now) ≡ true }
-    ensures { IfOk result (λ bytes. bytes ≡ spelling name.now) }
+    requires { is_domain_name (labels_of name.now) ≡ true }
+    ensures { IfOk result (λ bytes. bytes ≡ bytes_of_name name.now) }
 {
     let mut bytes = Octets::new(alloc);
     put_name(&mut bytes, name)?;

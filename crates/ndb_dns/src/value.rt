@@ -15,7 +15,7 @@ const MOST: usize = 253;
 /// Whether a value is a name: its parts at dots are labels, and it isn't too long. The empty value is the root.
 #[tactic(auto, using(crate::proofs::Sizes::short_name, crate::proofs::Sizes::long_name))]
 pub fn is_name(value: &[u8]) -> bool
-    ensures { result ≡ spec.is_name (spec.labels_of value.now) }
+    ensures { result ≡ spec.is_domain_name (spec.labels_of value.now) }
 {
     value.is_empty() || value.len() <= MOST && are_labels(value)
 }
@@ -45,8 +45,8 @@ pub fn name_in(alloc: Global, value: &[u8]) -> Result<Option<Octets>, AllocError
 
 /// Adds the bytes of the name with this text.
 pub fn put_name(out: &mut Octets, text: &[u8]) -> Result<(), AllocError>
-    requires { spec.is_name (spec.labels_of text.now) ≡ true }
-    ensures { OnOk result (out.new ≡ out.old ++ spec.spelling text.now) }
+    requires { spec.is_domain_name (spec.labels_of text.now) ≡ true }
+    ensures { OnOk result (out.new ≡ out.old ++ spec.bytes_of_name text.now) }
 {
     if !text.is_empty() {
         put_labels(out, text)?;

@@ -8,7 +8,7 @@ use Rattle.std.proofs.lemmas.List.{at_drop_more, at_drop_all, length-map}
 use Rattle.std.proofs.lemmas.List.Concat.{flat_map-append}
 use Rattle.net_base.specs.Ndb.{NdbPair}
 use Rattle.net_base.specs.Search.{is_pair, line_has}
-use Rattle.net_base.specs.Spots.{spot_at, lines_from, all_lines, spread, pair_spots}
+use Rattle.net_base.specs.Spots.{spot_at, line_spots, all_lines, spread, pair_spots}
 use Rattle.net_base.specs.Store.{all_pairs}
 use Rattle.net_base.specs.declared.ndb.spot.Spot.{Spot}
 use Rattle.net_base.proofs.Shared.{lines-length, number_itself}
@@ -107,13 +107,13 @@ spread_both (line ∷ lines) more (place ∷ places) others same =
     ap (λ (rest : List Spot). map (λ (pair : NdbPair). place) line ++ rest) (spread_both lines more places others (omega (arith, same)))
     ∙ sym (append_assoc (map (λ (pair : NdbPair). place) line) (spread lines places) (spread more others))
 
-tuple_noted : (attr value : List ℕ) (place number : ℕ) (tuple : List (List NdbPair)) (spots : List Spot) → pairs_noted attr value (zip (flat tuple) (spread tuple (lines_from place number tuple))) spots ≡ lines_noted place number attr value tuple spots
+tuple_noted : (attr value : List ℕ) (place number : ℕ) (tuple : List (List NdbPair)) (spots : List Spot) → pairs_noted attr value (zip (flat tuple) (spread tuple (line_spots place number tuple))) spots ≡ lines_noted place number attr value tuple spots
 unfolding flat
 tuple_noted attr value place number [] spots = refl
 tuple_noted attr value place number (line ∷ tuple) spots =
     let spot : Spot = spot_at place number in
     let front : List Spot = map (λ (pair : NdbPair). spot) line in
-    let rest : List Spot = spread tuple (lines_from place (number + 1) tuple) in
+    let rest : List Spot = spread tuple (line_spots place (number + 1) tuple) in
     let others : List NdbPair = flat_map (λ (l : List NdbPair). l) tuple in
     ap (λ (items : Placed). pairs_noted attr value items spots) (zip_both line others front rest (length-map line (λ (pair : NdbPair). spot)))
     ∙ noted_both attr value (zip line front) (zip others rest) spots
@@ -174,12 +174,12 @@ all_noted : (attr value : List ℕ) (n : ℕ) (db : List (List (List NdbPair))) 
 unfolding flat
 all_noted attr value n [] before below = sym (append-nil before)
 all_noted attr value n (tuple ∷ db) before below =
-    let own : List Spot = spread tuple (lines_from n 0 tuple) in
+    let own : List Spot = spread tuple (line_spots n 0 tuple) in
     let lines : List (List NdbPair) = flat_map (λ (t : List (List NdbPair)). t) db in
     let rest : List Spot = spread lines (all_lines (n + 1) db) in
     let found : List Spot = option_to_list (spot_in n attr value tuple) in
-    ap (λ (places : List Spot). pairs_noted attr value (zip (flat tuple ++ all_pairs db) places) before) (spread_both tuple lines (lines_from n 0 tuple) (all_lines (n + 1) db) (lines-length n 0 tuple))
-    ∙ ap (λ (items : Placed). pairs_noted attr value items before) (zip_both (flat tuple) (all_pairs db) own rest (spread_length tuple (lines_from n 0 tuple) (lines-length n 0 tuple)))
+    ap (λ (places : List Spot). pairs_noted attr value (zip (flat tuple ++ all_pairs db) places) before) (spread_both tuple lines (line_spots n 0 tuple) (all_lines (n + 1) db) (lines-length n 0 tuple))
+    ∙ ap (λ (items : Placed). pairs_noted attr value items before) (zip_both (flat tuple) (all_pairs db) own rest (spread_length tuple (line_spots n 0 tuple) (lines-length n 0 tuple)))
     ∙ noted_both attr value (zip (flat tuple) own) (zip (all_pairs db) rest) before
     ∙ ap (pairs_noted attr value (zip (all_pairs db) rest))
     (tuple_noted attr value n 0 tuple before ∙ lines_give n 0 attr value tuple before (below_apart n before (length before - 1) below))
@@ -206,7 +206,7 @@ flat_flat (tuple ∷ db) =
 lines_count : (n : ℕ) (db : List (List (List NdbPair))) → length (all_lines n db) ≡ length (flat_map (λ tuple. tuple) db)
 lines_count n [] = refl
 lines_count n (tuple ∷ db) =
-    omega (arith, length-append (lines_from n 0 tuple) (all_lines (n + 1) db), lines-length n 0 tuple, lines_count (n + 1) db, length-append tuple (flat_map (λ (t : List (List NdbPair)). t) db))
+    omega (arith, length-append (line_spots n 0 tuple) (all_lines (n + 1) db), lines-length n 0 tuple, lines_count (n + 1) db, length-append tuple (flat_map (λ (t : List (List NdbPair)). t) db))
 
 -- there are as many places as pairs
 pub spots_length : (db : List (List (List NdbPair))) → length (pair_spots db) ≡ length (all_pairs db)

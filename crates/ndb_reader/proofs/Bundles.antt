@@ -8,8 +8,8 @@ use Rattle.std.proofs.lemmas.List.{take_all}
 use Rattle.std.proofs.lemmas.Slice.Eq.{bytes_eq-Decides}
 use Rattle.std.proofs.lemmas.Bool.{and_parts, not-true}
 use Rattle.net_base.specs.Ndb.{NdbPair}
-use Rattle.net_base.specs.NdbText.{is_white, is_zero, is_empty, pairs_of, starts, goes_on, going_on, tuples_of, lines_of, begins_with}
-use Rattle.net_base.specs.NdbBundle.{File, local_name, local_file, named_files, file_of, file_name, is_file_line, has_tuple, cause, causes_of, least, told, first_bad, bad_line, database}
+use Rattle.net_base.specs.NdbText.{is_white, is_zero, is_empty, pairs_of, starts_tuple, goes_on, going_on, tuples_of, lines_of, begins_with}
+use Rattle.net_base.specs.NdbBundle.{File, unnamed_file, local_file, named_files, file_of, bundle_file, is_file_line, has_tuple, cause, causes_of, least_of_causes, told_line, first_bad, bad_line, database}
 use Rattle.ndb_text.specs.NdbSpelling.{ReadsTuples, ReadsFile, ReadsFiles, ReadsBundle, IsFileName}
 use Rattle.ndb_text.proofs.Shared.{some_none, none-drop, EachSpelled, line_is_spelled, tuples_spelled}
 use Rattle.ndb_reader.proofs.Reading.{Next, has-file, has-line, before-more, before-stop, named-more, named-stop}
@@ -26,18 +26,18 @@ no-zero has line e =
 
 -- The line that begins a file.
 
-file-spelled : (line : List ℕ) → is_file_line line ≡ true → line ≡ codes "%file " ++ file_name line
+file-spelled : (line : List ℕ) → is_file_line line ≡ true → line ≡ codes "%file " ++ bundle_file line
 file-spelled line file =
     let front = (and_parts (begins_with (codes "%file ") line) _ file).0 in
     let same : codes "%file " ≡ take 6 line = grind (arith, bytes_eq-Decides (codes "%file ") (take 6 line), front) in
     sym (take-append-drop 6 line) ∙ ap (λ f. f ++ drop 6 line) (sym same)
 
-file-named : (has : Bool) (line : List ℕ) → is_file_line line ≡ true → causes_of has line ≡ [] → IsFileName (file_name line)
+file-named : (has : Bool) (line : List ℕ) → is_file_line line ≡ true → causes_of has line ≡ [] → IsFileName (bundle_file line)
 file-named has line file good =
     let rest = (and_parts (begins_with (codes "%file ") line) _ file).1 in
-    let parts = and_parts (not (is_empty (file_name line))) (not (list_any is_white (file_name line))) rest in
+    let parts = and_parts (not (is_empty (bundle_file line))) (not (list_any is_white (bundle_file line))) rest in
     record {
-      some = some_of (file_name line) (not-true _ parts.0);
+      some = some_of (bundle_file line) (not-true _ parts.0);
       white = not-true _ parts.1;
       zero = none-drop is_zero 6 line (no-zero has line good);
     }
@@ -57,18 +57,18 @@ whole before line = take_all (length before + 1) (before ++ line ∷ []) (omega 
 push-file : (before : List (List ℕ)) (line : List ℕ) → is_file_line line ≡ true → has_tuple (before ++ line ∷ []) ≡ false
 push-file before line file = ap has_tuple (sym (whole before line)) ∙ has-file (before ++ line ∷ []) (length before) line (at-end before line) file
 
-pub push-line : (before : List (List ℕ)) (line : List ℕ) → is_file_line line ≡ false → has_tuple (before ++ line ∷ []) ≡ (has_tuple before || (starts line || false))
+pub push-line : (before : List (List ℕ)) (line : List ℕ) → is_file_line line ≡ false → has_tuple (before ++ line ∷ []) ≡ (has_tuple before || (starts_tuple line || false))
 push-line before line file =
     ap has_tuple (sym (whole before line))
     ∙ has-line (before ++ line ∷ []) (length before) line (at-end before line) file
-    ∙ ap (λ (ls : List (List ℕ)). has_tuple ls || (starts line || false)) (take-append_seam before (line ∷ []))
+    ∙ ap (λ (ls : List (List ℕ)). has_tuple ls || (starts_tuple line || false)) (take-append_seam before (line ∷ []))
 
 -- no line goes on before one starts a tuple
 none-on : (before lines : List (List ℕ)) → has_tuple before ≡ false → first_bad causes_of before lines ≡ None → going_on (before_first is_file_line lines) ≡ []
 none-on before [] none good = refl
-none-on before (line ∷ lines) none good = by (is_file_line line) refl (starts line) refl (λ file start. none-on (before ++ line ∷ []) lines (push-line before line file ∙ ap (λ b. b || (starts line || false)) none ∙ ap (λ b. b || false) start) (first-good before line lines good).1)
+none-on before (line ∷ lines) none good = by (is_file_line line) refl (starts_tuple line) refl (λ file start. none-on (before ++ line ∷ []) lines (push-line before line file ∙ ap (λ b. b || (starts_tuple line || false)) none ∙ ap (λ b. b || false) start) (first-good before line lines good).1)
   where
-    by : (f : Bool) → is_file_line line ≡ f → (s : Bool) → starts line ≡ s → (is_file_line line ≡ false → starts line ≡ false → going_on (before_first is_file_line lines) ≡ []) → going_on (before_first is_file_line (line ∷ lines)) ≡ []
+    by : (f : Bool) → is_file_line line ≡ f → (s : Bool) → starts_tuple line ≡ s → (is_file_line line ≡ false → starts_tuple line ≡ false → going_on (before_first is_file_line lines) ≡ []) → going_on (before_first is_file_line (line ∷ lines)) ≡ []
     by true e s t rest = ap going_on (before-stop line lines e)
     by false e true t rest = ap going_on (before-more line lines e) ∙ going_on-at line (before_first is_file_line lines) true _ t refl
     by false e false t rest =
@@ -112,9 +112,9 @@ spelled before (line ∷ lines) good = by (is_file_line line) refl (spelled (bef
       subst EachSpelled (sym (before-stop line lines e)) tt,
       subst (Tail (line ∷ lines)) (sym (named-stop line lines e)) (
         lines,
-        ap (λ (l : List ℕ). l ∷ lines) (file-spelled line e) ∙ ap (λ (ls : List (List ℕ)). ls ++ (codes "%file " ++ file_name line) ∷ lines) (sym (before-stop line lines e)),
+        ap (λ (l : List ℕ). l ∷ lines) (file-spelled line e) ∙ ap (λ (ls : List (List ℕ)). ls ++ (codes "%file " ++ bundle_file line) ∷ lines) (sym (before-stop line lines e)),
         file-named (has_tuple before) line e (first-good before line lines good).0,
-        reads-from lines (file_name line) rest.0 (none-on (before ++ line ∷ []) lines (push-file before line e) (first-good before line lines good).1) rest.1,
+        reads-from lines (bundle_file line) rest.0 (none-on (before ++ line ∷ []) lines (push-file before line e) (first-good before line lines good).1) rest.1,
       ),
     )
     by false e rest = (
@@ -131,6 +131,6 @@ bundle-is-spelled text good =
       local = local_file lines;
       files = named_files lines;
       named = refl;
-      read = reads-from lines local_name all.0 (none-on [] lines refl good) all.1;
+      read = reads-from lines unnamed_file all.0 (none-on [] lines refl good) all.1;
       are_chosen = refl;
     }

@@ -2,7 +2,7 @@
 use Rattle.std.proofs.Common.{◌≡◌, ℕ, Bool, true, false, not, ◌&&◌, cond, List, ◌++◌, refl, sym, ap, ◌∙◌, Option, Some, None}
 use Rattle.std.specs.List.{list_any}
 use Rattle.net_base.specs.NdbText.{is_white, is_percent, is_zero, begins, is_empty, Word, words_of, goes_on}
-use Rattle.net_base.specs.NdbBundle.{cause, causes_of, least, is_nameless, is_file_line}
+use Rattle.net_base.specs.NdbBundle.{cause, causes_of, least_of_causes, is_nameless, is_file_line}
 use Rattle.ndb_reader.specs.declared.words.Words.{Words}
 use Rattle.ndb_reader.specs.Told.{AreWords}
 
@@ -16,7 +16,7 @@ abbrev rising : Bool → Bool → Bool → Bool → Bool → Bool → List ℕ
 rising alone unclosed nameless followed zeros directive =
     cause 1 alone ++ (cause 2 unclosed ++ (cause 3 nameless ++ (cause 4 followed ++ (cause 5 zeros ++ cause 6 directive))))
 
-least-picked : (a u n f z d : Bool) → least (rising a u n f z d) ≡ picked a u n f z d
+least-picked : (a u n f z d : Bool) → least_of_causes (rising a u n f z d) ≡ picked a u n f z d
 least-picked true u n f z d = refl
 least-picked false true n f z d = refl
 least-picked false false true f z d = refl
@@ -38,7 +38,7 @@ pub picked-least : (has : Bool) (line : List ℕ) (kept : Words) (a u n f z d : 
     → kept.followed ≡ f
     → list_any is_zero line ≡ z
     → (begins is_percent line && not (is_file_line line)) ≡ d
-    → picked a u n f z d ≡ least (causes_of has line)
+    → picked a u n f z d ≡ least_of_causes (causes_of has line)
 picked-least has line kept a u n f z d are ea eu en ef ez ed =
     let words : List Word = words_of line in
     let alone : (goes_on line && not has) ≡ a =

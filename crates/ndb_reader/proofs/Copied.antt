@@ -3,7 +3,7 @@ use Rattle.std.proofs.Common.{◌≡◌, ℕ, ◌+◌, ◌-◌, ◌≤◌, ◌<�
 use Rattle.std.specs.Prelude.{slice_range}
 use Rattle.std.proofs.lemmas.List.{take_all, take_more, get_or-drop, length-drop}
 use Rattle.net_base.specs.Ndb.{NdbPair}
-use Rattle.net_base.specs.Store.{Grown, pair_of, with_pair, with_pairs, line_ended, tuple_ended, with_tuples}
+use Rattle.net_base.specs.Store.{Grown, pair_with, with_pair, with_pairs, line_ended, tuple_ended, with_tuples}
 
 abbrev pub Tuples : Type 0
 Tuples = List (List (List NdbPair))
@@ -14,11 +14,11 @@ grown_at tuples lines pairs = record { tuples = tuples; lines = lines; pairs = p
 pub pairs-none : (line : List NdbPair) (g : Grown) → g ≡ with_pairs (take 0 line) g
 pairs-none line g = ap (λ (ps : List NdbPair). grown_at g.tuples g.lines ps) (sym (append-nil g.pairs))
 
-pub pairs-next : (line : List NdbPair) (n : ℕ) (pair : NdbPair) (attr value : List ℕ) (g out new : Grown) → n < length line → pair ≡ get_or line n pair → attr ≡ pair.attr → value ≡ pair.value → new ≡ with_pair (pair_of attr value) out → out ≡ with_pairs (take n line) g → new ≡ with_pairs (take (n + 1) line) g
+pub pairs-next : (line : List NdbPair) (n : ℕ) (pair : NdbPair) (attr value : List ℕ) (g out new : Grown) → n < length line → pair ≡ get_or line n pair → attr ≡ pair.attr → value ≡ pair.value → new ≡ with_pair (pair_with attr value) out → out ≡ with_pairs (take n line) g → new ≡ with_pairs (take (n + 1) line) g
 pairs-next line n pair attr value g out new h is ea ev en eo =
     en
-    ∙ ap (λ (a : List ℕ). with_pair (pair_of a value) out) ea
-    ∙ ap (λ (v : List ℕ). with_pair (pair_of pair.attr v) out) ev
+    ∙ ap (λ (a : List ℕ). with_pair (pair_with a value) out) ea
+    ∙ ap (λ (v : List ℕ). with_pair (pair_with pair.attr v) out) ev
     ∙ ap (λ (o : Grown). with_pair pair o) eo
     ∙ ap (λ (ps : List NdbPair). grown_at g.tuples g.lines ps)
     (append_assoc g.pairs (take n line) (pair ∷ []) ∙ ap (λ (p : NdbPair). g.pairs ++ (take n line ++ p ∷ [])) is ∙ ap (λ (ps : List NdbPair). g.pairs ++ ps) (sym (take_more line n pair h)))

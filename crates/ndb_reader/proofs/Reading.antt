@@ -8,8 +8,8 @@ use Rattle.std.proofs.lemmas.List.{at_drop_more, at_drop_all, take_more}
 use Rattle.std.proofs.lemmas.List.Folds.{list_any-append}
 use Rattle.std.proofs.lemmas.List.Sums.{suffix_len-take_no, suffix_len-take_yes}
 use Rattle.net_base.specs.Ndb.{NdbPair}
-use Rattle.net_base.specs.NdbText.{is_white, begins, is_empty, pairs_of, starts, goes_on, going_on, tuples_of, lines_of}
-use Rattle.net_base.specs.NdbBundle.{File, local_name, local_file, named_files, file_of, file_name, is_file_line, has_tuple, cause, causes_of, least, told, first_bad, bad_line, reading, database}
+use Rattle.net_base.specs.NdbText.{is_white, begins, is_empty, pairs_of, starts_tuple, goes_on, going_on, tuples_of, lines_of}
+use Rattle.net_base.specs.NdbBundle.{File, unnamed_file, local_file, named_files, file_of, bundle_file, is_file_line, has_tuple, cause, causes_of, least_of_causes, told_line, first_bad, bad_line, reading, database}
 use Rattle.ndb_text.proofs.Shared.{one_add, some_none, starts-at, goes_on-at}
 use Rattle.ndb_reader.specs.declared.fault.NdbError.{NdbError}
 use Rattle.ndb_reader.specs.declared.fault.NdbError.TheVariants.{Memory, Bad}
@@ -44,7 +44,7 @@ pub record Next (lines : List (List ℕ)) (n : ℕ) (line : List ℕ) : Type 0 w
   pub within : n < length lines
   pub is : line ≡ get_or lines n line
 
-pub read-none : (lines : List (List ℕ)) → Read lines 0 [] local_name [] []
+pub read-none : (lines : List (List ℕ)) → Read lines 0 [] unnamed_file [] []
 read-none lines = record { causes = refl; begun = refl; files = refl }
 
 left : {X : Type 0} (F : List (List ℕ) → X) (lines : List (List ℕ)) (n : ℕ) (line : List ℕ) → Next lines n line → F (drop n lines) ≡ F (line ∷ drop (n + 1) lines)
@@ -55,26 +55,26 @@ passed lines n line next = take_more lines n line next.within ∙ ap (λ (l : Li
 
 -- What is told at the next line.
 
-pub causes-next : (lines : List (List ℕ)) (n : ℕ) (closed : List File) (name : List ℕ) (whole : List (List (List NdbPair))) (last : List (List NdbPair)) (line : List ℕ) → Read lines n closed name whole last → Next lines n line → first_bad causes_of [] lines ≡ told (n + 1) (least (causes_of (not (is_empty last)) line)) (first_bad causes_of (take (n + 1) lines) (drop (n + 1) lines))
+pub causes-next : (lines : List (List ℕ)) (n : ℕ) (closed : List File) (name : List ℕ) (whole : List (List (List NdbPair))) (last : List (List NdbPair)) (line : List ℕ) → Read lines n closed name whole last → Next lines n line → first_bad causes_of [] lines ≡ told_line (n + 1) (least_of_causes (causes_of (not (is_empty last)) line)) (first_bad causes_of (take (n + 1) lines) (drop (n + 1) lines))
 causes-next lines n closed name whole last line r next =
     let rest : List (List ℕ) = drop (n + 1) lines in
     let before : List (List ℕ) = take n lines in
     let len : length before ≡ n = omega (arith, length-take n lines, next.within) in
     r.causes
     ∙ (left (first_bad causes_of before) lines n line next
-    ∙ (ap (λ (k : ℕ). told (k + 1) (least (causes_of (has_tuple before) line)) (first_bad causes_of (before ++ line ∷ []) rest)) len
-    ∙ (ap (λ (has : Bool). told (n + 1) (least (causes_of has line)) (first_bad causes_of (before ++ line ∷ []) rest)) r.begun
-    ∙ ap (λ (passed : List (List ℕ)). told (n + 1) (least (causes_of (not (is_empty last)) line)) (first_bad causes_of passed rest)) (sym (passed lines n line next)))))
+    ∙ (ap (λ (k : ℕ). told_line (k + 1) (least_of_causes (causes_of (has_tuple before) line)) (first_bad causes_of (before ++ line ∷ []) rest)) len
+    ∙ (ap (λ (has : Bool). told_line (n + 1) (least_of_causes (causes_of has line)) (first_bad causes_of (before ++ line ∷ []) rest)) r.begun
+    ∙ ap (λ (passed : List (List ℕ)). told_line (n + 1) (least_of_causes (causes_of (not (is_empty last)) line)) (first_bad causes_of passed rest)) (sym (passed lines n line next)))))
 
-pub read-bad : (lines : List (List ℕ)) (n : ℕ) (closed : List File) (name : List ℕ) (whole : List (List (List NdbPair))) (last : List (List NdbPair)) (line : List ℕ) (c : ℕ) → Read lines n closed name whole last → Next lines n line → least (causes_of (not (is_empty last)) line) ≡ Some c → first_bad causes_of [] lines ≡ Some (n + 1, c)
+pub read-bad : (lines : List (List ℕ)) (n : ℕ) (closed : List File) (name : List ℕ) (whole : List (List (List NdbPair))) (last : List (List NdbPair)) (line : List ℕ) (c : ℕ) → Read lines n closed name whole last → Next lines n line → least_of_causes (causes_of (not (is_empty last)) line) ≡ Some c → first_bad causes_of [] lines ≡ Some (n + 1, c)
 read-bad lines n closed name whole last line c r next h =
     causes-next lines n closed name whole last line r next
-    ∙ ap (λ (o : Option ℕ). told (n + 1) o (first_bad causes_of (take (n + 1) lines) (drop (n + 1) lines))) h
+    ∙ ap (λ (o : Option ℕ). told_line (n + 1) o (first_bad causes_of (take (n + 1) lines) (drop (n + 1) lines))) h
 
-causes-good : (lines : List (List ℕ)) (n : ℕ) (closed : List File) (name : List ℕ) (whole : List (List (List NdbPair))) (last : List (List NdbPair)) (line : List ℕ) → Read lines n closed name whole last → Next lines n line → least (causes_of (not (is_empty last)) line) ≡ None → first_bad causes_of [] lines ≡ first_bad causes_of (take (n + 1) lines) (drop (n + 1) lines)
+causes-good : (lines : List (List ℕ)) (n : ℕ) (closed : List File) (name : List ℕ) (whole : List (List (List NdbPair))) (last : List (List NdbPair)) (line : List ℕ) → Read lines n closed name whole last → Next lines n line → least_of_causes (causes_of (not (is_empty last)) line) ≡ None → first_bad causes_of [] lines ≡ first_bad causes_of (take (n + 1) lines) (drop (n + 1) lines)
 causes-good lines n closed name whole last line r next h =
     causes-next lines n closed name whole last line r next
-    ∙ ap (λ (o : Option ℕ). told (n + 1) o (first_bad causes_of (take (n + 1) lines) (drop (n + 1) lines))) h
+    ∙ ap (λ (o : Option ℕ). told_line (n + 1) o (first_bad causes_of (take (n + 1) lines) (drop (n + 1) lines))) h
 
 -- Whether the file that grows has a tuple.
 
@@ -89,10 +89,10 @@ has-file lines n line next file =
     let none : suffix_len (λ x. not (is_file_line x)) (take (n + 1) lines) ≡ 0 =
     suffix_len-take_no (λ x. not (is_file_line x)) lines (n + 1) line (omega arith) (omega (arith, next.within)) (ap not (here lines n line true next file)) in
     let all : length (take (n + 1) lines) - suffix_len (λ x. not (is_file_line x)) (take (n + 1) lines) ≡ length (take (n + 1) lines) = omega (arith, none) in
-    ap (λ k. list_any starts (drop k (take (n + 1) lines))) all ∙ ap (list_any starts) (drop-length (take (n + 1) lines))
+    ap (λ k. list_any starts_tuple (drop k (take (n + 1) lines))) all ∙ ap (list_any starts_tuple) (drop-length (take (n + 1) lines))
 
 -- another line may start a tuple
-pub has-line : (lines : List (List ℕ)) (n : ℕ) (line : List ℕ) → Next lines n line → is_file_line line ≡ false → has_tuple (take (n + 1) lines) ≡ (has_tuple (take n lines) || (starts line || false))
+pub has-line : (lines : List (List ℕ)) (n : ℕ) (line : List ℕ) → Next lines n line → is_file_line line ≡ false → has_tuple (take (n + 1) lines) ≡ (has_tuple (take n lines) || (starts_tuple line || false))
 has-line lines n line next file =
     let before : List (List ℕ) = take n lines in
     let more : suffix_len (λ x. not (is_file_line x)) (take (n + 1) lines) ≡ 1 + suffix_len (λ x. not (is_file_line x)) (take (n + 1 - 1) lines) =
@@ -104,15 +104,15 @@ has-line lines n line next file =
     more ∙ ap (λ k. 1 + suffix_len (λ x. not (is_file_line x)) (take k lines)) same in
     let place : length (take (n + 1) lines) - suffix_len (λ x. not (is_file_line x)) (take (n + 1) lines) ≡ length before - suffix_len (λ x. not (is_file_line x)) before =
     omega (arith, counted, len, longer) in
-    ap (λ k. list_any starts (drop k (take (n + 1) lines))) place
-    ∙ ap (λ (ls : List (List ℕ)). list_any starts (drop (length before - suffix_len (λ x. not (is_file_line x)) before) ls)) (passed lines n line next)
-    ∙ ap (list_any starts) (drop-append-le (length before - suffix_len (λ x. not (is_file_line x)) before) before (line ∷ []) (omega arith))
-    ∙ list_any-append starts (drop (length before - suffix_len (λ x. not (is_file_line x)) before) before) (line ∷ [])
+    ap (λ k. list_any starts_tuple (drop k (take (n + 1) lines))) place
+    ∙ ap (λ (ls : List (List ℕ)). list_any starts_tuple (drop (length before - suffix_len (λ x. not (is_file_line x)) before) ls)) (passed lines n line next)
+    ∙ ap (list_any starts_tuple) (drop-append-le (length before - suffix_len (λ x. not (is_file_line x)) before) before (line ∷ []) (omega arith))
+    ∙ list_any-append starts_tuple (drop (length before - suffix_len (λ x. not (is_file_line x)) before) before) (line ∷ [])
 
-begun-next : (lines : List (List ℕ)) (n : ℕ) (closed : List File) (name : List ℕ) (whole : List (List (List NdbPair))) (last : List (List NdbPair)) (line : List ℕ) (s : Bool) → Read lines n closed name whole last → Next lines n line → is_file_line line ≡ false → starts line ≡ s → has_tuple (take (n + 1) lines) ≡ (not (is_empty last) || (s || false))
+begun-next : (lines : List (List ℕ)) (n : ℕ) (closed : List File) (name : List ℕ) (whole : List (List (List NdbPair))) (last : List (List NdbPair)) (line : List ℕ) (s : Bool) → Read lines n closed name whole last → Next lines n line → is_file_line line ≡ false → starts_tuple line ≡ s → has_tuple (take (n + 1) lines) ≡ (not (is_empty last) || (s || false))
 begun-next lines n closed name whole last line s r next file e =
     has-line lines n line next file
-    ∙ ap (λ (b : Bool). b || (starts line || false)) r.begun ∙ ap (λ (b : Bool). not (is_empty last) || (b || false)) e
+    ∙ ap (λ (b : Bool). b || (starts_tuple line || false)) r.begun ∙ ap (λ (b : Bool). not (is_empty last) || (b || false)) e
 
 or_nothing : (b : Bool) → (b || (false || false)) ≡ b
 or_nothing true = refl
@@ -128,7 +128,7 @@ resumed_by [] pairs rest s g = cond s ((pairs ∷ going_on rest) ∷ tuples_of r
 resumed_by (p ∷ ps) pairs rest s g =
     ((p ∷ ps) ++ cond s [] (cond g (pairs ∷ going_on rest) (going_on rest))) ∷ cond s ((pairs ∷ going_on rest) ∷ tuples_of rest) (tuples_of rest)
 
-resumed-cons : (last : List (List NdbPair)) (line : List ℕ) (rest : List (List ℕ)) → resumed last (line ∷ rest) ≡ resumed_by last (pairs_of line) rest (starts line) (goes_on line)
+resumed-cons : (last : List (List NdbPair)) (line : List ℕ) (rest : List (List ℕ)) → resumed last (line ∷ rest) ≡ resumed_by last (pairs_of line) rest (starts_tuple line) (goes_on line)
 resumed-cons [] line rest = refl
 resumed-cons (p ∷ ps) line rest = refl
 
@@ -141,12 +141,12 @@ pub before-stop : (line : List ℕ) (lines : List (List ℕ)) → is_file_line l
 before-stop line lines e = rw e refl
 
 pub named-more : (line : List ℕ) (lines : List (List ℕ)) → is_file_line line ≡ false → named_files (line ∷ lines) ≡ named_files lines
-named-more line lines e = ap (λ b. cond b (file_of (file_name line) lines ∷ named_files lines) (named_files lines)) e
+named-more line lines e = ap (λ b. cond b (file_of (bundle_file line) lines ∷ named_files lines) (named_files lines)) e
 
-pub named-stop : (line : List ℕ) (lines : List (List ℕ)) → is_file_line line ≡ true → named_files (line ∷ lines) ≡ file_of (file_name line) lines ∷ named_files lines
-named-stop line lines e = ap (λ b. cond b (file_of (file_name line) lines ∷ named_files lines) (named_files lines)) e
+pub named-stop : (line : List ℕ) (lines : List (List ℕ)) → is_file_line line ≡ true → named_files (line ∷ lines) ≡ file_of (bundle_file line) lines ∷ named_files lines
+named-stop line lines e = ap (λ b. cond b (file_of (bundle_file line) lines ∷ named_files lines) (named_files lines)) e
 
-files-next : (lines : List (List ℕ)) (n : ℕ) (closed : List File) (name : List ℕ) (whole : List (List (List NdbPair))) (last : List (List NdbPair)) (line : List ℕ) (s g : Bool) → Read lines n closed name whole last → Next lines n line → is_file_line line ≡ false → starts line ≡ s → goes_on line ≡ g
+files-next : (lines : List (List ℕ)) (n : ℕ) (closed : List File) (name : List ℕ) (whole : List (List (List NdbPair))) (last : List (List NdbPair)) (line : List ℕ) (s g : Bool) → Read lines n closed name whole last → Next lines n line → is_file_line line ≡ false → starts_tuple line ≡ s → goes_on line ≡ g
     → all_files lines ≡ closed ++ record { name = name; tuples = whole ++ resumed_by last (pairs_of line) (before_first is_file_line (drop (n + 1) lines)) s g } ∷ named_files (drop (n + 1) lines)
 files-next lines n closed name whole last line s g r next file es eg =
     let rest : List (List ℕ) = drop (n + 1) lines in
@@ -173,9 +173,9 @@ tuples_are : (closed rest : List File) (name : List ℕ) (ts us : List (List (Li
 tuples_are closed rest name ts us e = ap (λ (tuples : List (List (List NdbPair))). closed ++ record { name = name; tuples = tuples } ∷ rest) e
 
 -- a line without words
-pub read-blank : (lines : List (List ℕ)) (n : ℕ) (closed : List File) (name : List ℕ) (whole : List (List (List NdbPair))) (last : List (List NdbPair)) (line : List ℕ) → Read lines n closed name whole last → Next lines n line → is_file_line line ≡ false → least (causes_of (not (is_empty last)) line) ≡ None → is_empty (pairs_of line) ≡ true → Read lines (n + 1) closed name whole last
+pub read-blank : (lines : List (List ℕ)) (n : ℕ) (closed : List File) (name : List ℕ) (whole : List (List (List NdbPair))) (last : List (List NdbPair)) (line : List ℕ) → Read lines n closed name whole last → Next lines n line → is_file_line line ≡ false → least_of_causes (causes_of (not (is_empty last)) line) ≡ None → is_empty (pairs_of line) ≡ true → Read lines (n + 1) closed name whole last
 read-blank lines n closed name whole last line r next file good blank =
-    let s : starts line ≡ false = starts-at line true _ blank refl in
+    let s : starts_tuple line ≡ false = starts-at line true _ blank refl in
     let g : goes_on line ≡ false = goes_on-at line true _ blank refl in
     record {
       causes = causes-good lines n closed name whole last line r next good;
@@ -184,16 +184,16 @@ read-blank lines n closed name whole last line r next file good blank =
           ∙ tuples_are closed (named_files (drop (n + 1) lines)) name _ _ (ap (λ (ts : List (List (List NdbPair))). whole ++ ts) (resumed-blank last (pairs_of line) (before_first is_file_line (drop (n + 1) lines))));
     }
 
-cause-first : (b : Bool) (causes : List ℕ) → b ≡ true → least (cause 1 b ++ causes) ≡ None → ⊥
+cause-first : (b : Bool) (causes : List ℕ) → b ≡ true → least_of_causes (cause 1 b ++ causes) ≡ None → ⊥
 cause-first true causes e h = some_none h
 cause-first false causes e h = cc
 
 -- a line that goes on with a tuple
-pub read-on : (lines : List (List ℕ)) (n : ℕ) (closed : List File) (name : List ℕ) (whole : List (List (List NdbPair))) (last : List (List NdbPair)) (line : List ℕ) → Read lines n closed name whole last → Next lines n line → is_file_line line ≡ false → least (causes_of (not (is_empty last)) line) ≡ None → is_empty (pairs_of line) ≡ false → begins is_white line ≡ true → Read lines (n + 1) closed name whole (last ++ pairs_of line ∷ [])
+pub read-on : (lines : List (List ℕ)) (n : ℕ) (closed : List File) (name : List ℕ) (whole : List (List (List NdbPair))) (last : List (List NdbPair)) (line : List ℕ) → Read lines n closed name whole last → Next lines n line → is_file_line line ≡ false → least_of_causes (causes_of (not (is_empty last)) line) ≡ None → is_empty (pairs_of line) ≡ false → begins is_white line ≡ true → Read lines (n + 1) closed name whole (last ++ pairs_of line ∷ [])
 read-on lines n closed name whole [] line r next file good words white =
     absurd (cause-first (goes_on line && not false) _ (ap (λ b. b && not false) (goes_on-at line false true words white)) good)
 read-on lines n closed name whole (p ∷ ps) line r next file good words white =
-    let s : starts line ≡ false = starts-at line false true words white in
+    let s : starts_tuple line ≡ false = starts-at line false true words white in
     let g : goes_on line ≡ true = goes_on-at line false true words white in
     let ahead : List (List ℕ) = before_first is_file_line (drop (n + 1) lines) in
     record {
@@ -204,9 +204,9 @@ read-on lines n closed name whole (p ∷ ps) line r next file good words white =
     }
 
 -- a line that starts a tuple
-pub read-start : (lines : List (List ℕ)) (n : ℕ) (closed : List File) (name : List ℕ) (whole : List (List (List NdbPair))) (last : List (List NdbPair)) (line : List ℕ) → Read lines n closed name whole last → Next lines n line → is_file_line line ≡ false → least (causes_of (not (is_empty last)) line) ≡ None → is_empty (pairs_of line) ≡ false → begins is_white line ≡ false → Read lines (n + 1) closed name (whole ++ tuple_of last) (pairs_of line ∷ [])
+pub read-start : (lines : List (List ℕ)) (n : ℕ) (closed : List File) (name : List ℕ) (whole : List (List (List NdbPair))) (last : List (List NdbPair)) (line : List ℕ) → Read lines n closed name whole last → Next lines n line → is_file_line line ≡ false → least_of_causes (causes_of (not (is_empty last)) line) ≡ None → is_empty (pairs_of line) ≡ false → begins is_white line ≡ false → Read lines (n + 1) closed name (whole ++ tuple_of last) (pairs_of line ∷ [])
 read-start lines n closed name whole last line r next file good words white =
-    let s : starts line ≡ true = starts-at line false false words white in
+    let s : starts_tuple line ≡ true = starts-at line false false words white in
     let g : goes_on line ≡ false = goes_on-at line false false words white in
     record {
       causes = causes-good lines n closed name whole last line r next good;
@@ -220,7 +220,7 @@ resumed-none [] = refl
 resumed-none (p ∷ ps) = ap (λ (tuple : List (List NdbPair)). tuple ∷ []) (append-nil (p ∷ ps))
 
 -- a line that begins a file
-pub read-file : (lines : List (List ℕ)) (n : ℕ) (closed : List File) (name : List ℕ) (whole : List (List (List NdbPair))) (last : List (List NdbPair)) (line : List ℕ) → Read lines n closed name whole last → Next lines n line → is_file_line line ≡ true → least (causes_of (not (is_empty last)) line) ≡ None → Read lines (n + 1) (closed ++ closed_by name whole last ∷ []) (file_name line) [] []
+pub read-file : (lines : List (List ℕ)) (n : ℕ) (closed : List File) (name : List ℕ) (whole : List (List (List NdbPair))) (last : List (List NdbPair)) (line : List ℕ) → Read lines n closed name whole last → Next lines n line → is_file_line line ≡ true → least_of_causes (causes_of (not (is_empty last)) line) ≡ None → Read lines (n + 1) (closed ++ closed_by name whole last ∷ []) (bundle_file line) [] []
 read-file lines n closed name whole last line r next file good =
     let rest : List (List ℕ) = drop (n + 1) lines in
     record {
@@ -229,8 +229,8 @@ read-file lines n closed name whole last line r next file good =
       files = r.files
           ∙ left (λ (ls : List (List ℕ)). closed ++ grown name whole last ls ∷ named_files ls) lines n line next
           ∙ ap (λ (fs : List File). closed ++ grown name whole last (line ∷ rest) ∷ fs) (named-stop line rest file)
-          ∙ tuples_are closed (file_of (file_name line) rest ∷ named_files rest) name _ _ (ap (λ (ts : List (List (List NdbPair))). whole ++ ts) (ap (resumed last) (before-stop line rest file) ∙ resumed-none last))
-          ∙ sym (append_assoc closed (closed_by name whole last ∷ []) (file_of (file_name line) rest ∷ named_files rest));
+          ∙ tuples_are closed (file_of (bundle_file line) rest ∷ named_files rest) name _ _ (ap (λ (ts : List (List (List NdbPair))). whole ++ ts) (ap (resumed last) (before-stop line rest file) ∙ resumed-none last))
+          ∙ sym (append_assoc closed (closed_by name whole last ∷ []) (file_of (bundle_file line) rest ∷ named_files rest));
     }
 
 -- all lines

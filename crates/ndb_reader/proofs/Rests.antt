@@ -6,7 +6,7 @@ use Rattle.std.proofs.Math.ListN.{drop_of_length-le}
 use Rattle.std.proofs.lemmas.List.Sums.{prefix_len-le-length}
 use Rattle.std.proofs.lemmas.Bool.Decides.{nat_tests}
 use Rattle.net_base.specs.Ndb.{NdbPair}
-use Rattle.net_base.specs.NdbText.{is_white, is_hash, is_equals, is_quote, is_empty, begins, Word, plain_word, quoted_word, word_of, words_behind, pair_of}
+use Rattle.net_base.specs.NdbText.{is_white, is_hash, is_equals, is_quote, is_empty, begins, Word, plain_word, quoted_word, word_of, words_behind, word_pair}
 use Rattle.ndb_text.proofs.Shared.{before_first-cons, words-word, words-hash, words-white}
 use Rattle.ndb_reader.specs.declared.words.Word.{Word as Kept}
 use Rattle.ndb_reader.specs.declared.words.Words.{Words}
@@ -41,7 +41,7 @@ drop-one (suc n) b bytes some = let e : suc n - 1 ≡ n = omega arith in ap (λ 
 
 -- what is still to come of a line's words, and of their pairs
 pub record Parsed (old now : Grown) (line : List ℕ) (kept : Words) (rest : List ℕ) : Type 0 where
-  pub pairs : with_pairs (map pair_of (words_behind 0 line)) old ≡ with_pairs (map pair_of (words_behind 0 rest)) now
+  pub pairs : with_pairs (map word_pair (words_behind 0 line)) old ≡ with_pairs (map word_pair (words_behind 0 rest)) now
   pub some : not (is_empty (words_behind 0 line)) ≡ (kept.some || not (is_empty (words_behind 0 rest)))
   pub nameless : list_any is_nameless (words_behind 0 line) ≡ (kept.nameless || list_any is_nameless (words_behind 0 rest))
   pub unclosed : list_any (λ (word : Word). word.unclosed) (words_behind 0 line) ≡ (kept.unclosed || list_any (λ (word : Word). word.unclosed) (words_behind 0 rest))
@@ -67,7 +67,7 @@ parsed-none old line kept none = record {
 -- what is left may change where its words don't
 moved : (old now : Grown) (line : List ℕ) (kept : Words) (rest other : List ℕ) → Parsed old now line kept rest → words_behind 0 rest ≡ words_behind 0 other → Parsed old now line kept other
 moved old now line kept rest other p e = record {
-  pairs = p.pairs ∙ ap (λ (ws : List Word). with_pairs (map pair_of ws) now) e;
+  pairs = p.pairs ∙ ap (λ (ws : List Word). with_pairs (map word_pair ws) now) e;
   some = p.some ∙ ap (λ (ws : List Word). kept.some || not (is_empty ws)) e;
   nameless = p.nameless ∙ ap (λ (ws : List Word). kept.nameless || list_any is_nameless ws) e;
   unclosed = p.unclosed ∙ ap (λ (ws : List Word). kept.unclosed || list_any (λ (word : Word). word.unclosed) ws) e;
@@ -82,7 +82,7 @@ no-more : (g : Grown) → with_pairs [] g ≡ g
 no-more g = ap (λ (ps : List NdbPair). record { tuples = g.tuples; lines = g.lines; pairs = ps }) (append-nil g.pairs)
 
 -- no words are left
-pub parsed-end : (old now : Grown) (line : List ℕ) (kept : Words) (rest : List ℕ) → Parsed old now line kept rest → words_behind 0 rest ≡ [] → AreWords kept (words_behind 0 line) × (now ≡ with_pairs (map pair_of (words_behind 0 line)) old)
+pub parsed-end : (old now : Grown) (line : List ℕ) (kept : Words) (rest : List ℕ) → Parsed old now line kept rest → words_behind 0 rest ≡ [] → AreWords kept (words_behind 0 line) × (now ≡ with_pairs (map word_pair (words_behind 0 line)) old)
 parsed-end old now line kept rest p none = (
   record {
     some = sym (p.some ∙ ap (λ (ws : List Word). kept.some || not (is_empty ws)) none ∙ or_none kept.some);
@@ -90,7 +90,7 @@ parsed-end old now line kept rest p none = (
     unclosed = sym (p.unclosed ∙ ap (λ (ws : List Word). kept.unclosed || list_any (λ (word : Word). word.unclosed) ws) none ∙ or_none kept.unclosed);
     followed = sym (p.followed ∙ ap (λ (ws : List Word). kept.followed || list_any (λ (word : Word). word.followed) ws) none ∙ or_none kept.followed);
   },
-  sym (p.pairs ∙ ap (λ (ws : List Word). with_pairs (map pair_of ws) now) none ∙ no-more now),
+  sym (p.pairs ∙ ap (λ (ws : List Word). with_pairs (map word_pair ws) now) none ∙ no-more now),
 )
 
 pub left-none : (rest : List ℕ) → length rest ≡ 0 → words_behind 0 rest ≡ []
@@ -124,12 +124,12 @@ parsed-word old now then line kept after (b ∷ bytes) read p some hash white is
     let next : words_behind 0 (b ∷ bytes) ≡ word ∷ behind =
     words-word b bytes white no_hash
     ∙ ap (λ (ws : List Word). word ∷ ws) (behind-dropped (word.takes - 1) bytes ∙ ap (words_behind 0) (drop-one word.takes b bytes (takes-some b bytes white) ∙ sym is.rest)) in
-    let pair : record { attr = read.attr.now; value = read.value.now } ≡ pair_of word =
+    let pair : record { attr = read.attr.now; value = read.value.now } ≡ word_pair word =
     ap (λ attr. record { attr = attr; value = read.value.now }) is.attr ∙ ap (λ value. record { attr = word.attr; value = value }) is.value in
     record {
-      pairs = p.pairs ∙ ap (λ (ws : List Word). with_pairs (map pair_of ws) now) next
-          ∙ with-more now (pair_of word) (map pair_of behind)
-          ∙ ap (λ (g : Grown). with_pairs (map pair_of behind) g) (sym (pairs ∙ ap (λ (q : NdbPair). with_pair q now) pair));
+      pairs = p.pairs ∙ ap (λ (ws : List Word). with_pairs (map word_pair ws) now) next
+          ∙ with-more now (word_pair word) (map word_pair behind)
+          ∙ ap (λ (g : Grown). with_pairs (map word_pair behind) g) (sym (pairs ∙ ap (λ (q : NdbPair). with_pair q now) pair));
       some = p.some ∙ ap (λ (ws : List Word). kept.some || not (is_empty ws)) next ∙ or_true kept.some
           ∙ ap (λ (c : Bool). c || not (is_empty behind)) (sym any);
       nameless = p.nameless ∙ ap (λ (ws : List Word). kept.nameless || list_any is_nameless ws) next

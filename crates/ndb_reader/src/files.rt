@@ -46,7 +46,7 @@ impl Files {
     pub(crate) fn new(alloc: Global) -> Result<Files, AllocError>
         ensures sound { IfOk result (λ files. AreFiled files) }
         ensures closed { IfOk result (λ files. (spec.filed files).closed ≡ []) }
-        ensures name { IfOk result (λ files. (spec.filed files).name ≡ bundle.local_name) }
+        ensures name { IfOk result (λ files. (spec.filed files).name ≡ bundle.unnamed_file) }
         ensures whole { IfOk result (λ files. (spec.filed files).whole ≡ []) }
         ensures last { IfOk result (λ files. (spec.filed files).last ≡ []) }
         ensures pairs { IfOk result (λ files. (spec.filed files).pairs ≡ []) }
@@ -70,11 +70,11 @@ impl Files {
         requires sound { AreFiled self.old }
         requires zeros { list_any text.is_zero line.now ≡ true → zeros ≡ true }
         ensures sound { OnOk result (AreFiled self.new) }
-        ensures good { OnOk result (bundle.least (bundle.causes_of (not (text.is_empty (spec.filed self.old).last)) line.now) ≡ None) }
+        ensures good { OnOk result (bundle.least_of_causes (bundle.causes_of (not (text.is_empty (spec.filed self.old).last)) line.now) ≡ None) }
         ensures pairs { OnOk result (spec.filed self.new ≡ spec.line_filed (text.pairs_of line.now) (spec.filed self.old)) }
         ensures some { IfOk result (λ some. some ≡ not (text.is_empty (text.words_of line.now))) }
         ensures bad { IfErr result (λ e. Tells e (option_map (λ (c : ℕ). (number, c))
-            (bundle.least (bundle.causes_of (not (text.is_empty (spec.filed self.old).last)) line.now)))) }
+            (bundle.least_of_causes (bundle.causes_of (not (text.is_empty (spec.filed self.old).last)) line.now)))) }
     {
         let has_tuple = !self.is_empty();
         read_line(&mut self.growing, line, number, has_tuple, zeros)

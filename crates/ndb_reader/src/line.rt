@@ -4,7 +4,7 @@ ghost use Rattle.std.specs.List.{list_any};
 ghost use Rattle.std.specs.Option.{option_map};
 ghost use Rattle.net_base.specs.NdbText as spec;
 ghost use Rattle.net_base.specs.NdbText.{begins_with};
-ghost use Rattle.net_base.specs.NdbBundle.{causes_of, is_file_line, file_name, least};
+ghost use Rattle.net_base.specs.NdbBundle.{causes_of, is_file_line, bundle_file, least_of_causes};
 ghost use Rattle.net_base.specs.Store.{with_pairs};
 ghost use Rattle.ndb_reader.specs.Told.{Tells, AreWords};
 
@@ -24,7 +24,7 @@ pub(crate) fn is_indented(line: &[u8]) -> bool
 pub(crate) fn begun_file(line: &[u8]) -> Option<&[u8]>
     ensures { MatchOption result
         (is_file_line line.now ≡ false)
-        (λ name. (is_file_line line.now ≡ true) × (name.now ≡ file_name line.now)) }
+        (λ name. (is_file_line line.now ≡ true) × (name.now ≡ bundle_file line.now)) }
 {
     if !is_headed(line) {
         return None;
@@ -60,10 +60,10 @@ pub(crate) fn read_line(
     zeros: bool,
 ) -> Result<bool, NdbError>
     requires { list_any spec.is_zero line.now ≡ true → zeros ≡ true }
-    ensures good { OnOk result (least (causes_of has_tuple line.now) ≡ None) }
+    ensures good { OnOk result (least_of_causes (causes_of has_tuple line.now) ≡ None) }
     ensures pairs { OnOk result (growing.new ≡ with_pairs (spec.pairs_of line.now) growing.old) }
     ensures some { IfOk result (λ some. some ≡ not (spec.is_empty (spec.words_of line.now))) }
-    ensures bad { IfErr result (λ e. Tells e (option_map (λ (c : ℕ). (number, c)) (least (causes_of has_tuple line.now)))) }
+    ensures bad { IfErr result (λ e. Tells e (option_map (λ (c : ℕ). (number, c)) (least_of_causes (causes_of has_tuple line.now)))) }
 {
     let words = words_of(line, growing)?;
     match least_cause(line, words, has_tuple, zeros) {
@@ -90,7 +90,7 @@ fn words_of(line: &[u8], growing: &mut Growing) -> Result<Words, AllocError>
 fn least_cause(line: &[u8], words: Words, has_tuple: bool, zeros: bool) -> Option<u32>
     requires words { AreWords words (spec.words_of line.now) }
     requires zeros { list_any spec.is_zero line.now ≡ true → zeros ≡ true }
-    ensures { result ≡ least (causes_of has_tuple line.now) }
+    ensures { result ≡ least_of_causes (causes_of has_tuple line.now) }
 {
     if goes_on_alone(line, words, has_tuple) {
         Some(1)

@@ -5,7 +5,7 @@ use Rattle.std.proofs.lemmas.List.{take-append-drop}
 use Rattle.std.proofs.lemmas.Bool.Decides.{nat_tests}
 use Rattle.std.proofs.lemmas.Bool.{not-false}
 use Rattle.net_base.specs.Ndb.{NdbPair}
-use Rattle.net_base.specs.NdbText.{is_white, is_hash, is_equals, is_quote, begins, is_empty, Word, plain_word, quoted_word, word_of, words_behind, pair_of}
+use Rattle.net_base.specs.NdbText.{is_white, is_hash, is_equals, is_quote, begins, is_empty, Word, plain_word, quoted_word, word_of, words_behind, word_pair}
 use Rattle.net_base.specs.NdbBundle.{is_nameless}
 use Rattle.ndb_text.proofs.NdbPlain.{or_false, or_false_first, or_false_rest, one_add, none-take, none-drop, before_first-cons, words-white, words-word, words-hash}
 use Rattle.ndb_text.proofs.NdbLists.{before_first-none}
@@ -90,7 +90,7 @@ pub record Front (bytes : List ℕ) (word : Word) : Type 0 where
   pub spelling : List ℕ
   pub rest : List ℕ
   pub bytes_are : bytes ≡ spelling ++ rest
-  pub is_word : IsWord spelling (pair_of word) rest
+  pub is_word : IsWord spelling (word_pair word) rest
   pub takes : word.takes ≡ length spelling
 
 attr-front : (bytes : List ℕ) → begins is_hash bytes ≡ false → is_empty (before_first is_equals (before_first is_white bytes)) ≡ false → IsAttr (before_first is_equals (before_first is_white bytes))
@@ -101,7 +101,7 @@ attr-front bytes hash named = record {
   hash = begins-take is_hash (position_or_len is_equals (before_first is_white bytes)) (before_first is_white bytes) (begins-take is_hash (position_or_len is_white bytes) bytes hash);
 }
 
-plain-is_word : (bytes : List ℕ) (u : Bool) → list_any is_equals (before_first is_white bytes) ≡ u → begins is_quote (after_first is_equals (before_first is_white bytes)) ≡ false → IsAttr (before_first is_equals (before_first is_white bytes)) → IsWord (before_first is_white bytes) (pair_of (plain_word (before_first is_white bytes))) (drop (position_or_len is_white bytes) bytes)
+plain-is_word : (bytes : List ℕ) (u : Bool) → list_any is_equals (before_first is_white bytes) ≡ u → begins is_quote (after_first is_equals (before_first is_white bytes)) ≡ false → IsAttr (before_first is_equals (before_first is_white bytes)) → IsWord (before_first is_white bytes) (word_pair (plain_word (before_first is_white bytes))) (drop (position_or_len is_white bytes) bytes)
 plain-is_word bytes true e v a = record {
   way = plain;
   bytes = around is_equals 61 equals_is (before_first is_white bytes) e;
@@ -212,34 +212,34 @@ complete-none [] e = ([], [], refl, tt, inl refl)
 complete-none (b ∷ bs) e = complete-none_if b bs _ _ refl refl (complete-none bs) e
 
 -- the first word is w, and the rest reads as the others
-complete-word : (w : Word) (ws : List Word) → ((rest : List ℕ) → words_behind 0 rest ≡ ws → ReadsWords rest (map pair_of ws)) → w.unclosed ≡ false → is_nameless w ≡ false → w.followed ≡ false → (b : ℕ) (bs : List ℕ) → is_hash b ≡ false → word_of (b ∷ bs) ≡ w → words_behind ((word_of (b ∷ bs)).takes - 1) bs ≡ ws → ReadsWords (b ∷ bs) (pair_of w ∷ map pair_of ws)
+complete-word : (w : Word) (ws : List Word) → ((rest : List ℕ) → words_behind 0 rest ≡ ws → ReadsWords rest (map word_pair ws)) → w.unclosed ≡ false → is_nameless w ≡ false → w.followed ≡ false → (b : ℕ) (bs : List ℕ) → is_hash b ≡ false → word_of (b ∷ bs) ≡ w → words_behind ((word_of (b ∷ bs)).takes - 1) bs ≡ ws → ReadsWords (b ∷ bs) (word_pair w ∷ map word_pair ws)
 complete-word w ws next unclosed nameless followed b bs hash first others =
     let f = front-word (b ∷ bs) hash (ap (λ (x : Word). x.unclosed) first ∙ unclosed) (ap is_nameless first ∙ nameless) (ap (λ (x : Word). x.followed) first ∙ followed) in
-    let s = first-way f.is_word.way (pair_of (word_of (b ∷ bs))) f.is_word.attr in
+    let s = first-way f.is_word.way (word_pair (word_of (b ∷ bs))) f.is_word.attr in
     let spelling : f.spelling ≡ s.byte ∷ s.tail = f.is_word.bytes ∙ s.is in
     let whole : b ∷ bs ≡ s.byte ∷ (s.tail ++ f.rest) = f.bytes_are ∙ ap (λ (xs : List ℕ). xs ++ f.rest) spelling in
     let bytes : bs ≡ s.tail ++ f.rest = cc in
     let left : (word_of (b ∷ bs)).takes - 1 ≡ length s.tail = ap (λ (n : ℕ). n - 1) (f.takes ∙ ap length spelling) ∙ omega arith in
     let rest : words_behind 0 f.rest ≡ ws =
     sym (words-passed s.tail f.rest) ∙ (ap (λ (xs : List ℕ). words_behind (length s.tail) xs) (sym bytes) ∙ (ap (λ (n : ℕ). words_behind n bs) (sym left) ∙ others)) in
-    ([], f.spelling, f.rest, f.bytes_are, tt, subst (λ (x : Word). IsWord f.spelling (pair_of x) f.rest) first f.is_word, next f.rest rest)
+    ([], f.spelling, f.rest, f.bytes_are, tt, subst (λ (x : Word). IsWord f.spelling (word_pair x) f.rest) first f.is_word, next f.rest rest)
 
-complete-cons_if : (w : Word) (ws : List Word) → ((rest : List ℕ) → words_behind 0 rest ≡ ws → ReadsWords rest (map pair_of ws)) → w.unclosed ≡ false → is_nameless w ≡ false → w.followed ≡ false → (b : ℕ) (bs : List ℕ) (v h : Bool) → is_white b ≡ v → is_hash b ≡ h → (words_behind 0 bs ≡ w ∷ ws → ReadsWords bs (pair_of w ∷ map pair_of ws)) → words_behind 0 (b ∷ bs) ≡ w ∷ ws → ReadsWords (b ∷ bs) (pair_of w ∷ map pair_of ws)
+complete-cons_if : (w : Word) (ws : List Word) → ((rest : List ℕ) → words_behind 0 rest ≡ ws → ReadsWords rest (map word_pair ws)) → w.unclosed ≡ false → is_nameless w ≡ false → w.followed ≡ false → (b : ℕ) (bs : List ℕ) (v h : Bool) → is_white b ≡ v → is_hash b ≡ h → (words_behind 0 bs ≡ w ∷ ws → ReadsWords bs (word_pair w ∷ map word_pair ws)) → words_behind 0 (b ∷ bs) ≡ w ∷ ws → ReadsWords (b ∷ bs) (word_pair w ∷ map word_pair ws)
 complete-cons_if w ws next unclosed nameless followed b bs true h ev eh more e =
-    spaced b bs (pair_of w ∷ map pair_of ws) ev (more (sym (words-white b bs ev) ∙ e))
+    spaced b bs (word_pair w ∷ map word_pair ws) ev (more (sym (words-white b bs ev) ∙ e))
 complete-cons_if w ws next unclosed nameless followed b bs false true ev eh more e =
     absurd (cons_none (sym e ∙ words-hash b bs ev eh))
 complete-cons_if w ws next unclosed nameless followed b bs false false ev eh more e =
     let both : word_of (b ∷ bs) ∷ words_behind ((word_of (b ∷ bs)).takes - 1) bs ≡ w ∷ ws = sym (words-word b bs ev eh) ∙ e in
     complete-word w ws next unclosed nameless followed b bs eh (cc) (cc)
 
-complete-cons : (w : Word) (ws : List Word) → ((rest : List ℕ) → words_behind 0 rest ≡ ws → ReadsWords rest (map pair_of ws)) → w.unclosed ≡ false → is_nameless w ≡ false → w.followed ≡ false → (line : List ℕ) → words_behind 0 line ≡ w ∷ ws → ReadsWords line (pair_of w ∷ map pair_of ws)
+complete-cons : (w : Word) (ws : List Word) → ((rest : List ℕ) → words_behind 0 rest ≡ ws → ReadsWords rest (map word_pair ws)) → w.unclosed ≡ false → is_nameless w ≡ false → w.followed ≡ false → (line : List ℕ) → words_behind 0 line ≡ w ∷ ws → ReadsWords line (word_pair w ∷ map word_pair ws)
 complete-cons w ws next unclosed nameless followed [] e = absurd (cons_none (sym e))
 complete-cons w ws next unclosed nameless followed (b ∷ bs) e =
     complete-cons_if w ws next unclosed nameless followed b bs _ _ refl refl (complete-cons w ws next unclosed nameless followed bs) e
 
 -- words without faults are spelled by their line
-pub complete : (words : List Word) (line : List ℕ) → words_behind 0 line ≡ words → Faultless words → ReadsWords line (map pair_of words)
+pub complete : (words : List Word) (line : List ℕ) → words_behind 0 line ≡ words → Faultless words → ReadsWords line (map word_pair words)
 complete [] line e f = complete-none line e
 complete (w ∷ ws) line e f =
     complete-cons w ws

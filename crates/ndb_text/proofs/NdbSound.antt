@@ -5,7 +5,7 @@ use Rattle.std.proofs.lemmas.List.Folds.{list_any-append}
 use Rattle.std.proofs.lemmas.Bool.Decides.{nat_tests}
 use Rattle.std.proofs.lemmas.Bool.{or_right}
 use Rattle.net_base.specs.Ndb.{NdbPair}
-use Rattle.net_base.specs.NdbText.{is_white, is_hash, is_equals, is_quote, begins, is_empty, Word, plain_word, quoted_word, word_of, words_behind, pair_of, pairs_of}
+use Rattle.net_base.specs.NdbText.{is_white, is_hash, is_equals, is_quote, begins, is_empty, Word, plain_word, quoted_word, word_of, words_behind, word_pair, pairs_of}
 use Rattle.net_base.specs.NdbBundle.{is_nameless}
 use Rattle.ndb_text.proofs.NdbPlain.{or_false, or_false_first, or_false_rest, before_first-cons, words-white, words-word, words-hash}
 use Rattle.ndb_text.proofs.NdbLists.{before_first-none}
@@ -148,7 +148,7 @@ pub record Faultless (words : List Word) : Type 0 where
 
 -- the words behind n bytes have these pairs and no faults
 pub record Behind (n : ℕ) (line : List ℕ) (pairs : List NdbPair) : Type 0 where
-  pub pairs_are : map pair_of (words_behind n line) ≡ pairs
+  pub pairs_are : map word_pair (words_behind n line) ≡ pairs
   pub faultless : Faultless (words_behind n line)
 
 words-spaces : (white rest : List ℕ) → IsWhite white → words_behind 0 (white ++ rest) ≡ words_behind 0 rest
@@ -202,7 +202,7 @@ words-first word pair rest w =
     subst (λ (bs : List ℕ). (word_of (bs ++ rest)).takes ≡ length bs → words_behind 0 (bs ++ rest) ≡ word_of (bs ++ rest) ∷ words_behind 0 rest) (sym e)
     (words-first_at f.byte f.tail rest f.white f.hash) (takes-word word pair rest w).takes
 
-pair_eq : (w : Word) (p : NdbPair) → w.attr ≡ p.attr → w.value ≡ p.value → pair_of w ≡ p
+pair_eq : (w : Word) (p : NdbPair) → w.attr ≡ p.attr → w.value ≡ p.value → word_pair w ≡ p
 pair_eq w p ea ev =
     let P : List ℕ → List ℕ → NdbPair = λ a v. record { attr = a; value = v } in
     ap (λ (a : List ℕ). P a w.value) ea ∙ ap (λ (v : List ℕ). P p.attr v) ev
@@ -214,14 +214,14 @@ named attr a = ap is_empty (first-attr attr a).is
 pub sound : (line : List ℕ) (pairs : List NdbPair) → ReadsWords line pairs → Behind 0 line pairs
 sound line [] (white, rest, e, w, comment) =
     let none : words_behind 0 line ≡ [] = ap (words_behind 0) e ∙ (words-spaces white rest w ∙ words-comment rest comment) in
-    record { pairs_are = ap (map pair_of) none; faultless = subst Faultless (sym none) (record { unclosed = refl; nameless = refl; followed = refl }) }
+    record { pairs_are = ap (map word_pair) none; faultless = subst Faultless (sym none) (record { unclosed = refl; nameless = refl; followed = refl }) }
 sound line (pair ∷ pairs) (white, word, rest, e, w, is, more) =
     let words : words_behind 0 line ≡ word_of (word ++ rest) ∷ words_behind 0 rest = ap (words_behind 0) e ∙ (words-spaces white (word ++ rest) w ∙ words-first word pair rest is) in
     let t = takes-word word pair rest is in
     let others = sound rest pairs more in
     record {
-      pairs_are = ap (map pair_of) words
-          ∙ (ap (λ (p : NdbPair). p ∷ map pair_of (words_behind 0 rest)) (pair_eq (word_of (word ++ rest)) pair t.attr t.value) ∙ ap (λ (ps : List NdbPair). pair ∷ ps) others.pairs_are);
+      pairs_are = ap (map word_pair) words
+          ∙ (ap (λ (p : NdbPair). p ∷ map word_pair (words_behind 0 rest)) (pair_eq (word_of (word ++ rest)) pair t.attr t.value) ∙ ap (λ (ps : List NdbPair). pair ∷ ps) others.pairs_are);
       faultless = subst Faultless (sym words) (record {
         unclosed = or_false _ _ t.unclosed others.faultless.unclosed;
         nameless = or_false _ _ (ap is_empty t.attr ∙ named pair.attr is.attr) others.faultless.nameless;
@@ -231,7 +231,7 @@ sound line (pair ∷ pairs) (white, word, rest, e, w, is, more) =
 
 pub line_reads : (line : List ℕ) (pairs : List NdbPair) → ReadsLine line pairs → pairs_of line ≡ pairs
 line_reads line pairs r =
-    ap (λ (b : Bool). map pair_of (cond b [] (words_behind 0 line))) r.percent ∙ (sound line pairs r.words).pairs_are
+    ap (λ (b : Bool). map word_pair (cond b [] (words_behind 0 line))) r.percent ∙ (sound line pairs r.words).pairs_are
 
 -- a line reads in one way at most
 pub line_reads_once : (line : List ℕ) (ps qs : List NdbPair) → ReadsLine line ps → ReadsLine line qs → ps ≡ qs

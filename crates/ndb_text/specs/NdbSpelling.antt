@@ -3,7 +3,7 @@ use Rattle.std.specs.Prelude.{◌≡◌, ◌<◌, ◌⊎◌, ℕ, Bool, true, fa
 use Rattle.std.specs.List.{list_any}
 use Rattle.net_base.specs.Ndb.{NdbPair}
 use Rattle.net_base.specs.NdbText.{is_white, is_hash, is_percent, is_equals, is_quote, is_zero, begins}
-use Rattle.net_base.specs.NdbBundle.{File, local_name, chosen}
+use Rattle.net_base.specs.NdbBundle.{File, unnamed_file, chosen}
 
 -- no byte passes the test
 abbrev pub None_of : (ℕ → Bool) → List ℕ → Type 0
@@ -104,6 +104,6 @@ ReadsFiles lines file (next ∷ files) =
 pub record ReadsBundle (lines : List (List ℕ)) (tuples : List (List (List NdbPair))) : Type 0 where
   pub local : File
   pub files : List File
-  pub named : local.name ≡ local_name
+  pub named : local.name ≡ unnamed_file
   pub read : ReadsFiles lines local files
   pub are_chosen : tuples ≡ chosen local files

@@ -25,7 +25,7 @@ use Rattle.net_base.specs.IlEnd as end
 use Rattle.net_base.specs.IlEnd.{Early, End, Turn}
 use Rattle.net_base.specs.IlTable as table
 use Rattle.net_base.specs.Medium.{Medium}
-use Rattle.net_base.specs.Net.{Play, play, played, stepped_to}
+use Rattle.net_base.specs.Net.{WorkAt, play, played, stepped_to}
 use Rattle.net_base.specs.Number.{number}
 use Rattle.net_base.specs.Timer as timer
 use Rattle.net_base.specs.Timer.{Timer}
@@ -60,12 +60,12 @@ early_more None text e = omega arith
 early_more (Some k) text e =
     either (λ (x : End). end_size x ≤ end_size e + 1) (is_some (end.early_at k e.early) || nat_le 64 (end.backlog e)) e _ (omega arith) (omega arith)
 
-one_less : (k : ℕ) (xs : List Early) (text : List ℕ) → end.early_at k xs ≡ Some text → length (end.without k xs) + 1 ≡ length xs
+one_less : (k : ℕ) (xs : List Early) (text : List ℕ) → end.early_at k xs ≡ Some text → length (end.without_early k xs) + 1 ≡ length xs
 one_less k [] text is = absurd (none-some text is)
 one_less k (x ∷ xs) text is = at_head (one_less k xs text) (x.number == k) is
   where
-    at_head : (end.early_at k xs ≡ Some text → length (end.without k xs) + 1 ≡ length xs) → (b : Bool)
-        → (if b then Some x.text else end.early_at k xs) ≡ Some text → length (if b then xs else x ∷ end.without k xs) + 1 ≡ length (x ∷ xs)
+    at_head : (end.early_at k xs ≡ Some text → length (end.without_early k xs) + 1 ≡ length xs) → (b : Bool)
+        → (if b then Some x.text else end.early_at k xs) ≡ Some text → length (if b then xs else x ∷ end.without_early k xs) + 1 ≡ length (x ∷ xs)
     at_head rec true found = omega arith
     at_head rec false found = let r = rec found in omega (arith, r)
 
@@ -233,8 +233,8 @@ conv_grows slot now c e w s (row.ClosesUdp last k) = nothing (core_size c.core)
 conv_grows slot now c e w s (row.ArrivesIl {e = x} {m = m} k said) = il_grows c.core x _ k (arrived now m x)
 conv_grows slot now c e w s (row.ArrivesUdp k said takes) = nothing (core_size c.core)
 conv_grows slot now c e w s (row.ArrivesNot k said takes) = nothing (core_size c.core)
-conv_grows slot now c e w s (row.TicksIl {e = x} k) = il_grows c.core x _ k (ticked_to (timer.ticks now x.timer).says (timer.ticks now x.timer).timer x)
-conv_grows slot now c e w s (row.TicksEarly {e = x} k) = il_grows c.core x _ k (ticked_to (timer.ticks now x.timer).says (timer.ticks now x.timer).timer x)
+conv_grows slot now c e w s (row.TicksIl {e = x} k) = il_grows c.core x _ k (ticked_to (timer.timer_ticks now x.timer).says (timer.timer_ticks now x.timer).timer x)
+conv_grows slot now c e w s (row.TicksEarly {e = x} k) = il_grows c.core x _ k (ticked_to (timer.timer_ticks now x.timer).says (timer.timer_ticks now x.timer).timer x)
 conv_grows slot now c e w s _ = one_more (core_size c.core)
 
 -- Actors.
@@ -262,7 +262,7 @@ stepped : (s : Actor) (t : Option (Step Actor)) → IfSome t (λ (u : Step Actor
 stepped s None r = one_more (size_of s)
 stepped s (Some t) r = r
 
-all_raise : (w : World) (a : ActorName) (s : Actor) (ps : List Play) → size_of (played w a s ps) ≤ size_of s + length ps
+all_raise : (w : World) (a : ActorName) (s : Actor) (ps : List WorkAt) → size_of (played w a s ps) ≤ size_of s + length ps
 all_raise w a s [] = omega arith
 all_raise w a s (p ∷ ps) =
     let one = stepped s (actor_step w a s p.moment p.work) (raises w a s p.moment p.work) in
@@ -289,7 +289,7 @@ small_is (IsDesk d) few = tt
 small_is IsPlain few = tt
 
 -- what few works led to is small
-pub few_works : (w : World) (a : ActorName) (ps : List Play) → length ps < 2 ^ 30 → IsSmall (played w a (opening_actor w.timers a) ps)
+pub few_works : (w : World) (a : ActorName) (ps : List WorkAt) → length ps < 2 ^ 30 → IsSmall (played w a (opening_actor w.timers a) ps)
 few_works w a ps few =
     let raised = all_raise w a (opening_actor w.timers a) ps in
     let empty = opens_empty w.timers a in

@@ -5,7 +5,7 @@ use Rattle.net_base.specs.Ndb.{NdbPair}
 use Rattle.net_base.specs.declared.ndb.runs.Mark.{Mark}
 use Rattle.net_base.specs.Parts.{last_end, parts, Rise}
 use Rattle.net_base.specs.declared.ndb.runs.Runs.{Runs}
-use Rattle.net_base.specs.Store.{pair_of, marked, MarksRise, Grown, grown, with_pair, line_ended, tuple_ended, pairs_in, AreSound}
+use Rattle.net_base.specs.Store.{pair_with, marked, MarksRise, Grown, grown, with_pair, line_ended, tuple_ended, pairs_in, AreSound}
 use Rattle.net_base.proofs.Cuts.{rise-last, rise-more, rise-push, last-push, slice-rest, parts-more, parts-push, parts-length}
 use Rattle.net_base.proofs.Marks.{marked-length, marked-push, marks-push, mark_of}
 
@@ -67,16 +67,16 @@ pushed-sound old new attr value sound eb ep el et =
       tuples = subst (λ (ts : List ℕ). Rise 0 ts (length new.lines.items)) (sym et) (subst (λ (ls : List ℕ). Rise 0 old.tuples.items (length ls)) (sym el) sound.tuples);
     }
 
-pub pushed-shown : (old new : Runs) (attr value : List ℕ) → AreSound old → new.bytes.items ≡ old.bytes.items ++ (attr ++ value) → new.pairs.items ≡ old.pairs.items ++ mark_of (length old.bytes.items) attr value ∷ [] → new.lines.items ≡ old.lines.items → new.tuples.items ≡ old.tuples.items → grown new ≡ with_pair (pair_of attr value) (grown old)
+pub pushed-shown : (old new : Runs) (attr value : List ℕ) → AreSound old → new.bytes.items ≡ old.bytes.items ++ (attr ++ value) → new.pairs.items ≡ old.pairs.items ++ mark_of (length old.bytes.items) attr value ∷ [] → new.lines.items ≡ old.lines.items → new.tuples.items ≡ old.tuples.items → grown new ≡ with_pair (pair_with attr value) (grown old)
 pushed-shown old new attr value sound eb ep el et =
-    let pairs : marked 0 new.pairs.items new.bytes.items ≡ pairs_in old ++ pair_of attr value ∷ [] =
+    let pairs : marked 0 new.pairs.items new.bytes.items ≡ pairs_in old ++ pair_with attr value ∷ [] =
     ap (λ (ms : List Mark). marked 0 ms new.bytes.items) ep
     ∙ ap (marked 0 (old.pairs.items ++ mark_of (length old.bytes.items) attr value ∷ [])) eb
     ∙ marked-push 0 old.pairs.items old.bytes.items attr value sound.bytes in
     ap (λ (ls : List ℕ). shown ls new.tuples.items (pairs_in new)) el
     ∙ ap (λ (ts : List ℕ). shown old.lines.items ts (pairs_in new)) et
     ∙ ap (λ (ps : Pairs). shown old.lines.items old.tuples.items ps) pairs
-    ∙ pair-shown old.lines.items old.tuples.items (pairs_in old) (pair_of attr value) (rises-pairs old sound)
+    ∙ pair-shown old.lines.items old.tuples.items (pairs_in old) (pair_with attr value) (rises-pairs old sound)
 
 pub line-sound : (r : Runs) (lines : List ℕ) (place : ℕ) → AreSound r → place ≡ length r.pairs.items → lines ≡ r.lines.items ++ place ∷ [] → Rise 0 lines (length r.pairs.items) × Rise 0 r.tuples.items (length lines)
 line-sound r lines place sound ep el =

@@ -4,7 +4,7 @@ use Rattle.std.specs.Prelude.{zero, suc, slice_range}
 use Rattle.std.proofs.lemmas.List.{take_all, take_at, drop_at, drop-drop, length-append}
 use Rattle.net_base.specs.Ndb.{NdbPair}
 use Rattle.net_base.specs.declared.ndb.runs.Mark.{Mark}
-use Rattle.net_base.specs.Store.{pair_of, pair_between, marked, value_at, MarksRise}
+use Rattle.net_base.specs.Store.{pair_with, pair_between, marked, value_at, MarksRise}
 use Rattle.net_base.proofs.Cuts.{slice-more}
 
 pub marks-start : (start : ℕ) (marks : List Mark) (count : ℕ) → MarksRise start marks count → start ≤ count
@@ -30,18 +30,18 @@ value-is bytes attr value =
     (sym (drop-drop (length attr) (length bytes) (bytes ++ (attr ++ value))) ∙ ap (drop (length attr)) (drop_at bytes (attr ++ value) (length bytes) refl) ∙ drop_at attr value (length attr) refl)
     ∙ take_all (length bytes + length attr + length value - (length bytes + length attr)) value (omega arith)
 
-pair-is : (start : ℕ) (bytes attr value : List ℕ) → start ≡ length bytes → pair_between start (mark_of (length bytes) attr value) (bytes ++ (attr ++ value)) ≡ pair_of attr value
+pair-is : (start : ℕ) (bytes attr value : List ℕ) → start ≡ length bytes → pair_between start (mark_of (length bytes) attr value) (bytes ++ (attr ++ value)) ≡ pair_with attr value
 pair-is start bytes attr value e =
     ap (λ (n : ℕ). pair_between n (mark_of (length bytes) attr value) (bytes ++ (attr ++ value))) e
-    ∙ ap (λ (a : List ℕ). pair_of a (slice_range (bytes ++ (attr ++ value)) (length bytes + length attr) (length bytes + length attr + length value))) (attr-is bytes attr value)
-    ∙ ap (pair_of attr) (value-is bytes attr value)
+    ∙ ap (λ (a : List ℕ). pair_with a (slice_range (bytes ++ (attr ++ value)) (length bytes + length attr) (length bytes + length attr + length value))) (attr-is bytes attr value)
+    ∙ ap (pair_with attr) (value-is bytes attr value)
 
 pub pair-more : (start : ℕ) (mark : Mark) (bytes more : List ℕ) → start ≤ mark.attr → mark.attr ≤ mark.value → mark.value ≤ length bytes → pair_between start mark (bytes ++ more) ≡ pair_between start mark bytes
 pair-more start mark bytes more first second within =
-    ap (λ (a : List ℕ). pair_of a (slice_range (bytes ++ more) mark.attr mark.value)) (slice-more bytes more start mark.attr first (omega (arith, second, within)))
-    ∙ ap (pair_of (slice_range bytes start mark.attr)) (slice-more bytes more mark.attr mark.value second within)
+    ap (λ (a : List ℕ). pair_with a (slice_range (bytes ++ more) mark.attr mark.value)) (slice-more bytes more start mark.attr first (omega (arith, second, within)))
+    ∙ ap (pair_with (slice_range bytes start mark.attr)) (slice-more bytes more mark.attr mark.value second within)
 
-pub marked-push : (start : ℕ) (marks : List Mark) (bytes attr value : List ℕ) → MarksRise start marks (length bytes) → marked start (marks ++ mark_of (length bytes) attr value ∷ []) (bytes ++ (attr ++ value)) ≡ marked start marks bytes ++ pair_of attr value ∷ []
+pub marked-push : (start : ℕ) (marks : List Mark) (bytes attr value : List ℕ) → MarksRise start marks (length bytes) → marked start (marks ++ mark_of (length bytes) attr value ∷ []) (bytes ++ (attr ++ value)) ≡ marked start marks bytes ++ pair_with attr value ∷ []
 marked-push start [] bytes attr value rise = ap (λ (p : NdbPair). p ∷ []) (pair-is start bytes attr value rise)
 marked-push start (mark ∷ marks) bytes attr value rise =
     ap (λ (p : NdbPair). p ∷ marked mark.value (marks ++ mark_of (length bytes) attr value ∷ []) (bytes ++ (attr ++ value)))

@@ -11,7 +11,7 @@ use Rattle.net_base.specs.declared.names.FileName.{FileName}
 use Rattle.net_base.specs.declared.names.FileName.TheVariants as file
 use Rattle.net_base.specs.declared.names.Node.{Node}
 use Rattle.net_base.specs.declared.names.Node.TheVariants as node
-use Rattle.net_base.specs.Paths.{proto_name, file_name, path_of, in_range, Names, proto_named, file_named, node_of, is_named, checked, walk}
+use Rattle.net_base.specs.Paths.{proto_name, file_name, path_of, node_in_range, NamesNode, proto_named, file_named, node_of, is_named, checked_node, walk}
 use Rattle.net_base.proofs.Tests.{same_text}
 use Rattle.net_base.proofs.Texts.{IsWithout, decimal_without, decimal_without_letter, one_part, cut_at, value_of}
 
@@ -48,7 +48,7 @@ number_part n low = one_part 47 (decimal n) (decimal_without n 47 (omega (arith,
 file_parts : (n : ℕ) (f : FileName) → n < 32 → parts (decimal n ++ (47 ∷ file_name f)) ≡ decimal n ∷ file_name f ∷ []
 file_parts n f low = cut_at 47 (decimal n) (file_name f) _ (decimal_without n 47 (omega (arith, low)) (omega arith)) ((file_back f).1)
 
-node_back : (n : Node) → in_range n ≡ true → node_of (parts (path_of n)) ≡ Some n
+node_back : (n : Node) → node_in_range n ≡ true → node_of (parts (path_of n)) ≡ Some n
 node_back node.Root is = refl
 node_back node.Cs is = refl
 node_back (node.Proto proto.Il) is = refl
@@ -66,18 +66,18 @@ node_back (node.File proto.Udp n f) is =
     let nested : path_of (node.File proto.Udp n f) ≡ codes "/net/udp/" ++ (decimal n ++ (47 ∷ file_name f)) = simp append_assoc refl in
     subst (λ (path : List ℕ). node_of (parts path) ≡ Some (node.File proto.Udp n f)) (sym nested) (rw (file_parts n f low) (file_node_back proto.Udp n f low))
 
-named : (path : List ℕ) (n : Node) → Names path n → walk path ≡ Some n
+named : (path : List ℕ) (n : Node) → NamesNode path n → walk path ≡ Some n
 named path n (fits, is) = rw is (rw (node_back n fits) (rw fits (rw (same_text (path_of n)) refl)))
 
-checked_is : (path : List ℕ) (o : Option Node) (n : Node) → checked path o ≡ Some n → Names path n
+checked_is : (path : List ℕ) (o : Option Node) (n : Node) → checked_node path o ≡ Some n → NamesNode path n
 checked_is path None n is = absurd (none-some n is)
 checked_is path (Some m) n is = by (is_named path m) refl is
   where
-    by : (b : Bool) → is_named path m ≡ b → (if b then Some m else None) ≡ Some n → Names path n
+    by : (b : Bool) → is_named path m ≡ b → (if b then Some m else None) ≡ Some n → NamesNode path n
     by false no_name none = absurd (none-some n none)
     by true name some =
         let both = and_parts _ _ name in
-        subst (λ (k : Node). Names path k) (same_Some m n some) (both.0, (bytes_eq-Decides path (path_of m)).0 both.1)
+        subst (λ (k : Node). NamesNode path k) (same_Some m n some) (both.0, (bytes_eq-Decides path (path_of m)).0 both.1)
 
-pub walks_exactly : (path : List ℕ) (n : Node) → Names path n ↔ (walk path ≡ Some n)
+pub walks_exactly : (path : List ℕ) (n : Node) → NamesNode path n ↔ (walk path ≡ Some n)
 walks_exactly path n = (named path n, checked_is path (node_of (parts path)) n)

@@ -6,7 +6,7 @@ use Rattle.net_base.specs.Ndb.{NdbPair}
 use Rattle.net_base.specs.declared.ndb.runs.Mark.{Mark}
 use Rattle.net_base.specs.declared.ndb.runs.Runs.{Runs}
 use Rattle.net_base.specs.Parts.{start_at, last_end, lowered, parts, Rise}
-use Rattle.net_base.specs.Store.{pair_of, pair_between, mark_lowered, marks_lowered, marked, value_at, MarksRise, pairs_in, lines_in, tuples_in, AreSound, AreWhole}
+use Rattle.net_base.specs.Store.{pair_with, pair_between, mark_lowered, marks_lowered, marked, value_at, MarksRise, pairs_in, lines_in, tuples_in, AreSound, AreWhole}
 use Rattle.net_base.proofs.Cuts.{rise-start}
 use Rattle.net_base.proofs.Marks.{marks-start}
 
@@ -127,8 +127,8 @@ marked-dropped (suc n) start (mark ∷ marks) bytes = marked-dropped n mark.valu
 
 pair-lowered : (k start : ℕ) (mark : Mark) (bytes : List ℕ) → k ≤ start → start ≤ mark.attr → mark.attr ≤ mark.value → pair_between (start - k) (mark_lowered k mark) (drop k bytes) ≡ pair_between start mark bytes
 pair-lowered k start mark bytes le first second =
-    ap (λ (a : List ℕ). pair_of a (slice_range (drop k bytes) (mark.attr - k) (mark.value - k))) (slice-lowered bytes k start mark.attr le first)
-    ∙ ap (pair_of (slice_range bytes start mark.attr)) (slice-lowered bytes k mark.attr mark.value (omega (arith, le, first)) second)
+    ap (λ (a : List ℕ). pair_with a (slice_range (drop k bytes) (mark.attr - k) (mark.value - k))) (slice-lowered bytes k start mark.attr le first)
+    ∙ ap (pair_with (slice_range bytes start mark.attr)) (slice-lowered bytes k mark.attr mark.value (omega (arith, le, first)) second)
 
 marked-lowered : (k start : ℕ) (marks : List Mark) (bytes : List ℕ) (count : ℕ) → k ≤ start → MarksRise start marks count → marked (start - k) (marks_lowered k marks) (drop k bytes) ≡ marked start marks bytes
 marked-lowered k start [] bytes count le rise = refl

@@ -6,7 +6,7 @@ use Rattle.net_base.specs.Ndb.{NdbPair}
 use Rattle.net_base.specs.declared.ndb.spot.Spot.{Spot}
 use Rattle.net_base.specs.declared.ndb.runs.Runs.{Runs}
 use Rattle.net_base.specs.Parts.{last_end, start_at, parts, Rise}
-use Rattle.net_base.specs.Spots.{spot_at, lines_from, all_lines, spread, pair_spots, Owns}
+use Rattle.net_base.specs.Spots.{spot_at, line_spots, all_lines, spread, pair_spots, Owns}
 use Rattle.net_base.specs.Store.{pairs_in, lines_in, tuples_in, AreSound, AreWhole}
 use Rattle.net_base.proofs.Cuts.{rise-start, slice-length}
 use Rattle.net_base.proofs.Flat.{flat-all}
@@ -42,11 +42,11 @@ rise-from start (end ∷ ends) count (suc i) rise h = omega (arith, rise.0, rise
 
 -- Lines.
 
-pub lines-length : (tuple line : ℕ) (lines : List (List NdbPair)) → length (lines_from tuple line lines) ≡ length lines
+pub lines-length : (tuple line : ℕ) (lines : List (List NdbPair)) → length (line_spots tuple line lines) ≡ length lines
 lines-length tuple line [] = refl
 lines-length tuple line (pairs ∷ lines) = ap suc (lines-length tuple (line + 1) lines)
 
-line-at : (tuple line : ℕ) (lines : List (List NdbPair)) (i : ℕ) (d : Spot) → i < length lines → get_or (lines_from tuple line lines) i d ≡ spot_at tuple (line + i)
+line-at : (tuple line : ℕ) (lines : List (List NdbPair)) (i : ℕ) (d : Spot) → i < length lines → get_or (line_spots tuple line lines) i d ≡ spot_at tuple (line + i)
 line-at tuple line [] i d h = absurd (omega (arith, h))
 line-at tuple line (pairs ∷ lines) zero d h = let same : line ≡ line + 0 = omega arith in ap (spot_at tuple) same
 line-at tuple line (pairs ∷ lines) (suc i) d h =
@@ -62,7 +62,7 @@ line-placed number start (end ∷ ends) xs zero k d rise h from below =
     let within : k - start < length front = omega (arith, len, from, below) in
     let one : number ≡ number + 0 = omega arith in
     let none : 0 + (k - start) ≡ k - start = omega arith in
-    get_or_append_left (lines_from number 0 front) (all_lines (number + 1) (parts end ends xs)) d (k - start) (omega (arith, lines-length number 0 front, within))
+    get_or_append_left (line_spots number 0 front) (all_lines (number + 1) (parts end ends xs)) d (k - start) (omega (arith, lines-length number 0 front, within))
     ∙ line-at number 0 front (k - start) d within
     ∙ ap (spot_at number) none
     ∙ ap (λ (n : ℕ). spot_at n (k - start)) one
@@ -72,7 +72,7 @@ line-placed number start (end ∷ ends) xs (suc i) k d rise h from below =
     let le : end ≤ k = omega (arith, from, rise-from end ends (length xs) i rise.1 (omega (arith, h))) in
     let rest : k - start - (end - start) ≡ k - end = omega (arith, le, rise.0) in
     let up : number + 1 + i ≡ number + suc i = omega arith in
-    get_or-append_right (lines_from number 0 front) (all_lines (number + 1) (parts end ends xs)) (end - start) (k - start) d (lines-length number 0 front ∙ len) (omega (arith, le))
+    get_or-append_right (line_spots number 0 front) (all_lines (number + 1) (parts end ends xs)) (end - start) (k - start) d (lines-length number 0 front ∙ len) (omega (arith, le))
     ∙ ap (λ (j : ℕ). get_or (all_lines (number + 1) (parts end ends xs)) j d) rest
     ∙ line-placed (number + 1) end ends xs i k d rise.1 (omega (arith, h)) from below
     ∙ ap (λ (n : ℕ). spot_at n (k - start_at end ends i)) up
@@ -82,7 +82,7 @@ all_lines-length number start [] xs rise = omega arith
 all_lines-length number start (end ∷ ends) xs rise =
     omega (
       arith,
-      length-append (lines_from number 0 (slice_range xs start end)) (all_lines (number + 1) (parts end ends xs)),
+      length-append (line_spots number 0 (slice_range xs start end)) (all_lines (number + 1) (parts end ends xs)),
       lines-length number 0 (slice_range xs start end),
       slice-length xs start end rise.0 (rise-start end ends (length xs) rise.1),
       all_lines-length (number + 1) end ends xs rise.1,

@@ -43,9 +43,9 @@ abbrev pub wait : ℕ → List ℕ → Option Fid → Ask
 wait h called None = at_desk h (event.Use called)
 wait h called (Some f) = at_file h f (event.Await f.generation)
 
-abbrev pub read : ℕ → List ℕ → ℕ → Option Fid → Ask
-read h called count None = at_desk h (event.Use called)
-read h called count (Some f) = if paths.reads f.mode then at_file h f (steps.read_event f count f.file) else at_desk h (event.Misuse called)
+abbrev pub read_ask : ℕ → List ℕ → ℕ → Option Fid → Ask
+read_ask h called count None = at_desk h (event.Use called)
+read_ask h called count (Some f) = if paths.mode_reads f.mode then at_file h f (steps.read_event f count f.file) else at_desk h (event.Misuse called)
 
 -- the event of a control
 abbrev pub controlled : ℕ → Fid → Ctl → Ask
@@ -60,13 +60,13 @@ abbrev pub controls_by : ℕ → Fid → List ℕ → Result Ctl ℕ → Ask
 controls_by h f text (Ok word) = controlled h f word
 controls_by h f text (Err fault) = at_file h f (event.Ctl f.generation text)
 
-abbrev pub controls : ℕ → Fid → List ℕ → Ask
-controls h f text = controls_by h f text (control.read text)
+abbrev pub control_ask : ℕ → Fid → List ℕ → Ask
+control_ask h f text = controls_by h f text (control.read text)
 
-abbrev pub put : ℕ → Fid → List ℕ → FileName → Ask
-put h f text file.Data = at_file h f (event.Write f.generation text)
-put h f text _ = controls h f text
+abbrev pub put_ask : ℕ → Fid → List ℕ → FileName → Ask
+put_ask h f text file.Data = at_file h f (event.Write f.generation text)
+put_ask h f text _ = control_ask h f text
 
 abbrev pub write : ℕ → List ℕ → List ℕ → Option Fid → Ask
 write h called text None = at_desk h (event.Use called)
-write h called text (Some f) = if paths.writes f.mode then put h f text f.file else at_desk h (event.Misuse called)
+write h called text (Some f) = if paths.mode_writes f.mode then put_ask h f text f.file else at_desk h (event.Misuse called)

@@ -43,20 +43,20 @@ abbrev pub is_place : Addr → Bool
 is_place a = nat_lt a.ip (2 ^ 32) && is_port a.port
 
 -- the numbers of the control are in their ranges
-abbrev pub in_range : Ctl → Bool
-in_range (ctl.Connect remote None) = is_place remote
-in_range (ctl.Connect remote (Some port)) = is_place remote && is_port port
-in_range (ctl.Announce None None) = true
-in_range (ctl.Announce None (Some port)) = is_port port
-in_range (ctl.Announce (Some ip) (Some port)) = is_place (record { ip = ip; port = port })
-in_range (ctl.Announce (Some ip) None) = false
-in_range (ctl.Bind port) = is_port port
-in_range ctl.Hangup = true
-in_range (ctl.Ttl n) = nat_lt 0 n && nat_lt n 256
-in_range (ctl.Tos n) = nat_lt n 256
+abbrev pub control_in_range : Ctl → Bool
+control_in_range (ctl.Connect remote None) = is_place remote
+control_in_range (ctl.Connect remote (Some port)) = is_place remote && is_port port
+control_in_range (ctl.Announce None None) = true
+control_in_range (ctl.Announce None (Some port)) = is_port port
+control_in_range (ctl.Announce (Some ip) (Some port)) = is_place (record { ip = ip; port = port })
+control_in_range (ctl.Announce (Some ip) None) = false
+control_in_range (ctl.Bind port) = is_port port
+control_in_range ctl.Hangup = true
+control_in_range (ctl.Ttl n) = nat_lt 0 n && nat_lt n 256
+control_in_range (ctl.Tos n) = nat_lt n 256
 
 abbrev pub IsSpelled : Ctl → List ℕ → Type 0
-IsSpelled c text = (in_range c ≡ true) × ((text ≡ spelling c) ⊎ (short_spelling c ≡ Some text))
+IsSpelled c text = (control_in_range c ≡ true) × ((text ≡ spelling c) ⊎ (short_spelling c ≡ Some text))
 
 abbrev pub newline : ℕ
 newline = 10
@@ -75,8 +75,8 @@ abbrev pub first_word : List ℕ → List ℕ
 first_word text = before_first (λ b. (b == blank) || (b == newline)) text
 
 -- the six words
-abbrev pub is_word : List ℕ → Bool
-is_word word = list_any (bytes_eq word) (codes "connect" ∷ codes "announce" ∷ codes "bind" ∷ codes "hangup" ∷ codes "ttl" ∷ codes "tos" ∷ [])
+abbrev pub is_control_word : List ℕ → Bool
+is_control_word word = list_any (bytes_eq word) (codes "connect" ∷ codes "announce" ∷ codes "bind" ∷ codes "hangup" ∷ codes "ttl" ∷ codes "tos" ∷ [])
 
 -- the text without the newline at its end, if it has one
 abbrev pub without_newline : List ℕ → List ℕ
@@ -137,16 +137,16 @@ control_of (word ∷ arguments) =
 control_of [] = None
 
 abbrev pub is_spelled : Ctl → List ℕ → Bool
-is_spelled c line = in_range c && (bytes_eq line (spelling c) || option_map_or (λ (short : List ℕ). bytes_eq line short) (short_spelling c) false)
+is_spelled c line = control_in_range c && (bytes_eq line (spelling c) || option_map_or (λ (short : List ℕ). bytes_eq line short) (short_spelling c) false)
 
 -- the control, where it spells the line
-abbrev pub checked : List ℕ → Option Ctl → Option Ctl
-checked line None = None
-checked line (Some c) = if is_spelled c line then Some c else None
+abbrev pub checked_control : List ℕ → Option Ctl → Option Ctl
+checked_control line None = None
+checked_control line (Some c) = if is_spelled c line then Some c else None
 
 -- the control that a line says
 abbrev pub said : List ℕ → Option Ctl
-said line = checked line (control_of (slice_split (λ b. b == blank) line))
+said line = checked_control line (control_of (slice_split (λ b. b == blank) line))
 
 -- the fault of a text that has no reading
 abbrev pub bad_word : ℕ
@@ -157,4 +157,4 @@ bad_argument = 2
 
 -- the control that a text says, or the number of its fault
 abbrev pub read : List ℕ → Result Ctl ℕ
-read text = if is_word (first_word text) then ok_or (said (without_newline text)) bad_argument else Err bad_word
+read text = if is_control_word (first_word text) then ok_or (said (without_newline text)) bad_argument else Err bad_word

@@ -120,8 +120,8 @@ leaves before answer after emits =
     }
 
 -- nothing changes
-abbrev pub answers : Conv → Reply → Step Conv
-answers c answer = leaves c answer c None
+abbrev pub only_replies : Conv → Reply → Step Conv
+only_replies c answer = leaves c answer c None
 
 -- a packet from the conversation's local address to its remote one
 abbrev pub packet_of : Conv → Body → Packet
@@ -136,11 +136,11 @@ turned before answer turn after =
 
 -- an event of the conversation's own generation, where an older one is stale and a newer one waits
 abbrev pub in_generation : ℕ → Conv → Option (Step Conv) → Option (Step Conv)
-in_generation g c step = if g == c.generation then step else (if nat_lt g c.generation then Some (answers c reply.Stale) else None)
+in_generation g c step = if g == c.generation then step else (if nat_lt g c.generation then Some (only_replies c reply.Stale) else None)
 
 -- an event that raises the generation by one, where an older one is stale and all else waits
 abbrev pub raises : ℕ → Conv → Option (Step Conv) → Option (Step Conv)
-raises g c step = if g == c.generation + 1 then step else (if nat_lt g c.generation then Some (answers c reply.Stale) else None)
+raises g c step = if g == c.generation + 1 then step else (if nat_lt g c.generation then Some (only_replies c reply.Stale) else None)
 
 -- What is given.
 
@@ -187,7 +187,7 @@ joined Unused (Il e) now pair start limit c =
     turned c reply.Ok (connects now start e) (record c { pair = pair; limit = limit; stage = Connected })
 joined Unused (Udp e) now pair start limit c =
     leaves c reply.Ok (record c { pair = pair; limit = limit; stage = Connected; core = Udp (udp_connects e) }) None
-joined _ _ now pair start limit c = answers c reply.Ok
+joined _ _ now pair start limit c = only_replies c reply.Ok
 
 -- an end that listens
 abbrev pub core_announced : Core → Core
@@ -198,12 +198,12 @@ core_announced (Udp e) = Udp (udp_announced e)
 abbrev pub listens : Stage → ℕ → ℕ → Conv → Step Conv
 listens Unused ip port c =
     leaves c reply.Ok (record c { pair = record c.pair { local = record { ip = ip; port = port } }; stage = Listening; core = core_announced c.core }) None
-listens _ ip port c = answers c reply.Ok
+listens _ ip port c = only_replies c reply.Ok
 
 -- local shows the port
 abbrev pub binds : Stage → ℕ → Conv → Step Conv
 binds Unused port c = leaves c reply.Ok (record c { pair = record c.pair { local = record c.pair.local { port = port } } }) None
-binds _ port c = answers c reply.Ok
+binds _ port c = only_replies c reply.Ok
 
 -- Await.
 
@@ -217,14 +217,14 @@ il_awaited e = if is_closed e.state then hungup_or_ok e.cause else reply.Ok
 
 -- ready where not Syncer
 abbrev pub awaited : Core → Conv → Option (Step Conv)
-awaited (Il e) c = if may_go_on e.state then Some (answers c (il_awaited e)) else None
-awaited (Udp e) c = Some (answers c (hungup_or_ok (core_cause (Udp e))))
+awaited (Il e) c = if may_go_on e.state then Some (only_replies c (il_awaited e)) else None
+awaited (Udp e) c = Some (only_replies c (hungup_or_ok (core_cause (Udp e))))
 
 -- Files.
 
 -- one more open file, where one is open
 abbrev pub opened : ℕ → Conv → Step Conv
-opened zero c = answers c reply.NotOpen
+opened zero c = only_replies c reply.NotOpen
 opened (suc n) c = leaves c (reply.Opened c.generation) (record c { opens = suc n + 1 }) None
 
 -- a text with a newline after it
@@ -246,8 +246,8 @@ file_text _ slot c = []
 
 -- the names of the files, where one is open
 abbrev pub listed : ℕ → Conv → Step Conv
-listed zero c = answers c reply.NotOpen
-listed (suc n) c = answers c (reply.Names file_names)
+listed zero c = only_replies c reply.NotOpen
+listed (suc n) c = only_replies c (reply.Names file_names)
 
 -- Read: wrong where the conversation was never connected or born.
 
@@ -257,31 +257,31 @@ il_read count e c =
     if has_unread e
     then Some (leaves c (reply.Bytes (take count (first_unread e))) (record c { core = Il (reads count e) }) None)
     else (if e.closed_by_peer
-    then Some (answers c (reply.Bytes []))
-    else (if is_closed e.state then Some (answers c (reply.Hungup (cause_of e))) else None))
+    then Some (only_replies c (reply.Bytes []))
+    else (if is_closed e.state then Some (only_replies c (reply.Hungup (cause_of e))) else None))
 
 -- the first bytes of the first datagram; hungup where none is unread and the end is hung up
 abbrev pub udp_read : List (List ℕ) → ℕ → UdpEnd → Conv → Option (Step Conv)
 udp_read (text ∷ texts) count e c = Some (leaves c (reply.Bytes (take count text)) (record c { core = Udp (datagram_read e) }) None)
-udp_read [] count e c = if is_hung_up e.state then Some (answers c (reply.Hungup cause.Hungup)) else None
+udp_read [] count e c = if is_hung_up e.state then Some (only_replies c (reply.Hungup cause.Hungup)) else None
 
 abbrev pub read_at : Stage → Core → ℕ → Conv → Option (Step Conv)
 read_at Connected (Il e) count c = il_read count e c
 read_at Connected (Udp e) count c = udp_read e.unread count e c
-read_at _ core count c = Some (answers c (reply.WrongState (core_name core)))
+read_at _ core count c = Some (only_replies c (reply.WrongState (core_name core)))
 
 -- Write: wrong as for read.
 
 -- in Established the message is sent; in Closed and Closing hungup
 abbrev pub il_written : IlState → ℕ → List ℕ → End → Conv → Step Conv
 il_written state.Established now text e c = turned c (reply.Count (length text)) (writes now text e) c
-il_written _ now text e c = answers c (reply.Hungup (cause_of e))
+il_written _ now text e c = only_replies c (reply.Hungup (cause_of e))
 
 -- a datagram is sent; hungup in Closed
 abbrev pub udp_written : List ℕ → UdpEnd → Conv → Step Conv
 udp_written text e c =
     if is_closed_name (udp_state_name e.state)
-    then answers c (reply.Hungup cause.Hungup)
+    then only_replies c (reply.Hungup cause.Hungup)
     else leaves c (reply.Count (length text)) c (Some (packet_of c (body.Udp text)))
 
 -- an IL write is ready where the end is, a UDP write always
@@ -293,11 +293,11 @@ core_written (Udp e) now text c = Some (udp_written text e c)
 abbrev pub write_at : Stage → Core → ℕ → List ℕ → Conv → Option (Step Conv)
 write_at Connected core now text c =
     if length text == 0
-    then Some (answers c reply.ZeroWrite)
+    then Some (only_replies c reply.ZeroWrite)
     else (if nat_lt c.limit (length text)
-    then Some (answers c (reply.TooLong (length text) c.limit))
+    then Some (only_replies c (reply.TooLong (length text) c.limit))
     else core_written core now text c)
-write_at _ core now text c = Some (answers c (reply.WrongState (core_name core)))
+write_at _ core now text c = Some (only_replies c (reply.WrongState (core_name core)))
 
 -- Hangup and close.
 
@@ -313,7 +313,7 @@ hung_up (Udp e) now answer before after = leaves before answer (record after { c
 
 -- one open file fewer; the last one hangs up too
 abbrev pub closed : ℕ → ℕ → Conv → Step Conv
-closed zero now c = answers c reply.Ok
+closed zero now c = only_replies c reply.Ok
 closed (suc zero) now c = hung_up c.core now reply.Ok c (record c { opens = 0 })
 closed (suc (suc n)) now c = leaves c reply.Ok (record c { opens = suc n }) None
 
@@ -325,7 +325,7 @@ refused_control (Err n) = Some n
 
 -- stale in an older generation, whatever the text says
 abbrev pub bad_control : Option ℕ → ℕ → Conv → Option (Step Conv)
-bad_control fault g c = in_generation g c (option_map (λ (n : ℕ). answers c (reply.BadCtl n)) fault)
+bad_control fault g c = in_generation g c (option_map (λ (n : ℕ). only_replies c (reply.BadCtl n)) fault)
 
 -- Arrive and tick.
 
@@ -344,22 +344,22 @@ tick_reply tick.NotDue = reply.NotDue
 tick_reply _ = reply.Ticked
 
 abbrev pub ticked : Core → ℕ → Conv → Step Conv
-ticked (Il e) now c = turned c (tick_reply (timer.ticks now e.timer).says) (ticks now e) c
-ticked (Udp e) now c = answers c reply.NotDue
+ticked (Il e) now c = turned c (tick_reply (timer.timer_ticks now e.timer).says) (ticks now e) c
+ticked (Udp e) now c = only_replies c reply.NotDue
 
 -- the table of the conversation in a slot; none where no row answers
 abbrev pub conv_step : ℕ → Event → With → ℕ → Conv → Option (Step Conv)
 conv_step slot (event.Begin g) with now c = raises g c (Some (leaves c reply.Ok (begun g c) None))
 conv_step slot (event.Born g) (given.Birth p start limit) now c =
     when (may_bear c.core p.body && may_connect c.core start limit) (raises g c (brought_forth c.core now g start limit p p.body c))
-conv_step slot (event.Claim g) with now c = in_generation g c (Some (answers c reply.Ok))
+conv_step slot (event.Claim g) with now c = in_generation g c (Some (only_replies c reply.Ok))
 conv_step slot (event.Connect g) (given.Grant pair start limit) now c =
     when (may_connect c.core start limit) (in_generation g c (Some (joined c.stage c.core now pair start limit c)))
 conv_step slot (event.Announced g) (given.Key ip port) now c = in_generation g c (Some (listens c.stage ip port c))
 conv_step slot (event.Bound g) (given.Key ip port) now c = in_generation g c (Some (binds c.stage port c))
 conv_step slot (event.Await g) with now c = in_generation g c (awaited c.core c)
 conv_step slot (event.Open file mode) with now c = Some (opened c.opens c)
-conv_step slot (event.File g file count) with now c = in_generation g c (Some (answers c (reply.Bytes (take count (file_text file slot c)))))
+conv_step slot (event.File g file count) with now c = in_generation g c (Some (only_replies c (reply.Bytes (take count (file_text file slot c)))))
 conv_step slot (event.Read g count) with now c = when (nat_lt 0 count) (in_generation g c (read_at c.stage c.core count c))
 conv_step slot (event.Write g text) with now c = in_generation g c (write_at c.stage c.core now text c)
 conv_step slot (event.Hangup g) with now c = in_generation g c (Some (hung_up c.core now (left_or_ok (core_name c.core)) c c))

@@ -101,8 +101,8 @@ cs_line net address port =
     codes "/net/" ++ proto_name net ++ codes "/clone " ++ address ++ codes "!" ++ decimal port
 
 -- the lines of a net: for each address, each port
-abbrev pub lines_of : List (List (List NdbPair)) → List ℕ → List (List ℕ) → Proto → List (List ℕ)
-lines_of db service addresses net =
+abbrev pub address_lines : List (List (List NdbPair)) → List ℕ → List (List ℕ) → Proto → List (List ℕ)
+address_lines db service addresses net =
     flat_map (λ address. map (cs_line net address) (ports_of db service net)) addresses
 
 -- the answer, refused by this number where the list is empty
@@ -117,7 +117,7 @@ answer_query db me nets query =
     (refused_where_empty 5 (host_words db me query.host)
     (refused_where_empty 3 (address_texts db me query.host)
     (refused_where_empty 4 (flat_map (ports_of db query.service) (nets_of nets query.net))
-    (Lines (flat_map (lines_of db query.service (address_texts db me query.host))
+    (Lines (flat_map (address_lines db query.service (address_texts db me query.host))
     (nets_of nets query.net))))))
 
 -- the answer to what was read, or that it is no query (1)

@@ -214,8 +214,8 @@ abbrev pub is_keyed : Key → Slot → Bool
 is_keyed k s = is_announced s.kind && option_map_or (same_key k) s.key false
 
 -- the live slot is bound to the port
-abbrev pub is_bound : ℕ → Slot → Bool
-is_bound port s = not (is_free s) && same_option s.bound (Some port)
+abbrev pub is_slot_bound : ℕ → Slot → Bool
+is_slot_bound port s = not (is_free s) && same_option s.bound (Some port)
 
 -- the slot changes and the ports with it; taken where a slot has what it asks for
 abbrev pub gets : Option (ℕ × Slot) → ℕ → Slot → List ℕ → Dir → Step Dir
@@ -235,10 +235,10 @@ announces n ip port d s =
     else dir_answers (reply.WrongState s.kind) d
 
 -- a Reserved slot is bound to the port
-abbrev pub binds : ℕ → ℕ → Dir → Slot → Step Dir
-binds n port d s =
+abbrev pub slot_binds : ℕ → ℕ → Dir → Slot → Step Dir
+slot_binds n port d s =
     if is_reserved s.kind
-    then gets (first_slot (is_bound port) 0 d.slots) n (record s { bound = Some port }) (with_port port d.ports) d
+    then gets (first_slot (is_slot_bound port) 0 d.slots) n (record s { bound = Some port }) (with_port port d.ports) d
     else dir_answers (reply.WrongState s.kind) d
 
 -- Listen: the oldest call of an Announced slot, once there is one; nofile where the slot is Free.
@@ -253,9 +253,9 @@ listens_at name.Free n d s = Some (dir_answers reply.NoFile d)
 listens_at kind n d s = Some (dir_answers (reply.WrongState kind) d)
 
 -- none for a slot above 31
-abbrev pub listens : Option Slot → ℕ → Dir → Option (Step Dir)
-listens None n d = None
-listens (Some s) n d = listens_at s.kind n d s
+abbrev pub slot_listens : Option Slot → ℕ → Dir → Option (Step Dir)
+slot_listens None n d = None
+slot_listens (Some s) n d = listens_at s.kind n d s
 
 -- Withdraw and release: the waiting calls, oldest first.
 
@@ -295,9 +295,9 @@ match_of a slots =
     (or_else (first_slot (is_keyed (key_at ByPort a)) 0 slots) (first_slot (is_keyed (key_at ByAny a)) 0 slots))
 
 -- UDP, or an IL sync with ack 0
-abbrev pub may_bear : Body → Bool
-may_bear (body.Udp text) = true
-may_bear (body.Il m) = is_sync m.kind && (m.ack == 0)
+abbrev pub is_first_packet : Body → Bool
+is_first_packet (body.Udp text) = true
+is_first_packet (body.Il m) = is_sync m.kind && (m.ack == 0)
 
 -- who takes a packet that no slot has: a free slot becomes its own, and its call waits at the listener
 pub record Taker : Type 0 where
@@ -311,7 +311,7 @@ taker_of pair packet d =
     option_and_then (λ (free : ℕ × Slot). option_and_then (λ (listener : ℕ × Slot).
     if is_none (pair_place pair 1 d.pairs)
     && (not (same_pair pair (mirror pair))
-    && (may_bear packet.body
+    && (is_first_packet packet.body
     && nat_lt (length listener.1.calls) 10))
     then Some (record { free = free; listener = listener })
     else None)
@@ -362,8 +362,8 @@ abbrev pub is_live_with : Pair → Slot → Bool
 is_live_with pair s = not (is_free s) && option_map_or (same_pair pair) s.pair false
 
 -- the pair of a packet that comes is its destination and its source
-abbrev pub pair_of : Packet → Pair
-pair_of packet = record { local = packet.dst; remote = packet.src }
+abbrev pub packet_pair : Packet → Pair
+packet_pair packet = record { local = packet.dst; remote = packet.src }
 
 -- the packet is of the protocol
 abbrev pub is_of : Proto → Body → Bool
@@ -376,12 +376,12 @@ abbrev pub dir_step : World → ℕ → Proto → Event → With → Dir → Opt
 dir_step w h p event.Reserve with d = Some (reserves (first_slot is_free 0 d.slots) d)
 dir_step w h p (event.Grant n g remote port) with d = in_slot n g d (grants (home_at w h p) n remote port d)
 dir_step w h p (event.Announce n g ip port) with d = in_slot n g d (announces n ip port d)
-dir_step w h p (event.Bind n g port) with d = in_slot n g d (binds n port d)
-dir_step w h p (event.Listen n) with d = listens (slice_get d.slots n) n d
+dir_step w h p (event.Bind n g port) with d = in_slot n g d (slot_binds n port d)
+dir_step w h p (event.Listen n) with d = slot_listens (slice_get d.slots n) n d
 dir_step w h p (event.Withdraw n g) with d = in_slot n g d (withdraws n d)
 dir_step w h p (event.Release n g) with d = in_slot n g d (frees n d)
 dir_step w h p event.Arrive (given.Packet packet) d =
     when (is_of p packet.body)
-    (Some (arrives_at (first_slot (is_live_with (pair_of packet)) 0 d.slots) (home_at w h p) (pair_of packet) packet d))
+    (Some (arrives_at (first_slot (is_live_with (packet_pair packet)) 0 d.slots) (home_at w h p) (packet_pair packet) packet d))
 dir_step w h p event.Ls with d = Some (dir_answers (reply.Names (names (node.Proto p) (taken_from 0 d.slots))) d)
 dir_step w h p _ _ d = None

@@ -10,7 +10,7 @@ use Rattle.net_base.specs.Networks.{first_of}
 use Rattle.net_base.specs.Search.{all_beside, or_where_empty, tuples_with}
 use Rattle.net_base.specs.Bytes.{word_at}
 use Rattle.net_base.specs.declared.question.Question.{Question}
-use Rattle.net_base.specs.DomainNames.{name_in, spelling}
+use Rattle.net_base.specs.DomainNames.{name_in, bytes_of_name}
 use Rattle.net_base.specs.DomainQuestions.{question_of}
 
 -- ---- types of records
@@ -42,7 +42,7 @@ address_record owner ip = record_bytes owner host_address (bytes_high_first 4 ip
 
 -- a record of the question's name that tells a name, which has no pointers
 abbrev pub naming_record : ℕ → List ℕ → List ℕ
-naming_record kind name = record_bytes asked kind (spelling name)
+naming_record kind name = record_bytes asked kind (bytes_of_name name)
 
 -- ---- what the database says of a name
 
@@ -62,7 +62,7 @@ alias_of name db = first_of (names_beside (codes "dom") name (codes "cname") db)
 abbrev pub alias_records : List (List (List NdbPair)) → Option (List ℕ) → List (List ℕ)
 alias_records db None = []
 alias_records db (Some name) =
-    naming_record canonical_name name ∷ map (address_record (spelling name)) (addresses_named name db)
+    naming_record canonical_name name ∷ map (address_record (bytes_of_name name)) (addresses_named name db)
 
 -- a name's addresses, or else those of its alias
 abbrev pub address_records : List (List (List NdbPair)) → List ℕ → List (List ℕ)
@@ -88,18 +88,18 @@ reverse_of name = option_and_then where_address (turned_round (parts_at 46 name)
 -- ---- what is searched for, and what is found
 
 -- an attribute with a value
-pub record Key : Type 0 where
+pub record ZoneKey : Type 0 where
   pub attr : List ℕ
   pub value : List ℕ
 
-abbrev pub key_of : Question → Option Key
+abbrev pub key_of : Question → Option ZoneKey
 key_of q =
     if q.kind == domain_pointer
     then option_map (λ word. record { attr = codes "ip"; value = word }) (reverse_of q.name)
     else Some (record { attr = codes "dom"; value = q.name })
 
 -- no tuple has the pair
-abbrev pub is_unknown : List (List (List NdbPair)) → Option Key → Bool
+abbrev pub is_unknown : List (List (List NdbPair)) → Option ZoneKey → Bool
 is_unknown db None = true
 is_unknown db (Some key) = is_empty (tuples_with key.attr key.value db)
 
@@ -111,7 +111,7 @@ records_beside db kind attr value =
     else map (naming_record domain_pointer) (names_beside attr value (codes "dom") db))
 
 -- the records of a type beside a pair, where a tuple has it
-abbrev pub records_found : List (List (List NdbPair)) → ℕ → Option Key → List (List ℕ)
+abbrev pub records_found : List (List (List NdbPair)) → ℕ → Option ZoneKey → List (List ℕ)
 records_found db kind None = []
 records_found db kind (Some key) =
     if is_unknown db (Some key) then [] else records_beside db kind key.attr key.value
@@ -166,9 +166,9 @@ reply_of message q rcode records =
 abbrev pub format_reply : List ℕ → List ℕ
 format_reply message = header_bytes (word_at 0 message) 32769 0 0
 
-abbrev pub answer_read : List (List (List NdbPair)) → List ℕ → Option Question → List ℕ
-answer_read db message None = format_reply message
-answer_read db message (Some q) = reply_of message q (rcode_of db q) (records_of db q)
+abbrev pub answer_question : List (List (List NdbPair)) → List ℕ → Option Question → List ℕ
+answer_question db message None = format_reply message
+answer_question db message (Some q) = reply_of message q (rcode_of db q) (records_of db q)
 
 -- a message that is answered: it has a header, and is no response
 abbrev pub is_answered : List ℕ → Bool
@@ -176,4 +176,4 @@ is_answered message = nat_le 12 (length message) && nat_lt (word_at 2 message) 3
 
 -- what a message is answered
 abbrev pub dns_answer : List (List (List NdbPair)) → List ℕ → Option (List ℕ)
-dns_answer db message = if is_answered message then Some (answer_read db message (question_of message)) else None
+dns_answer db message = if is_answered message then Some (answer_question db message (question_of message)) else None

@@ -29,8 +29,8 @@ abbrev pub name_bytes : List (List ℕ) → List ℕ
 name_bytes labels = labels_bytes labels ++ 0 ∷ []
 
 -- a name has at most 255 bytes, lengths and the zero byte included
-abbrev pub is_name : List (List ℕ) → Bool
-is_name labels = list_all is_label labels && nat_le (length (name_bytes labels)) 255
+abbrev pub is_domain_name : List (List ℕ) → Bool
+is_domain_name labels = list_all is_label labels && nat_le (length (name_bytes labels)) 255
 
 abbrev pub lowered : List ℕ → List ℕ
 lowered text = map to_ascii_lowercase text
@@ -68,7 +68,7 @@ pub data Spells (message : List ℕ) : ℕ → List (List ℕ) → ℕ → Type 
 -- a name with this text stands from this place up to this end
 pub record ReadsName (message : List ℕ) (place : ℕ) (text : List ℕ) (end : ℕ) : Type 0 where
   pub labels : List (List ℕ)
-  pub name : is_name labels ≡ true
+  pub name : is_domain_name labels ≡ true
   pub spelled : Spells message place labels end
   pub told : text ≡ name_text labels
 
@@ -80,8 +80,8 @@ labels_of value = if is_empty value then [] else parts_at 46 value
 
 -- the name in lower case that a value is, where it is one
 abbrev pub name_in : List ℕ → Option (List ℕ)
-name_in value = if is_name (labels_of value) then Some (lowered value) else None
+name_in value = if is_domain_name (labels_of value) then Some (lowered value) else None
 
 -- the bytes of the name with this text
-abbrev pub spelling : List ℕ → List ℕ
-spelling text = name_bytes (labels_of text)
+abbrev pub bytes_of_name : List ℕ → List ℕ
+bytes_of_name text = name_bytes (labels_of text)

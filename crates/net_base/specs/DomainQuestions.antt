@@ -2,17 +2,17 @@
 use Rattle.std.specs.Prelude.{◌≡◌, ◌≤◌, ℕ, zero, suc, ◌+◌, ◌==◌, ◌&&◌, nat_le, List, [], ◌∷◌, length, take, drop, Option, Some, None, option_map, option_and_then, if◌then◌else◌}
 use Rattle.net_base.specs.Bytes.{word_at}
 use Rattle.net_base.specs.declared.question.Question.{Question}
-use Rattle.net_base.specs.DomainNames.{ReadsName, is_label, is_name, name_bytes, name_text}
+use Rattle.net_base.specs.DomainNames.{ReadsName, is_label, is_domain_name, name_bytes, name_text}
 
 -- ---- the grammar
 
 -- a message has a header
-abbrev pub HasHeader : List ℕ → Type 0
-HasHeader message = 12 ≤ length message
+abbrev pub HasDomainHeader : List ℕ → Type 0
+HasDomainHeader message = 12 ≤ length message
 
 -- a message asks one question, and this is it
 pub record ReadsQuestion (message : List ℕ) (q : Question) : Type 0 where
-  pub header : HasHeader message
+  pub header : HasDomainHeader message
   pub one : word_at 4 message ≡ 1
   pub id : q.id ≡ word_at 0 message
   pub flags : q.flags ≡ word_at 2 message
@@ -37,7 +37,7 @@ labels_in (suc most) (count ∷ bytes) =
 -- the labels of a name that bytes begin with: 255 bytes hold no more than 127
 abbrev pub name_at_front : List ℕ → Option (List (List ℕ))
 name_at_front bytes =
-    option_and_then (λ labels. if is_name labels then Some labels else None) (labels_in 128 bytes)
+    option_and_then (λ labels. if is_domain_name labels then Some labels else None) (labels_in 128 bytes)
 
 -- the question of this name, where its type and class are there; nothing stands before it to which a pointer may point
 abbrev pub question_named : List ℕ → List (List ℕ) → Option Question

@@ -31,15 +31,15 @@ pub record Duty : Type 0 where
   pub cites : ℕ
 
 -- the one duty of the entry s
-abbrev pub owes : ℕ → ActorName → Event → With → List Duty
-owes s a e given = record { actor = a; event = e; with = given; cites = s } ∷ []
+abbrev pub one_duty : ℕ → ActorName → Event → With → List Duty
+one_duty s a e given = record { actor = a; event = e; with = given; cites = s } ∷ []
 
 -- The put of a packet.
 
 -- at the medium that the way names; without a way the packet is dropped
 abbrev pub put_by : Option Way → ℕ → Packet → List Duty
 put_by None s p = []
-put_by (Some out) s p = owes s (name.Medium out.medium) (event.Put out.station) (given.Packet p)
+put_by (Some out) s p = one_duty s (name.Medium out.medium) (event.Put out.station) (given.Packet p)
 
 -- the put of the packet that the actor of a host emits
 abbrev pub emitted_put : World → ActorName → ℕ → Option Packet → List Duty
@@ -56,20 +56,20 @@ close_calls h p s calls =
 
 -- at the directory and at the conversations of a host
 abbrev pub follow_up : ActorName → ℕ → Event → With → Reply → List Duty
-follow_up (name.Dir h p) s event.Reserve with (reply.Slot n g) = owes s (name.Conv h p n) (event.Begin g) given.Nothing
+follow_up (name.Dir h p) s event.Reserve with (reply.Slot n g) = one_duty s (name.Conv h p n) (event.Begin g) given.Nothing
 follow_up (name.Dir h p) s (event.Grant n g remote port) with (reply.Granted pair start limit) =
-    owes s (name.Conv h p n) (event.Connect g) (given.Grant pair start limit)
+    one_duty s (name.Conv h p n) (event.Connect g) (given.Grant pair start limit)
 follow_up (name.Dir h p) s (event.Announce n g ip port) with reply.Ok =
-    owes s (name.Conv h p n) (event.Announced g) (given.Key (unwrap_or ip 0) (unwrap_or port 0))
-follow_up (name.Dir h p) s (event.Bind n g port) with reply.Ok = owes s (name.Conv h p n) (event.Bound g) (given.Key 0 port)
-follow_up (name.Dir h p) s (event.Listen n) with (reply.Call m g) = owes s (name.Conv h p m) (event.Claim g) given.Nothing
+    one_duty s (name.Conv h p n) (event.Announced g) (given.Key (unwrap_or ip 0) (unwrap_or port 0))
+follow_up (name.Dir h p) s (event.Bind n g port) with reply.Ok = one_duty s (name.Conv h p n) (event.Bound g) (given.Key 0 port)
+follow_up (name.Dir h p) s (event.Listen n) with (reply.Call m g) = one_duty s (name.Conv h p m) (event.Claim g) given.Nothing
 follow_up (name.Dir h p) s (event.Withdraw n g) with (reply.Calls calls) = close_calls h p s calls
 follow_up (name.Dir h p) s (event.Release n g) with (reply.Calls calls) = close_calls h p s calls
 follow_up (name.Dir h p) s event.Arrive (given.Packet packet) (reply.To n g) =
-    owes s (name.Conv h p n) (event.ArriveAt g) (given.Packet packet)
+    one_duty s (name.Conv h p n) (event.ArriveAt g) (given.Packet packet)
 follow_up (name.Dir h p) s event.Arrive (given.Packet packet) (reply.Born n g start limit) =
-    owes s (name.Conv h p n) (event.Born g) (given.Birth packet start limit)
-follow_up (name.Conv h p n) s (event.Hangup g) with reply.Left = owes s (name.Dir h p) (event.Withdraw n g) given.Nothing
+    one_duty s (name.Conv h p n) (event.Born g) (given.Birth packet start limit)
+follow_up (name.Conv h p n) s (event.Hangup g) with reply.Left = one_duty s (name.Dir h p) (event.Withdraw n g) given.Nothing
 follow_up _ s _ with _ = []
 
 -- the protocol of a packet
@@ -85,7 +85,7 @@ forwarded w to s p = if nat_lt 1 p.ttl then put_by (way w to p.dst.ip) s (record
 abbrev pub courier_duty : World → ActorName → ℕ → Option Taken → List Duty
 courier_duty w (name.Medium m) s (Some t) =
     if has_address w t.to t.packet.dst.ip
-    then owes s (name.Dir t.to (proto_of t.packet.body)) event.Arrive (given.Packet t.packet)
+    then one_duty s (name.Dir t.to (proto_of t.packet.body)) event.Arrive (given.Packet t.packet)
     else forwarded w t.to s t.packet
 courier_duty w _ s _ = []
 
@@ -118,17 +118,17 @@ conversations w = flat_map (λ (h : ℕ). slots_of h proto.Il ++ slots_of h prot
 -- the tick of a conversation whose due moment has come
 abbrev pub tick_at : (ActorName → Actor) → ℕ → ℕ → ActorName → List Duty
 tick_at actors s now a =
-    if has_come now (due_of (actors a)) then owes s a (event.Tick (generation_of (actors a))) given.Nothing else []
+    if has_come now (due_of (actors a)) then one_duty s a (event.Tick (generation_of (actors a))) given.Nothing else []
 
 -- a move owes a tick to each conversation whose due moment has come
-abbrev pub ticks : World → (ActorName → Actor) → ActorName → ℕ → Event → List Duty
-ticks w actors name.Clock s (event.Move now) = flat_map (tick_at actors s now) (conversations w)
-ticks w actors _ s _ = []
+abbrev pub owed_ticks : World → (ActorName → Actor) → ActorName → ℕ → Event → List Duty
+owed_ticks w actors name.Clock s (event.Move now) = flat_map (tick_at actors s now) (conversations w)
+owed_ticks w actors _ s _ = []
 
 -- The release of a conversation that ended.
 
 abbrev pub release : ActorName → ℕ → Actor → Bool → List Duty
-release (name.Conv h p n) s (IsConv c) true = owes s (name.Dir h p) (event.Release n c.generation) given.Nothing
+release (name.Conv h p n) s (IsConv c) true = one_duty s (name.Dir h p) (event.Release n c.generation) given.Nothing
 release _ s _ _ = []
 
 -- the duties of the entry s at an actor, by its work and its step, where the other actors stand as they do
@@ -137,5 +137,5 @@ duties w actors a s work step =
     emitted_put w a s step.outcome.emit
     ++ follow_up a s work.event work.with step.outcome.reply
     ++ courier_duty w a s step.outcome.taken
-    ++ ticks w actors a s work.event
+    ++ owed_ticks w actors a s work.event
     ++ release a s step.state step.outcome.ended

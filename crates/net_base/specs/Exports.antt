@@ -13,7 +13,7 @@ use Rattle.net_base.specs.NinepReading.{read_t}
 use Rattle.net_base.specs.Numeral.{numeral}
 use Rattle.net_base.specs.Server.{Doing, Does, Gives, Server}
 use Rattle.net_base.specs.Session.{State, first, serves_by}
-use Rattle.net_base.specs.SessionScript.{step_of}
+use Rattle.net_base.specs.SessionScript.{message_step}
 use Rattle.net_base.specs.SessionTable.{opening}
 use Rattle.net_base.specs.Steps.{Ask, Names, Play, Asks, Ends, bytes_in, fid_of, is_accepted, no_names, play_of, uses}
 
@@ -26,10 +26,10 @@ pub record Own : Type 0 where
 
 -- on the file that the name is bound to
 abbrev pub own_of : ℕ → List ℕ → Names → Own
-own_of h called names = record { reads = asked.read h called 8192 (fid_of called names); writes = λ (text : List ℕ). asked.write h called text (fid_of called names) }
+own_of h called names = record { reads = asked.read_ask h called 8192 (fid_of called names); writes = λ (text : List ℕ). asked.write h called text (fid_of called names) }
 
-abbrev pub asks : Ask → (Reply → Play) → Play
-asks ask next = Asks ask.actor ask.event next
+abbrev pub asks_on : Ask → (Reply → Play) → Play
+asks_on ask next = Asks ask.actor ask.event next
 
 -- a play, and then another by the names that are bound
 abbrev pub and_then : Play → (Names → Play) → Play
@@ -38,7 +38,7 @@ and_then (Asks a e next) go_on = Asks a e (λ (r : Reply). and_then (next r) go_
 
 -- the events of a request, and the play that goes on by its answer
 abbrev pub then_play : {S : Type 0} → Doing S → (List ℕ → S → Play) → Play
-then_play (Does ask next) go_on = asks ask (λ (r : Reply). then_play (next r) go_on)
+then_play (Does ask next) go_on = asks_on ask (λ (r : Reply). then_play (next r) go_on)
 then_play (Gives answer s) go_on = go_on answer s
 
 -- by a text that is there
@@ -50,9 +50,9 @@ by_text (b ∷ bs) none some = some (b ∷ bs)
 abbrev pub exports : {S : Type 0} → Server S (List ℕ) → Own → ℕ → S → Play
 exports {S} v own zero s = Ends (v.names s)
 exports {S} v own (suc n) s =
-    asks own.reads (λ (r : Reply). by_text (bytes_in r) (v.closes s) (λ (text : List ℕ).
+    asks_on own.reads (λ (r : Reply). by_text (bytes_in r) (v.closes s) (λ (text : List ℕ).
     then_play (v.serves s text) (λ (answer : List ℕ) (later : S).
-    asks (own.writes answer) (λ (written : Reply). if is_accepted written then exports v own n later else v.closes later))))
+    asks_on (own.writes answer) (λ (written : Reply). if is_accepted written then exports v own n later else v.closes later))))
 
 -- A caller records at most 131,072 entries, two or more for a request, so no history reaches the end of so many.
 unfoldable pub most_requests : ℕ
@@ -88,8 +88,8 @@ abbrev pub put_in : ℕ → List ℕ → List ℕ
 put_in n [] = n ∷ []
 put_in n (m ∷ ms) = if nat_le n m then n ∷ m ∷ ms else m ∷ put_in n ms
 
-abbrev pub without : ℕ → List ℕ → List ℕ
-without n ns = filter (λ (m : ℕ). not (m == n)) ns
+abbrev pub without_number : ℕ → List ℕ → List ℕ
+without_number n ns = filter (λ (m : ℕ). not (m == n)) ns
 
 -- the replies that open a file
 abbrev pub opens_file : Reply → Bool
@@ -106,8 +106,8 @@ pub record Sharing : Type 0 where
 -- a file is open for a fid from a Topen that opens it to its Tclunk, or Tremove, whatever these are replied
 abbrev pub open_by : List ℕ → Tmsg → Reply → List ℕ
 open_by opened (t.Open tag fid mode) x = if opens_file x then put_in fid opened else opened
-open_by opened (t.Clunk tag fid) x = without fid opened
-open_by opened (t.Remove tag fid) x = without fid opened
+open_by opened (t.Clunk tag fid) x = without_number fid opened
+open_by opened (t.Remove tag fid) x = without_number fid opened
 open_by opened _ x = opened
 
 -- by the last reply to the events of the message's step, if it has one
@@ -122,7 +122,7 @@ sharing opened m last (Gives answer s) = Gives answer (record { session = s; ope
 
 abbrev pub serves_text : ℕ → Sharing → Option Tmsg → Doing Sharing
 serves_text h s None = Gives bad_message s
-serves_text h s (Some m) = sharing s.opened m None (serves_by h s.session m (option_map dotted_step (step_of s.session.table m)))
+serves_text h s (Some m) = sharing s.opened m None (serves_by h s.session m (option_map dotted_step (message_step s.session.table m)))
 
 -- their files are closed one after another, whatever the replies
 abbrev pub closes_each : ℕ → List ℕ → Names → Play

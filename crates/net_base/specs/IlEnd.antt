@@ -116,11 +116,11 @@ retransmits e other =
 
 -- the timer starts
 abbrev pub starts : ℕ → End → End
-starts now e = record e { timer = timer.starts now e.timer }
+starts now e = record e { timer = timer.timer_starts now e.timer }
 
 -- a message was heard
 abbrev pub hears : ℕ → End → End
-hears now e = record e { timer = timer.hears now e.timer }
+hears now e = record e { timer = timer.timer_hears now e.timer }
 
 abbrev pub is_closing : IlState → Bool
 is_closing Closing = true
@@ -128,15 +128,15 @@ is_closing _ = false
 
 -- the message with this number was sent for the first time
 abbrev pub sends_number : ℕ → ℕ → End → End
-sends_number now k e = record e { timer = timer.sends now k e.timer }
+sends_number now k e = record e { timer = timer.timer_sends now k e.timer }
 
 -- the other end has acknowledged the messages up to k
 abbrev pub acks : ℕ → ℕ → End → End
-acks now k e = record e { acked = k; timer = timer.acks now k e.timer }
+acks now k e = record e { acked = k; timer = timer.timer_acks now k e.timer }
 
 -- the end waits anew, where it still waits
-abbrev pub moves : ℕ → End → End
-moves now e = record e { timer = timer.moves now (has_unacked e || is_closing e.state) e.timer }
+abbrev pub waits_anew : ℕ → End → End
+waits_anew now e = record e { timer = timer.timer_moves now (has_unacked e || is_closing e.state) e.timer }
 
 -- the end becomes Established, which stops the timer
 abbrev pub establishes : End → End
@@ -151,7 +151,7 @@ closes why e = record e { state = Closed; cause = why; timer = timer.stops e.tim
 -- the first k messages are acknowledged, where so many were sent: the round trip of the probe comes before the wait
 abbrev pub acked_to : ℕ → Option ℕ → End → End
 acked_to now None e = e
-acked_to now (Some k) e = if nat_le k (length e.sent) then moves now (acks now k e) else e
+acked_to now (Some k) e = if nat_le k (length e.sent) then waits_anew now (acks now k e) else e
 
 -- the end hears a message and takes its ack
 abbrev pub hears_ack : ℕ → IlMsg → End → End
@@ -165,9 +165,9 @@ early_at k [] = None
 early_at k (x ∷ xs) = if x.number == k then Some x.text else early_at k xs
 
 -- the early messages but the one with this number
-abbrev pub without : ℕ → List Early → List Early
-without k [] = []
-without k (x ∷ xs) = if x.number == k then xs else x ∷ without k xs
+abbrev pub without_early : ℕ → List Early → List Early
+without_early k [] = []
+without_early k (x ∷ xs) = if x.number == k then xs else x ∷ without_early k xs
 
 -- the message becomes early, where it isn't early yet and there is room
 abbrev pub becomes_early : Option ℕ → List ℕ → End → End
@@ -180,7 +180,7 @@ becomes_early (Some k) text e =
 -- the next message in sequence moves from early to the end of got
 abbrev pub comes_in_turn : Option (List ℕ) → End → End
 comes_in_turn None e = e
-comes_in_turn (Some text) e = record e { got = e.got ++ text ∷ []; early = without (length e.got + 1) e.early }
+comes_in_turn (Some text) e = record e { got = e.got ++ text ∷ []; early = without_early (length e.got + 1) e.early }
 
 -- so do those that follow, as far as they are early; at most n of them
 abbrev pub come_in_turn : ℕ → End → End

@@ -182,4 +182,4 @@ ticks_to tick.Again left e = asks_again e.state (record e { timer = left })
 
 -- a tick comes
 abbrev pub ticks : ℕ → End → Turn
-ticks now e = ticks_to (timer.ticks now e.timer).says (timer.ticks now e.timer).timer e
+ticks now e = ticks_to (timer.timer_ticks now e.timer).says (timer.timer_ticks now e.timer).timer e

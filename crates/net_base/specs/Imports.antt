@@ -9,7 +9,7 @@ use Rattle.net_base.specs.declared.ninep.Rmsg.{Rmsg}
 use Rattle.net_base.specs.declared.ninep.Tmsg.{Tmsg}
 use Rattle.net_base.specs.declared.ninep.Tmsg.TheVariants as t
 use Rattle.net_base.specs.declared.reply.Reply.{Reply}
-use Rattle.net_base.specs.Exports.{Own, asks, by_text, longest_exported, own_of}
+use Rattle.net_base.specs.Exports.{Own, asks_on, by_text, longest_exported, own_of}
 use Rattle.net_base.specs.NinepMessages.{r_qids, r_tag, r_type, t_bytes}
 use Rattle.net_base.specs.NinepReading.{read_r}
 use Rattle.net_base.specs.Remotes.{free_fid, is_remote_path, path_names, remote_of, with_remote}
@@ -47,38 +47,38 @@ clunk_message fid = t.Clunk 1 fid
 -- ---- replies
 
 -- the R-message of a type, with a tag
-abbrev pub is_answer : ℕ → ℕ → List ℕ → Bool
-is_answer kind tag text = option_map_or (λ (m : Rmsg). (r_type m == kind) && (r_tag m == tag)) (read_r text) false
+abbrev pub is_reply_of : ℕ → ℕ → List ℕ → Bool
+is_reply_of kind tag text = option_map_or (λ (m : Rmsg). (r_type m == kind) && (r_tag m == tag)) (read_r text) false
 
 -- how many names were walked
 abbrev pub walked_names : List ℕ → ℕ
 walked_names text = option_map_or (λ (m : Rmsg). length (r_qids m)) (read_r text) 0
 
 abbrev pub is_version : List ℕ → Bool
-is_version text = is_answer 101 65535 text
+is_version text = is_reply_of 101 65535 text
 
 -- all names of the path were walked
 abbrev pub is_whole : List ℕ → List ℕ → Bool
-is_whole path text = is_answer 111 1 text && nat_le (length (path_names path)) (walked_names text)
+is_whole path text = is_reply_of 111 1 text && nat_le (length (path_names path)) (walked_names text)
 
 abbrev pub is_open : List ℕ → Bool
-is_open text = is_answer 113 1 text
+is_open text = is_reply_of 113 1 text
 
 -- ---- plays
 
 -- a message goes out on the call's file, and a text comes in. A refused event and the end of file end the step
-abbrev pub sends : Own → Tmsg → Play → (List ℕ → Play) → Play
-sends own m refused next =
-    asks (own.writes (t_bytes m)) (λ (w : Reply).
-    if is_accepted w then asks own.reads (λ (r : Reply). by_text (bytes_in r) refused next) else refused)
+abbrev pub sends_message : Own → Tmsg → Play → (List ℕ → Play) → Play
+sends_message own m refused next =
+    asks_on (own.writes (t_bytes m)) (λ (w : Reply).
+    if is_accepted w then asks_on own.reads (λ (r : Reply). by_text (bytes_in r) refused next) else refused)
 
 -- a message goes out, and the text that comes in is tested
 abbrev pub sends_for : Own → Tmsg → (List ℕ → Bool) → Play → Play → Play → Play
-sends_for own m is_reply refused other next = sends own m refused (λ (text : List ℕ). if is_reply text then next else other)
+sends_for own m is_reply refused other next = sends_message own m refused (λ (text : List ℕ). if is_reply text then next else other)
 
 -- one message, after which the step is finished
 abbrev pub sends_once : Own → Tmsg → Play → Play
-sends_once own m ends = sends own m ends (λ (text : List ℕ). ends)
+sends_once own m ends = sends_message own m ends (λ (text : List ℕ). ends)
 
 -- version, and then attach
 abbrev pub imports : Own → Play → Play

@@ -21,7 +21,7 @@ use Rattle.net_base.specs.Calm.{movable_by, target_by, most_entries}
 use Rattle.net_base.specs.Duties.{Duty}
 use Rattle.net_base.specs.Headers.{header}
 use Rattle.net_base.specs.Net.{Net, after, outcome_in}
-use Rattle.net_base.specs.Next.{by, next, next_by}
+use Rattle.net_base.specs.Next.{by, next_recorded, next_by}
 use Rattle.net_base.specs.Steps.{Ask}
 use Rattle.net_base.specs.Tasks.{Tasks, nobody}
 
@@ -147,7 +147,7 @@ abbrev pub Keeps : Rule → World → List Entry → Net → Entry → Type 0
 Keeps Answers w past net x = Shows (outcome_in w net x) x
 Keeps AtMoment w past net x = x.moment ≡ net.moment
 Keeps Cites w past net x = x.cites ≡ cites_of (net.owed x.caller)
-Keeps Asked w past net x = IsAsked (net.owed x.caller) (caller_of w x.caller) (next w past x.caller) x
+Keeps Asked w past net x = IsAsked (net.owed x.caller) (caller_of w x.caller) (next_recorded w past x.caller) x
 Keeps Ready w past net x = IsSome (outcome_in w net x)
 Keeps InTime w past net x = IsInTime net w x.event
 Keeps Known w past net x = (has_actor w x.actor ≡ true) × (x.caller < caller_count w)

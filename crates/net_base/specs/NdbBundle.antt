@@ -4,17 +4,17 @@ use Rattle.std.specs.List.{list_any, filter, flat_map, find, before_first, after
 use Rattle.net_base.specs.Ndb.{NdbPair}
 use Rattle.net_base.specs.Networks.{tuple_names}
 use Rattle.net_base.specs.Search.{values_in}
-use Rattle.net_base.specs.NdbText.{is_white, is_percent, is_zero, begins, begins_with, is_empty, lines_of, Word, words_of, starts, goes_on, tuples_of}
+use Rattle.net_base.specs.NdbText.{is_white, is_percent, is_zero, begins, begins_with, is_empty, lines_of, Word, words_of, starts_tuple, goes_on, tuples_of}
 
 -- Files.
 
 -- what stands behind `%file ` on a line
-abbrev pub file_name : List ℕ → List ℕ
-file_name line = drop 6 line
+abbrev pub bundle_file : List ℕ → List ℕ
+bundle_file line = drop 6 line
 
 -- `%file NAME` begins a file: one blank, and one word without white space
 abbrev pub is_file_line : List ℕ → Bool
-is_file_line line = begins_with (codes "%file ") line && (not (is_empty (file_name line)) && not (list_any is_white (file_name line)))
+is_file_line line = begins_with (codes "%file ") line && (not (is_empty (bundle_file line)) && not (list_any is_white (bundle_file line)))
 
 -- a file of a bundle, with its tuples
 pub record File : Type 0 where
@@ -22,8 +22,8 @@ pub record File : Type 0 where
   pub tuples : List (List (List NdbPair))
 
 -- the name of the file that stands before the first `%file NAME` line
-abbrev pub local_name : List ℕ
-local_name = codes "/lib/ndb/local"
+abbrev pub unnamed_file : List ℕ
+unnamed_file = codes "/lib/ndb/local"
 
 -- the file with this name that begins these lines: it goes on to the next `%file NAME` line
 abbrev pub file_of : List ℕ → List (List ℕ) → File
@@ -31,19 +31,19 @@ file_of name lines = record { name = name; tuples = tuples_of (before_first is_f
 
 -- the file that stands before the first `%file NAME` line
 abbrev pub local_file : List (List ℕ) → File
-local_file lines = file_of local_name lines
+local_file lines = file_of unnamed_file lines
 
 -- the files that `%file NAME` lines begin
 abbrev pub named_files : List (List ℕ) → List File
 named_files [] = []
 named_files (line ∷ lines) =
-    if is_file_line line then file_of (file_name line) lines ∷ named_files lines else named_files lines
+    if is_file_line line then file_of (bundle_file line) lines ∷ named_files lines else named_files lines
 
 -- Bad lines.
 
 -- whether a file whose lines so far are the last of these has a tuple
 abbrev pub has_tuple : List (List ℕ) → Bool
-has_tuple before = list_any starts (after_last is_file_line before)
+has_tuple before = list_any starts_tuple (after_last is_file_line before)
 
 -- a word begins with `=`
 abbrev pub is_nameless : Word → Bool
@@ -66,20 +66,20 @@ causes_of has line =
     ++ cause 6 (begins is_percent line && not (is_file_line line))))))
 
 -- the least of causes in rising order
-abbrev pub least : List ℕ → Option ℕ
-least [] = None
-least (c ∷ causes) = Some c
+abbrev pub least_of_causes : List ℕ → Option ℕ
+least_of_causes [] = None
+least_of_causes (c ∷ causes) = Some c
 
 -- the line with this number, where it has a least cause, else what is told of the lines behind it
-abbrev pub told : ℕ → Option ℕ → Option (ℕ × ℕ) → Option (ℕ × ℕ)
-told number None behind = behind
-told number (Some c) behind = Some (number, c)
+abbrev pub told_line : ℕ → Option ℕ → Option (ℕ × ℕ) → Option (ℕ × ℕ)
+told_line number None behind = behind
+told_line number (Some c) behind = Some (number, c)
 
 -- the first line with a cause, by its number from 1, and its least cause, among the lines that come after these
 abbrev pub first_bad : (Bool → List ℕ → List ℕ) → List (List ℕ) → List (List ℕ) → Option (ℕ × ℕ)
 first_bad causes before [] = None
 first_bad causes before (line ∷ lines) =
-    told (length before + 1) (least (causes (has_tuple before) line)) (first_bad causes (before ++ line ∷ []) lines)
+    told_line (length before + 1) (least_of_causes (causes (has_tuple before) line)) (first_bad causes (before ++ line ∷ []) lines)
 
 -- the first bad line of a text and its least cause
 abbrev pub bad_line : List ℕ → Option (ℕ × ℕ)

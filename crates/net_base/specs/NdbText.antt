@@ -114,18 +114,18 @@ abbrev pub plain_words_of : List ℕ → List Word
 plain_words_of line = if begins is_percent line then [] else map plain_word (runs_of line)
 
 -- the attribute of a word with its value
-abbrev pub pair_of : Word → NdbPair
-pair_of word = record { attr = word.attr; value = word.value }
+abbrev pub word_pair : Word → NdbPair
+word_pair word = record { attr = word.attr; value = word.value }
 
 -- the pairs of a line, in order
 abbrev pub pairs_of : List ℕ → List NdbPair
-pairs_of line = map pair_of (words_of line)
+pairs_of line = map word_pair (words_of line)
 
 -- Tuples.
 
 -- a line with words that begins without white space starts a tuple
-abbrev pub starts : List ℕ → Bool
-starts line = not (is_empty (words_of line)) && not (begins is_white line)
+abbrev pub starts_tuple : List ℕ → Bool
+starts_tuple line = not (is_empty (words_of line)) && not (begins is_white line)
 
 -- a line with words that begins with white space goes on with the tuple
 abbrev pub goes_on : List ℕ → Bool
@@ -135,10 +135,10 @@ goes_on line = not (is_empty (words_of line)) && begins is_white line
 abbrev pub going_on : List (List ℕ) → List (List NdbPair)
 going_on [] = []
 going_on (line ∷ lines) =
-    if starts line then [] else (if goes_on line then pairs_of line ∷ going_on lines else going_on lines)
+    if starts_tuple line then [] else (if goes_on line then pairs_of line ∷ going_on lines else going_on lines)
 
 -- the tuples of a file's lines, in order
 abbrev pub tuples_of : List (List ℕ) → List (List (List NdbPair))
 tuples_of [] = []
 tuples_of (line ∷ lines) =
-    if starts line then (pairs_of line ∷ going_on lines) ∷ tuples_of lines else tuples_of lines
+    if starts_tuple line then (pairs_of line ∷ going_on lines) ∷ tuples_of lines else tuples_of lines

@@ -98,11 +98,11 @@ outcome w past x = outcome_in w (after w past) x
 -- The fold of one actor.
 
 -- a work with its moment
-pub record Play : Type 0 where
+pub record WorkAt : Type 0 where
   pub moment : ℕ
   pub work : Work
 
-abbrev pub works_from : World → ActorName → Net → List Entry → List Play
+abbrev pub works_from : World → ActorName → Net → List Entry → List WorkAt
 works_from w a net [] = []
 works_from w a net (x ∷ xs) =
     if same_actor x.actor a
@@ -110,7 +110,7 @@ works_from w a net (x ∷ xs) =
     else works_from w a (next_net w net x) xs
 
 -- the works of an actor's entries, with their moments
-abbrev pub works : World → List Entry → ActorName → List Play
+abbrev pub works : World → List Entry → ActorName → List WorkAt
 works w h a = works_from w a (opening_net w) h
 
 -- a work that isn't ready changes nothing
@@ -118,10 +118,10 @@ abbrev pub stepped_to : Actor → Option (Step Actor) → Actor
 stepped_to s None = s
 stepped_to s (Some t) = t.state
 
-abbrev pub play : World → ActorName → Actor → Play → Actor
+abbrev pub play : World → ActorName → Actor → WorkAt → Actor
 play w a s p = stepped_to s (actor_step w a s p.moment p.work)
 
 -- the fold of an actor's own step over these works
-abbrev pub played : World → ActorName → Actor → List Play → Actor
+abbrev pub played : World → ActorName → Actor → List WorkAt → Actor
 played w a s [] = s
 played w a s (p ∷ ps) = played w a (play w a s p) ps

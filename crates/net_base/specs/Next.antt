@@ -58,8 +58,8 @@ next_by ts w h c = next_of_by ts w (caller_of w c) h c
 abbrev pub next_of : World → Caller → List Entry → ℕ → Option Ask
 next_of w k h c = next_of_by nobody w k h c
 
-abbrev pub next : World → List Entry → ℕ → Option Ask
-next w h c = next_by nobody w h c
+abbrev pub next_recorded : World → List Entry → ℕ → Option Ask
+next_recorded w h c = next_by nobody w h c
 
 -- how many steps of a script are finished after these replies, where `dns` answers from this database
 abbrev pub finished_by : Tuples → List Reply → Script → ℕ

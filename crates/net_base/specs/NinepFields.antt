@@ -7,12 +7,12 @@ use Rattle.net_base.specs.declared.ninep.Qid.{Qid}
 -- ---- spelling
 
 -- a number in so many bytes
-abbrev pub number : ℕ → ℕ → List ℕ
-number k n = little_bytes k n
+abbrev pub number_bytes : ℕ → ℕ → List ℕ
+number_bytes k n = little_bytes k n
 
 -- bytes after how many they are, which is a number of so many bytes
 abbrev pub counted : ℕ → List ℕ → List ℕ
-counted k bytes = number k (length bytes) ++ bytes
+counted k bytes = number_bytes k (length bytes) ++ bytes
 
 -- a text: its bytes after their number in two. The data of a read or a write stand after theirs in four
 abbrev pub string : List ℕ → List ℕ
@@ -20,11 +20,11 @@ string text = counted 2 text
 
 -- what a file is to its server: its type, its version and its path
 abbrev pub qid : Qid → List ℕ
-qid q = number 1 q.kind ++ (number 4 q.version ++ number 8 q.path)
+qid q = number_bytes 1 q.kind ++ (number_bytes 4 q.version ++ number_bytes 8 q.path)
 
 -- values after how many they are, which is a number of two bytes
 abbrev pub many : {A : Type 0} → (A → List ℕ) → List A → List ℕ
-many one xs = number 2 (length xs) ++ flat_map one xs
+many one xs = number_bytes 2 (length xs) ++ flat_map one xs
 
 -- ---- what has a spelling
 

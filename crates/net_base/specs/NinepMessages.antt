@@ -5,7 +5,7 @@ use Rattle.net_base.specs.declared.ninep.Tmsg.TheVariants as t
 use Rattle.net_base.specs.declared.ninep.Rmsg.{Rmsg}
 use Rattle.net_base.specs.declared.ninep.Rmsg.TheVariants as r
 use Rattle.net_base.specs.declared.ninep.Qid.{Qid}
-use Rattle.net_base.specs.NinepFields.{number, counted, string, qid, many, Holds, Counts, IsQid, AreFew}
+use Rattle.net_base.specs.NinepFields.{number_bytes, counted, string, qid, many, Holds, Counts, IsQid, AreFew}
 
 -- no message of this network is longer
 abbrev pub longest : ℕ
@@ -13,7 +13,7 @@ longest = 8216
 
 -- a message with this type, this tag and these fields; its size counts its own four bytes
 abbrev pub framed : ℕ → ℕ → List ℕ → List ℕ
-framed kind tag fields = number 4 (7 + length fields) ++ (number 1 kind ++ (number 2 tag ++ fields))
+framed kind tag fields = number_bytes 4 (7 + length fields) ++ (number_bytes 1 kind ++ (number_bytes 2 tag ++ fields))
 
 -- ---- T-messages: what a client asks
 
@@ -49,19 +49,19 @@ t_tag (t.Wstat tag fid stat) = tag
 
 -- the fields behind the tag, in their order
 abbrev pub t_fields : Tmsg → List ℕ
-t_fields (t.Version tag msize version) = number 4 msize ++ string version
-t_fields (t.Auth tag afid uname aname) = number 4 afid ++ (string uname ++ string aname)
-t_fields (t.Attach tag fid afid uname aname) = number 4 fid ++ (number 4 afid ++ (string uname ++ string aname))
-t_fields (t.Flush tag oldtag) = number 2 oldtag
-t_fields (t.Walk tag fid newfid names) = number 4 fid ++ (number 4 newfid ++ many string names)
-t_fields (t.Open tag fid mode) = number 4 fid ++ number 1 mode
-t_fields (t.Create tag fid name perm mode) = number 4 fid ++ (string name ++ (number 4 perm ++ number 1 mode))
-t_fields (t.Read tag fid offset count) = number 4 fid ++ (number 8 offset ++ number 4 count)
-t_fields (t.Write tag fid offset bytes) = number 4 fid ++ (number 8 offset ++ counted 4 bytes)
-t_fields (t.Clunk tag fid) = number 4 fid
-t_fields (t.Remove tag fid) = number 4 fid
-t_fields (t.Stat tag fid) = number 4 fid
-t_fields (t.Wstat tag fid stat) = number 4 fid ++ string stat
+t_fields (t.Version tag msize version) = number_bytes 4 msize ++ string version
+t_fields (t.Auth tag afid uname aname) = number_bytes 4 afid ++ (string uname ++ string aname)
+t_fields (t.Attach tag fid afid uname aname) = number_bytes 4 fid ++ (number_bytes 4 afid ++ (string uname ++ string aname))
+t_fields (t.Flush tag oldtag) = number_bytes 2 oldtag
+t_fields (t.Walk tag fid newfid names) = number_bytes 4 fid ++ (number_bytes 4 newfid ++ many string names)
+t_fields (t.Open tag fid mode) = number_bytes 4 fid ++ number_bytes 1 mode
+t_fields (t.Create tag fid name perm mode) = number_bytes 4 fid ++ (string name ++ (number_bytes 4 perm ++ number_bytes 1 mode))
+t_fields (t.Read tag fid offset count) = number_bytes 4 fid ++ (number_bytes 8 offset ++ number_bytes 4 count)
+t_fields (t.Write tag fid offset bytes) = number_bytes 4 fid ++ (number_bytes 8 offset ++ counted 4 bytes)
+t_fields (t.Clunk tag fid) = number_bytes 4 fid
+t_fields (t.Remove tag fid) = number_bytes 4 fid
+t_fields (t.Stat tag fid) = number_bytes 4 fid
+t_fields (t.Wstat tag fid stat) = number_bytes 4 fid ++ string stat
 
 -- its fields hold what they should
 abbrev pub IsTmsg : Tmsg → Type 0
@@ -130,16 +130,16 @@ r_tag (r.Stat tag stat) = tag
 r_tag (r.Wstat tag) = tag
 
 abbrev pub r_fields : Rmsg → List ℕ
-r_fields (r.Version tag msize version) = number 4 msize ++ string version
+r_fields (r.Version tag msize version) = number_bytes 4 msize ++ string version
 r_fields (r.Auth tag aqid) = qid aqid
 r_fields (r.Attach tag q) = qid q
 r_fields (r.Error tag ename) = string ename
 r_fields (r.Flush tag) = []
 r_fields (r.Walk tag qids) = many qid qids
-r_fields (r.Open tag q iounit) = qid q ++ number 4 iounit
-r_fields (r.Create tag q iounit) = qid q ++ number 4 iounit
+r_fields (r.Open tag q iounit) = qid q ++ number_bytes 4 iounit
+r_fields (r.Create tag q iounit) = qid q ++ number_bytes 4 iounit
 r_fields (r.Read tag bytes) = counted 4 bytes
-r_fields (r.Write tag count) = number 4 count
+r_fields (r.Write tag count) = number_bytes 4 count
 r_fields (r.Clunk tag) = []
 r_fields (r.Remove tag) = []
 r_fields (r.Stat tag stat) = string stat

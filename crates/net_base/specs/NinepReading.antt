@@ -44,11 +44,11 @@ bytes_at n bytes = if nat_lt (length bytes) n then None else Some (take n bytes,
 unfoldable pub counted_at : ℕ → List ℕ → Option (List ℕ × List ℕ)
 counted_at k bytes = number_at k bytes >>= (λ n. bytes_at n.0 n.1)
 
-abbrev pub qid_of : ℕ × (ℕ × ℕ) → Qid
-qid_of q = record { kind = q.0; version = q.1.0; path = q.1.1 }
+abbrev pub qid_from : ℕ × (ℕ × ℕ) → Qid
+qid_from q = record { kind = q.0; version = q.1.0; path = q.1.1 }
 
 unfoldable pub qid_at : List ℕ → Option (Qid × List ℕ)
-qid_at bytes = making (both (number_at 1) (both (number_at 4) (number_at 8))) qid_of bytes
+qid_at bytes = making (both (number_at 1) (both (number_at 4) (number_at 8))) qid_from bytes
 
 unfoldable pub list_at : {A : Type 0} → Reader A → ℕ → List ℕ → Option (List A × List ℕ)
 list_at one zero bytes = Some ([], bytes)

@@ -37,14 +37,14 @@ path_of (node.Dir p n) = codes "/net/" ++ proto_name p ++ codes "/" ++ decimal n
 path_of (node.File p n f) = codes "/net/" ++ proto_name p ++ codes "/" ++ decimal n ++ codes "/" ++ file_name f
 
 -- slots are 0 to 31
-abbrev pub in_range : Node → Bool
-in_range (node.Dir p n) = nat_lt n 32
-in_range (node.File p n f) = nat_lt n 32
-in_range _ = true
+abbrev pub node_in_range : Node → Bool
+node_in_range (node.Dir p n) = nat_lt n 32
+node_in_range (node.File p n f) = nat_lt n 32
+node_in_range _ = true
 
 -- the path names the node
-abbrev pub Names : List ℕ → Node → Type 0
-Names path n = (in_range n ≡ true) × (path ≡ path_of n)
+abbrev pub NamesNode : List ℕ → Node → Type 0
+NamesNode path n = (node_in_range n ≡ true) × (path ≡ path_of n)
 
 -- The reading.
 
@@ -74,28 +74,28 @@ node_of (root ∷ net ∷ p ∷ n ∷ f ∷ []) =
 node_of _ = None
 
 abbrev pub is_named : List ℕ → Node → Bool
-is_named path n = in_range n && bytes_eq path (path_of n)
+is_named path n = node_in_range n && bytes_eq path (path_of n)
 
 -- the node, where the path names it
-abbrev pub checked : List ℕ → Option Node → Option Node
-checked path None = None
-checked path (Some n) = if is_named path n then Some n else None
+abbrev pub checked_node : List ℕ → Option Node → Option Node
+checked_node path None = None
+checked_node path (Some n) = if is_named path n then Some n else None
 
 -- the node that a path names
 abbrev pub walk : List ℕ → Option Node
-walk path = checked path (node_of (slice_split (λ b. b == 47) path))
+walk path = checked_node path (node_of (slice_split (λ b. b == 47) path))
 
 -- Modes and names.
 
-abbrev pub writes : Mode → Bool
-writes mode.Read = false
-writes mode.Write = true
-writes mode.Both = true
+abbrev pub mode_writes : Mode → Bool
+mode_writes mode.Read = false
+mode_writes mode.Write = true
+mode_writes mode.Both = true
 
-abbrev pub reads : Mode → Bool
-reads mode.Read = true
-reads mode.Write = false
-reads mode.Both = true
+abbrev pub mode_reads : Mode → Bool
+mode_reads mode.Read = true
+mode_reads mode.Write = false
+mode_reads mode.Both = true
 
 -- err, local, remote and status are read alone
 abbrev pub is_read_alone : FileName → Bool
@@ -113,7 +113,7 @@ may_open node.Cs m = false
 may_open (node.Proto p) m = false
 may_open (node.Clone p) m = true
 may_open (node.Dir p n) m = false
-may_open (node.File p n f) m = if is_read_alone f then not (writes m) else true
+may_open (node.File p n f) m = if is_read_alone f then not (mode_writes m) else true
 
 -- the names of the files of a conversation
 abbrev pub file_names : List (List ℕ)

@@ -7,7 +7,7 @@ use Rattle.net_base.specs.declared.request.Request.{Request}
 use Rattle.net_base.specs.declared.request.Request.TheVariants as request
 use Rattle.net_base.specs.declared.world.Step.TheVariants as step
 use Rattle.net_base.specs.Paths.{walk}
-use Rattle.net_base.specs.Steps.{Ask, Names, Fid, Play, Asks, Ends, is_bound, bind, unbind, ends_with, uses, misuses, hearing, with_bound, with_new, with_readable, with_writable, conversation_of, opens, openable, opened_fid, read_event, puts, play_of}
+use Rattle.net_base.specs.Steps.{Ask, Names, Fid, Play, Asks, Ends, is_bound, bind, unbind, ends_with, uses, misuses, hearing, with_bound, with_new, with_readable, with_writable, conversation_of, opens, openable, opened_fid, read_event, puts_text, play_of}
 
 -- the event that a play records next
 abbrev pub head : Play → Option Ask
@@ -18,7 +18,7 @@ head (Ends names) = None
 abbrev pub request_play : ℕ → Names → Request → Play
 request_play h names (request.Open called path m) = with_new h called names (opens h path m (Ends names) (λ (f : Fid). Ends (bind called f names)))
 request_play h names (request.Read called count) = play_of h names (step.Read called count)
-request_play h names (request.Write called text) = with_writable h called names (λ (f : Fid). puts h f f.file text (Ends names) (Ends names))
+request_play h names (request.Write called text) = with_writable h called names (λ (f : Fid). puts_text h f f.file text (Ends names) (Ends names))
 request_play h names (request.Close called) = play_of h names (step.Close called)
 request_play h names (request.Cs query) = play_of h names (step.Cs query)
 request_play h names (request.Ls path) = play_of h names (step.Ls path)

@@ -16,8 +16,8 @@ pub record Route : Type 0 where
   pub next : Option ℕ
 
 -- the route's network contains the address
-abbrev pub matches : ℕ → Route → Bool
-matches ip r = bit_and ip r.mask == r.net
+abbrev pub route_contains : ℕ → Route → Bool
+route_contains ip r = bit_and ip r.mask == r.net
 
 -- the one of two routes with the longer mask, or the first
 abbrev pub longer : Route → Option Route → Route
@@ -27,7 +27,7 @@ longer r (Some s) = if nat_lt r.mask s.mask then s else r
 -- the route with the longest mask that matches
 abbrev pub longest_match : ℕ → List Route → Option Route
 longest_match ip [] = None
-longest_match ip (r ∷ rs) = if matches ip r then Some (longer r (longest_match ip rs)) else longest_match ip rs
+longest_match ip (r ∷ rs) = if route_contains ip r then Some (longer r (longest_match ip rs)) else longest_match ip rs
 
 -- the networks of interfaces, which are numbered from n
 abbrev pub iface_routes : ℕ → List Iface → List Route

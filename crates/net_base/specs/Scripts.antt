@@ -66,14 +66,14 @@ kept_after k s names rs = record { names = names; left = left_after k.left s rs 
 -- ---- scripts
 
 -- the first replies, as many as the play has events
-abbrev pub heard : Play → List Reply → List Reply
-heard (Ends names) rs = []
-heard (Asks a e next) [] = []
-heard (Asks a e next) (r ∷ rs) = r ∷ heard (next r) rs
+abbrev pub heard_replies : Play → List Reply → List Reply
+heard_replies (Ends names) rs = []
+heard_replies (Asks a e next) [] = []
+heard_replies (Asks a e next) (r ∷ rs) = r ∷ heard_replies (next r) rs
 
 -- where a script stands after these replies to the events of its steps
 abbrev pub position : ℕ → List Step → Kept → List Reply → Position
 position h [] k rs = record { next = None; left = [] }
 position h (s ∷ ss) k rs =
     position_by (stands (step_play h k s) rs) (s ∷ ss)
-    (λ (names : Names) (later : List Reply). position h ss (kept_after k s names (heard (step_play h k s) rs)) later)
+    (λ (names : Names) (later : List Reply). position h ss (kept_after k s names (heard_replies (step_play h k s) rs)) later)

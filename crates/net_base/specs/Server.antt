@@ -25,10 +25,10 @@ pub data Outcome (S : Type 0) : Type 0 where
   Waits : Outcome S
   Answered : List ℕ → S → List Reply → Outcome S
 
-abbrev pub outcome : {S : Type 0} → Doing S → List Reply → Outcome S
-outcome (Gives answer s) rs = Answered answer s rs
-outcome (Does ask next) [] = Waits
-outcome (Does ask next) (r ∷ rs) = outcome (next r) rs
+abbrev pub outcome_by : {S : Type 0} → Doing S → List Reply → Outcome S
+outcome_by (Gives answer s) rs = Answered answer s rs
+outcome_by (Does ask next) [] = Waits
+outcome_by (Does ask next) (r ∷ rs) = outcome_by (next r) rs
 
 abbrev pub answers_by : {S : Type 0} → Outcome S → (S → List Reply → List (List ℕ)) → List (List ℕ)
 answers_by Waits go_on = []
@@ -37,4 +37,4 @@ answers_by (Answered answer s rs) go_on = answer ∷ go_on s rs
 -- the answers to requests in order, by the replies to what they ask; none from the first on that waits
 abbrev pub answers_to : {S R : Type 0} → Server S R → S → List R → List Reply → List (List ℕ)
 answers_to v s [] rs = []
-answers_to v s (q ∷ qs) rs = answers_by (outcome (v.serves s q) rs) (λ (after : _) (later : List Reply). answers_to v after qs later)
+answers_to v s (q ∷ qs) rs = answers_by (outcome_by (v.serves s q) rs) (λ (after : _) (later : List Reply). answers_to v after qs later)

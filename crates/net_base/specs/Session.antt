@@ -5,8 +5,8 @@ use Rattle.net_base.specs.declared.reply.Reply.{Reply}
 use Rattle.net_base.specs.declared.world.Step.{Step}
 use Rattle.net_base.specs.NinepMessages.{r_bytes}
 use Rattle.net_base.specs.Server.{Doing, Gives, Server, doing_of}
-use Rattle.net_base.specs.SessionAnswers.{Found, found_after, found_by, replied, said}
-use Rattle.net_base.specs.SessionScript.{after, step_of}
+use Rattle.net_base.specs.SessionAnswers.{Found, found_after, found_by, replied, said_at_once}
+use Rattle.net_base.specs.SessionScript.{table_next, message_step}
 use Rattle.net_base.specs.SessionTable.{Table, opening}
 use Rattle.net_base.specs.Steps.{Ends, Names, no_names, play_of}
 
@@ -22,12 +22,12 @@ first = record { table = opening; found = λ (n : ℕ). []; names = no_names [] 
 
 -- after a message without a step
 abbrev pub told : State → Tmsg → Doing State
-told s m = Gives (r_bytes (said s.table s.found m)) (record { table = after s.table m; found = found_after s.found m; names = s.names })
+told s m = Gives (r_bytes (said_at_once s.table s.found m)) (record { table = table_next s.table m; found = found_after s.found m; names = s.names })
 
 -- by the last reply
 abbrev pub by_last : State → Tmsg → Names → Option Reply → Doing State
 by_last s m names None = told s m
-by_last s m names (Some x) = Gives (r_bytes (replied s.table m x)) (record { table = after s.table m; found = found_by s.table s.found m x; names = names })
+by_last s m names (Some x) = Gives (r_bytes (replied s.table m x)) (record { table = table_next s.table m; found = found_by s.table s.found m x; names = names })
 
 -- a message is told an answer, or it is a step of the host's script
 abbrev pub serves_by : ℕ → State → Tmsg → Option Step → Doing State
@@ -40,6 +40,6 @@ session h =
     record {
       opening = first;
       names = λ (s : State). s.names;
-      serves = λ (s : State) (m : Tmsg). serves_by h s m (step_of s.table m);
+      serves = λ (s : State) (m : Tmsg). serves_by h s m (message_step s.table m);
       closes = λ (s : State). Ends s.names;
     }

@@ -6,15 +6,15 @@ use Rattle.net_base.specs.declared.names.Node.{Node}
 use Rattle.net_base.specs.declared.names.Node.TheVariants as node
 use Rattle.net_base.specs.declared.reply.Reply.{Reply}
 use Rattle.net_base.specs.declared.reply.Reply.TheVariants as reply
-use Rattle.net_base.specs.Steps.{bytes_in, lines_in}
-use Rattle.net_base.specs.Transcript.{lines_of, reply_words, spaced}
+use Rattle.net_base.specs.Steps.{bytes_in, reply_lines}
+use Rattle.net_base.specs.Transcript.{as_lines, reply_words, spaced}
 use Rattle.net_base.specs.declared.ninep.Rmsg.{Rmsg}
 use Rattle.net_base.specs.declared.ninep.Rmsg.TheVariants as r
 use Rattle.net_base.specs.declared.ninep.Tmsg.{Tmsg}
 use Rattle.net_base.specs.declared.ninep.Tmsg.TheVariants as t
 use Rattle.net_base.specs.NinepMessages.{t_tag}
-use Rattle.net_base.specs.SessionFiles.{can_open, is_cs, is_data, qid_of, walked}
-use Rattle.net_base.specs.SessionScript.{begins, gives_nothing, nofid, room}
+use Rattle.net_base.specs.SessionFiles.{can_open, is_cs, is_data_node, qid_of, walked}
+use Rattle.net_base.specs.SessionScript.{begins_session, gives_nothing, nofid, room}
 use Rattle.net_base.specs.declared.ninep.Target.{Target}
 use Rattle.net_base.specs.SessionTable.{Table, is_taken}
 
@@ -55,7 +55,7 @@ abbrev pub spoken : List ℕ → List ℕ
 spoken version = if bytes_eq version (codes "9P2000") then codes "9P2000" else codes "unknown"
 
 abbrev pub version_answer : Table → ℕ → ℕ → List ℕ → Rmsg
-version_answer table tag msize version = if begins table msize then r.Version tag (min msize table.msize) (spoken version) else r.Error tag bad_use
+version_answer table tag msize version = if begins_session table msize then r.Version tag (min msize table.msize) (spoken version) else r.Error tag bad_use
 
 abbrev pub attach_answer : Table → ℕ → ℕ → ℕ → Rmsg
 attach_answer table tag fid afid =
@@ -90,20 +90,20 @@ read_answer table found tag fid offset count f =
     else r.Error tag not_served
 
 -- the answer to a message without a step
-abbrev pub said : Table → Found → Tmsg → Rmsg
-said table found (t.Version tag msize version) = version_answer table tag msize version
-said table found (t.Auth tag afid uname aname) = r.Error tag not_served
-said table found (t.Attach tag fid afid uname aname) = attach_answer table tag fid afid
-said table found (t.Flush tag oldtag) = r.Flush tag
-said table found (t.Walk tag fid newfid names) = of_known tag (table.fids fid) (walk_answer table tag fid newfid names)
-said table found (t.Open tag fid mode) = of_known tag (table.fids fid) (open_answer tag mode)
-said table found (t.Create tag fid name perm mode) = of_known tag (table.fids fid) (λ (f : Target). r.Error tag not_served)
-said table found (t.Read tag fid offset count) = of_used tag (table.fids fid) (read_answer table found tag fid offset count)
-said table found (t.Write tag fid offset bytes) = of_known tag (table.fids fid) (λ (f : Target). r.Error tag bad_use)
-said table found (t.Clunk tag fid) = of_known tag (table.fids fid) (λ (f : Target). r.Clunk tag)
-said table found (t.Remove tag fid) = of_known tag (table.fids fid) (λ (f : Target). r.Error tag not_served)
-said table found (t.Stat tag fid) = of_known tag (table.fids fid) (λ (f : Target). r.Error tag not_served)
-said table found (t.Wstat tag fid stat) = of_known tag (table.fids fid) (λ (f : Target). r.Error tag not_served)
+abbrev pub said_at_once : Table → Found → Tmsg → Rmsg
+said_at_once table found (t.Version tag msize version) = version_answer table tag msize version
+said_at_once table found (t.Auth tag afid uname aname) = r.Error tag not_served
+said_at_once table found (t.Attach tag fid afid uname aname) = attach_answer table tag fid afid
+said_at_once table found (t.Flush tag oldtag) = r.Flush tag
+said_at_once table found (t.Walk tag fid newfid names) = of_known tag (table.fids fid) (walk_answer table tag fid newfid names)
+said_at_once table found (t.Open tag fid mode) = of_known tag (table.fids fid) (open_answer tag mode)
+said_at_once table found (t.Create tag fid name perm mode) = of_known tag (table.fids fid) (λ (f : Target). r.Error tag not_served)
+said_at_once table found (t.Read tag fid offset count) = of_used tag (table.fids fid) (read_answer table found tag fid offset count)
+said_at_once table found (t.Write tag fid offset bytes) = of_known tag (table.fids fid) (λ (f : Target). r.Error tag bad_use)
+said_at_once table found (t.Clunk tag fid) = of_known tag (table.fids fid) (λ (f : Target). r.Clunk tag)
+said_at_once table found (t.Remove tag fid) = of_known tag (table.fids fid) (λ (f : Target). r.Error tag not_served)
+said_at_once table found (t.Stat tag fid) = of_known tag (table.fids fid) (λ (f : Target). r.Error tag not_served)
+said_at_once table found (t.Wstat tag fid stat) = of_known tag (table.fids fid) (λ (f : Target). r.Error tag not_served)
 
 -- ---- answers by a reply
 
@@ -120,8 +120,8 @@ is_granting (reply.Lines lines) = true
 is_granting _ = false
 
 -- the text of an error has room in a message
-abbrev pub longest_text : ℕ
-longest_text = 8192
+abbrev pub longest_error : ℕ
+longest_error = 8192
 
 -- the reply as a history prints it
 abbrev pub printed : Reply → List ℕ
@@ -135,7 +135,7 @@ now_open at _ = at
 
 -- where the bytes that were read begin: data are read from where they are
 abbrev pub skipped : Node → ℕ → ℕ
-skipped at offset = if is_data at then 0 else offset
+skipped at offset = if is_data_node at then 0 else offset
 
 -- the node of a fid, where it is known
 abbrev pub node_at : Table → ℕ → Node
@@ -166,5 +166,5 @@ found_after found _ = found
 
 -- .. and after a reply: those of a write to cs
 abbrev pub found_by : Table → Found → Tmsg → Reply → Found
-found_by table found (t.Write tag fid offset bytes) x = if is_cs (node_at table fid) then with_found fid (lines_of (lines_in x)) found else found
+found_by table found (t.Write tag fid offset bytes) x = if is_cs (node_at table fid) then with_found fid (as_lines (reply_lines x)) found else found
 found_by table found m x = found_after found m

@@ -25,9 +25,9 @@ abbrev pub is_cs : Node → Bool
 is_cs node.Cs = true
 is_cs _ = false
 
-abbrev pub is_data : Node → Bool
-is_data (node.File p n file.Data) = true
-is_data _ = false
+abbrev pub is_data_node : Node → Bool
+is_data_node (node.File p n file.Data) = true
+is_data_node _ = false
 
 -- a file but cs: what a script can open
 abbrev pub is_plain : Node → Bool

@@ -13,9 +13,9 @@ use Rattle.net_base.specs.Paths.{path_of}
 use Rattle.net_base.specs.declared.ninep.Tmsg.{Tmsg}
 use Rattle.net_base.specs.declared.ninep.Tmsg.TheVariants as t
 use Rattle.net_base.specs.NinepMessages.{SpellsT, t_bytes}
-use Rattle.net_base.specs.SessionFiles.{access, can_open, is_cs, is_data, is_directory, is_plain, reached}
+use Rattle.net_base.specs.SessionFiles.{access, can_open, is_cs, is_data_node, is_directory, is_plain, reached}
 use Rattle.net_base.specs.declared.ninep.Target.{Target}
-use Rattle.net_base.specs.SessionTable.{Table, fresh, is_taken, opening, put, set, used}
+use Rattle.net_base.specs.SessionTable.{Table, fresh, is_taken, opening, with_target, set, used}
 
 -- ---- steps
 
@@ -23,12 +23,12 @@ use Rattle.net_base.specs.SessionTable.{Table, fresh, is_taken, opening, put, se
 abbrev pub fid_name : ℕ → List ℕ
 fid_name n = codes "f" ++ numeral n
 
-abbrev pub opens : ℕ → Node → Mode → Step
-opens fid at m = step.Open (fid_name fid) (path_of at) (Some m)
+abbrev pub opening_step : ℕ → Node → Mode → Step
+opening_step fid at m = step.Open (fid_name fid) (path_of at) (Some m)
 
 -- Topen of a file but cs
 abbrev pub open_step : ℕ → ℕ → Target → Option Step
-open_step fid mode f = if is_plain f.node then option_map (opens fid f.node) (access mode) else None
+open_step fid mode f = if is_plain f.node then option_map (opening_step fid f.node) (access mode) else None
 
 -- the most that a Tread gives
 abbrev pub room : Table → ℕ → ℕ
@@ -40,7 +40,7 @@ text_end = 65536
 
 -- count 0, or an offset behind the end of a file that isn't data
 abbrev pub gives_nothing : Node → ℕ → ℕ → Bool
-gives_nothing at offset count = (count == 0) || (nat_le text_end offset && not (is_data at || is_directory at))
+gives_nothing at offset count = (count == 0) || (nat_le text_end offset && not (is_data_node at || is_directory at))
 
 -- how many bytes the read of a Tread takes: of data so many, of another file but cs all from its beginning
 abbrev pub read_count : ℕ → ℕ → Node → Option ℕ
@@ -49,11 +49,11 @@ read_count offset most (node.File p n f) = Some (min text_end (offset + most))
 read_count offset most (node.Clone p) = Some (min text_end (offset + most))
 read_count offset most _ = None
 
-abbrev pub reads : ℕ → ℕ → Step
-reads fid count = step.Read (fid_name fid) count
+abbrev pub reading_step : ℕ → ℕ → Step
+reading_step fid count = step.Read (fid_name fid) count
 
 abbrev pub read_step : Table → ℕ → ℕ → ℕ → Target → Option Step
-read_step table fid offset count f = if gives_nothing f.node offset count then None else option_map (reads fid) (read_count offset (room table count) f.node)
+read_step table fid offset count f = if gives_nothing f.node offset count then None else option_map (reading_step fid) (read_count offset (room table count) f.node)
 
 -- a query of cs: on one line, and not empty
 abbrev pub is_query : List ℕ → Bool
@@ -71,19 +71,19 @@ abbrev pub close_step : ℕ → Target → Option Step
 close_step fid f = if is_plain f.node then Some (step.Close (fid_name fid)) else None
 
 -- the step of a message, if it has one
-abbrev pub step_of : Table → Tmsg → Option Step
-step_of table (t.Open tag fid mode) = option_and_then (open_step fid mode) (table.fids fid)
-step_of table (t.Read tag fid offset count) = option_and_then (read_step table fid offset count) (used table fid)
-step_of table (t.Write tag fid offset bytes) = option_and_then (write_step fid bytes) (used table fid)
-step_of table (t.Clunk tag fid) = option_and_then (close_step fid) (used table fid)
-step_of table (t.Remove tag fid) = option_and_then (close_step fid) (used table fid)
-step_of table _ = None
+abbrev pub message_step : Table → Tmsg → Option Step
+message_step table (t.Open tag fid mode) = option_and_then (open_step fid mode) (table.fids fid)
+message_step table (t.Read tag fid offset count) = option_and_then (read_step table fid offset count) (used table fid)
+message_step table (t.Write tag fid offset bytes) = option_and_then (write_step fid bytes) (used table fid)
+message_step table (t.Clunk tag fid) = option_and_then (close_step fid) (used table fid)
+message_step table (t.Remove tag fid) = option_and_then (close_step fid) (used table fid)
+message_step table _ = None
 
 -- ---- fids
 
 -- Tversion's row: it is the first message, and not below 256
-abbrev pub begins : Table → ℕ → Bool
-begins table msize = table.is_first && nat_le 256 msize
+abbrev pub begins_session : Table → ℕ → Bool
+begins_session table msize = table.is_first && nat_le 256 msize
 
 -- no fid
 abbrev pub nofid : ℕ
@@ -105,20 +105,20 @@ abbrev pub bound_by : Table → ℕ → ℕ → List (List ℕ) → Option Targe
 bound_by table fid newfid names = option_map fresh (option_and_then (λ (at : Node). reached at names) (source table fid newfid))
 
 -- an opened fid is used from then on, also where the step is refused
-abbrev pub opened : ℕ → Target → Option Target
-opened mode f = if can_open f.node mode then Some (record f { is_used = true }) else None
+abbrev pub opened_target : ℕ → Target → Option Target
+opened_target mode f = if can_open f.node mode then Some (record f { is_used = true }) else None
 
 abbrev pub heard : Table → ℕ → Table
-heard table msize = if begins table msize then record table { msize = min msize table.msize } else table
+heard table msize = if begins_session table msize then record table { msize = min msize table.msize } else table
 
 abbrev pub attached : Table → ℕ → ℕ → Table
 attached table fid afid = if attaches table fid afid then set fid (Some (fresh node.Root)) table else table
 
 abbrev pub walked_to : Table → ℕ → ℕ → List (List ℕ) → Table
-walked_to table fid newfid names = put newfid (bound_by table fid newfid names) table
+walked_to table fid newfid names = with_target newfid (bound_by table fid newfid names) table
 
 abbrev pub used_by : Table → ℕ → ℕ → Table
-used_by table fid mode = put fid (option_and_then (opened mode) (table.fids fid)) table
+used_by table fid mode = with_target fid (option_and_then (opened_target mode) (table.fids fid)) table
 
 -- what a message changes; Tclunk and Tremove take the fid out, whatever is answered
 abbrev pub changed : Table → Tmsg → Table
@@ -131,15 +131,15 @@ changed table (t.Remove tag fid) = set fid None table
 changed table _ = table
 
 -- the table after a message
-abbrev pub after : Table → Tmsg → Table
-after table m = record (changed table m) { is_first = false }
+abbrev pub table_next : Table → Tmsg → Table
+table_next table m = record (changed table m) { is_first = false }
 
 -- ---- scripts
 
 -- the steps of messages, in order
 abbrev pub steps_of : Table → List Tmsg → List Step
 steps_of table [] = []
-steps_of table (m ∷ ms) = option_to_list (step_of table m) ++ steps_of (after table m) ms
+steps_of table (m ∷ ms) = option_to_list (message_step table m) ++ steps_of (table_next table m) ms
 
 -- these bytes begin with the message, which is no longer than this; behind it stands the rest
 pub record Begins (msize : ℕ) (m : Tmsg) (bytes rest : List ℕ) : Type 0 where
@@ -150,7 +150,7 @@ pub record Begins (msize : ℕ) (m : Tmsg) (bytes rest : List ℕ) : Type 0 wher
 -- these bytes are these messages, none longer than the msize before it
 abbrev pub IsStream : Table → List Tmsg → List ℕ → Type 0
 IsStream table [] bytes = bytes ≡ []
-IsStream table (m ∷ ms) bytes = (rest : List ℕ) × Begins table.msize m bytes rest × IsStream (after table m) ms rest
+IsStream table (m ∷ ms) bytes = (rest : List ℕ) × Begins table.msize m bytes rest × IsStream (table_next table m) ms rest
 
 -- a session's bytes are these messages
 abbrev pub AreMessages : List ℕ → List Tmsg → Type 0

@@ -2,7 +2,7 @@
 use Rattle.std.specs.Prelude.{◌≡◌, ◌≤◌, ℕ, ◌==◌, ◌&&◌, Bool, true, false, not, Option, Some, None, is_some, if◌then◌else◌}
 use Rattle.std.specs.Option.{option_and_then}
 use Rattle.net_base.specs.declared.names.Node.{Node}
-use Rattle.net_base.specs.Paths.{in_range}
+use Rattle.net_base.specs.Paths.{node_in_range}
 use Rattle.net_base.specs.NinepMessages.{longest}
 use Rattle.net_base.specs.declared.ninep.Target.{Target}
 
@@ -27,9 +27,9 @@ abbrev pub set : ℕ → Option Target → Table → Table
 set n f t = record t { fids = with_fid n f t.fids }
 
 -- so it does where there is something to stand for
-abbrev pub put : ℕ → Option Target → Table → Table
-put n None t = t
-put n (Some f) t = set n (Some f) t
+abbrev pub with_target : ℕ → Option Target → Table → Table
+with_target n None t = t
+with_target n (Some f) t = set n (Some f) t
 
 abbrev pub if_used : Target → Option Target
 if_used f = if f.is_used then Some f else None
@@ -46,4 +46,4 @@ is_taken t fid newfid = not (fid == newfid) && is_some (t.fids newfid)
 pub record IsSound (t : Table) : Type 0 where
   pub least : 256 ≤ t.msize
   pub most : t.msize ≤ longest
-  pub nodes : (fid : ℕ) (f : Target) → t.fids fid ≡ Some f → in_range f.node ≡ true
+  pub nodes : (fid : ℕ) (f : Target) → t.fids fid ≡ Some f → node_in_range f.node ≡ true

@@ -12,14 +12,14 @@ abbrev pub spot_at : ℕ → ℕ → Spot
 spot_at place line = record { place = place; line = line }
 
 -- the places of the lines of a tuple, of which the first has this number
-abbrev pub lines_from : ℕ → ℕ → List (List NdbPair) → List Spot
-lines_from tuple line [] = []
-lines_from tuple line (pairs ∷ lines) = spot_at tuple line ∷ lines_from tuple (line + 1) lines
+abbrev pub line_spots : ℕ → ℕ → List (List NdbPair) → List Spot
+line_spots tuple line [] = []
+line_spots tuple line (pairs ∷ lines) = spot_at tuple line ∷ line_spots tuple (line + 1) lines
 
 -- the places of all lines, where the first tuple has this number
 abbrev pub all_lines : ℕ → List (List (List NdbPair)) → List Spot
 all_lines number [] = []
-all_lines number (tuple ∷ tuples) = lines_from number 0 tuple ++ all_lines (number + 1) tuples
+all_lines number (tuple ∷ tuples) = line_spots number 0 tuple ++ all_lines (number + 1) tuples
 
 -- the place of its line for each pair of a line
 abbrev pub spread : List (List NdbPair) → List Spot → List Spot

@@ -57,8 +57,8 @@ abbrev pub clock : Number
 clock = number.Actor name.Clock
 
 -- the moment after an entry of the clock
-abbrev pub moment_after : ℕ → Noted → ℕ
-moment_after m x = moved m x.entry.event
+abbrev pub moment_after_noted : ℕ → Noted → ℕ
+moment_after_noted m x = moved m x.entry.event
   where
     moved : ℕ → Event → ℕ
     moved m (event.Move at) = at
@@ -67,11 +67,11 @@ moment_after m x = moved m x.entry.event
 -- the moment of the last move among these entries of the clock, or m
 abbrev pub latest : ℕ → List (ℕ × Noted) → ℕ
 latest m [] = m
-latest m (x ∷ xs) = latest (moment_after m x.1) xs
+latest m (x ∷ xs) = latest (moment_after_noted m x.1) xs
 
 -- the moment after a history
-abbrev pub moment : List Noted → ℕ
-moment log = latest 0 (at clock log)
+abbrev pub moment_noted : List Noted → ℕ
+moment_noted log = latest 0 (at clock log)
 
 -- x stands in the list
 abbrev pub In : {A : Type 0} → A → List A → Type 0

@@ -26,7 +26,7 @@ use Rattle.net_base.specs.Addresses.{address_in, number_in, parts_at}
 use Rattle.net_base.specs.ControlWords as control
 use Rattle.net_base.specs.DatagramHeaders.{has_headers, headers_of, text_behind}
 use Rattle.net_base.specs.DomainAnswers.{dns_answer}
-use Rattle.net_base.specs.Paths.{walk, may_open, is_read_alone, reads, writes}
+use Rattle.net_base.specs.Paths.{walk, may_open, is_read_alone, mode_reads, mode_writes}
 use Rattle.net_base.specs.Same.{same_addr}
 use Rattle.net_base.specs.Versions.{Tuples}
 
@@ -133,10 +133,10 @@ abbrev pub with_new : ℕ → List ℕ → Names → Play → Play
 with_new h called names next = if is_bound names called then uses h called names else next
 
 abbrev pub with_readable : ℕ → List ℕ → Names → (Fid → Play) → Play
-with_readable h called names next = with_bound h called names (λ (f : Fid). if reads f.mode then next f else misuses h called names)
+with_readable h called names next = with_bound h called names (λ (f : Fid). if mode_reads f.mode then next f else misuses h called names)
 
 abbrev pub with_writable : ℕ → List ℕ → Names → (Fid → Play) → Play
-with_writable h called names next = with_bound h called names (λ (f : Fid). if writes f.mode then next f else misuses h called names)
+with_writable h called names next = with_bound h called names (λ (f : Fid). if mode_writes f.mode then next f else misuses h called names)
 
 -- Files.
 
@@ -207,14 +207,14 @@ controls h f text (Err fault) refused next =
     Asks (conversation_of h f) (event.Ctl f.generation text) (λ (r : Reply). if_accepted r next refused)
 
 -- a text is written to a data file, or to a ctl file
-abbrev pub puts : ℕ → Fid → FileName → List ℕ → Play → Play → Play
-puts h f file.Data text refused next =
+abbrev pub puts_text : ℕ → Fid → FileName → List ℕ → Play → Play → Play
+puts_text h f file.Data text refused next =
     Asks (conversation_of h f) (event.Write f.generation text) (λ (r : Reply). if_accepted r next refused)
-puts h f _ text refused next = controls h f text (control.read text) refused next
+puts_text h f _ text refused next = controls h f text (control.read text) refused next
 
 -- a file is closed
-abbrev pub closes : ℕ → Fid → Play → Play → Play
-closes h f refused next = Asks (conversation_of h f) (event.Close f.generation) (λ (r : Reply). if_accepted r next refused)
+abbrev pub closes_fid : ℕ → Fid → Play → Play → Play
+closes_fid h f refused next = Asks (conversation_of h f) (event.Close f.generation) (λ (r : Reply). if_accepted r next refused)
 
 abbrev pub ls_actor : ℕ → Option Node → ActorName
 ls_actor h (Some (node.Proto p)) = name.Dir h p
@@ -238,14 +238,14 @@ completed _ address net service = address
 abbrev pub netmkaddr : List ℕ → List ℕ → List ℕ → List ℕ
 netmkaddr address net service = completed (count_by (λ (b : ℕ). b == 33) address) address net service
 
-abbrev pub lines_in : Reply → List (List ℕ)
-lines_in (reply.Lines lines) = lines
-lines_in _ = []
+abbrev pub reply_lines : Reply → List (List ℕ)
+reply_lines (reply.Lines lines) = lines
+reply_lines _ = []
 
 -- the event that asks for the lines of an address
 abbrev pub asks_cs : ℕ → List ℕ → (List (List ℕ) → Play) → Play
 asks_cs h address next =
-    Asks (name.Desk h) (event.Cs (netmkaddr address (codes "net") (codes "9fs"))) (λ (r : Reply). next (lines_in r))
+    Asks (name.Desk h) (event.Cs (netmkaddr address (codes "net") (codes "9fs"))) (λ (r : Reply). next (reply_lines r))
 
 abbrev pub is_blank : ℕ → Bool
 is_blank b = b == control.blank
@@ -274,14 +274,14 @@ abbrev pub dials : ℕ → List ℕ → Names → List (List ℕ) → Play
 dials h called names [] = Ends names
 dials h called names (line ∷ lines) =
     opens h (clone_path line) mode.Both (dials h called names lines) (λ (made : Fid).
-    puts h made made.file (codes "connect " ++ line_address line) (closes h made (Ends names) (dials h called names lines)) (connected h called names made))
+    puts_text h made made.file (codes "connect " ++ line_address line) (closes_fid h made (Ends names) (dials h called names lines)) (connected h called names made))
 
 -- the first line is announced
-abbrev pub announces : ℕ → List ℕ → Names → List (List ℕ) → Play
-announces h called names [] = Ends names
-announces h called names (line ∷ lines) =
+abbrev pub announces_line : ℕ → List ℕ → Names → List (List ℕ) → Play
+announces_line h called names [] = Ends names
+announces_line h called names (line ∷ lines) =
     opens h (clone_path line) mode.Both (Ends names) (λ (made : Fid).
-    puts h made made.file (codes "announce " ++ line_address line) (closes h made (Ends names) (Ends names)) (Ends (bind called made names)))
+    puts_text h made made.file (codes "announce " ++ line_address line) (closes_fid h made (Ends names) (Ends names)) (Ends (bind called made names)))
 
 -- Calls of datagrams.
 
@@ -340,7 +340,7 @@ abbrev pub tells_address : ℕ → Fid → FileName → List Fid → Play → (A
 tells_address h call told others refused next =
     opens_node h [] mode.Read (Some (node.File call.proto call.slot told)) (closes_all h others refused) (λ (f : Fid).
     Asks (conversation_of h f) (event.File f.generation told 64) (λ (r : Reply).
-    if_accepted r (closes h f (closes_all h others refused) (next (address_told (bytes_in r)))) (closes_all h (f ∷ others) refused)))
+    if_accepted r (closes_fid h f (closes_all h others refused) (next (address_told (bytes_in r)))) (closes_all h (f ∷ others) refused)))
 
 -- a call is taken where a conversation listens: its ctl file and its data file are opened, and it is read who called, and whom
 abbrev pub takes_call : ℕ → Fid → Play → (Fid → Fid → Addr → Addr → Play) → Play
@@ -357,8 +357,8 @@ with_call h called names next =
     (with_bound h called names (λ (f : Fid). takes_call h f (Ends names) next))
 
 -- a call's first datagram is read, and the call stays open
-abbrev pub hears : ℕ → Names → ℕ → Fid → Fid → Heard → Play
-hears h names count call data_file heard =
+abbrev pub hears_call : ℕ → Names → ℕ → Fid → Fid → Heard → Play
+hears_call h names count call data_file heard =
     Asks (conversation_of h data_file) (event.Read data_file.generation count) (λ (r : Reply).
     if_accepted r (Ends (bind data_name data_file (bind call_name call (hearing heard names))))
     (closes_all h (data_file ∷ call ∷ []) (Ends (hearing heard names))))
@@ -369,13 +369,13 @@ was_on called None = false
 was_on called (Some heard) = bytes_eq called heard.name
 
 -- these headers are of the datagram that was heard; the interface isn't compared
-abbrev pub answers_to : Headers → Option Heard → Bool
-answers_to headers None = false
-answers_to headers (Some heard) = same_addr headers.remote heard.remote && same_addr headers.local heard.local
+abbrev pub are_of_heard : Headers → Option Heard → Bool
+are_of_heard headers None = false
+are_of_heard headers (Some heard) = same_addr headers.remote heard.remote && same_addr headers.local heard.local
 
 -- the bytes are such headers, and a text
 abbrev pub is_answer : List ℕ → Option Heard → Bool
-is_answer bytes heard = has_headers bytes && answers_to (headers_of bytes) heard
+is_answer bytes heard = has_headers bytes && are_of_heard (headers_of bytes) heard
 
 abbrev pub is_data : FileName → Bool
 is_data file.Data = true
@@ -405,7 +405,7 @@ answers h names text data_file =
 
 -- a call is closed
 abbrev pub leaves_call : ℕ → Fid → Fid → Play → Play → Play
-leaves_call h call data_file refused next = closes h data_file (closes_all h (call ∷ []) refused) (closes h call refused next)
+leaves_call h call data_file refused next = closes_fid h data_file (closes_all h (call ∷ []) refused) (closes_fid h call refused next)
 
 -- a call is answered, where there is an answer, and closed
 abbrev pub answers_call : ℕ → Fid → Fid → Option (List ℕ) → Play → Play → Play
@@ -434,8 +434,8 @@ abbrev pub play_of : ℕ → Names → Step → Play
 play_of h names (step.Open called path m) =
     with_new h called names (opens h path (unwrap_or m (default_mode (walk path))) (Ends names) (λ (f : Fid). Ends (bind called f names)))
 play_of h names (step.Read called count) = with_readable h called names (λ (f : Fid). ends_with (conversation_of h f) (read_event f count f.file) names)
-play_of h names (step.Write called text) = with_writable h called names (λ (f : Fid). puts h f f.file text (Ends names) (Ends names))
-play_of h names (step.Writex called text) = with_writable h called names (λ (f : Fid). puts h f f.file text (Ends names) (Ends names))
+play_of h names (step.Write called text) = with_writable h called names (λ (f : Fid). puts_text h f f.file text (Ends names) (Ends names))
+play_of h names (step.Writex called text) = with_writable h called names (λ (f : Fid). puts_text h f f.file text (Ends names) (Ends names))
 play_of h names (step.Close called) = closes_name h called names
 play_of h names (step.Ls path) = ends_with (ls_actor h (walk path)) (ls_event path (walk path)) names
 play_of h names (step.Cs query) = ends_with (name.Desk h) (event.Cs query) names
@@ -443,7 +443,7 @@ play_of h names (step.Until moment) = ends_with (name.Desk h) (event.Until momen
 play_of h names step.Refresh = ends_with (name.Desk h) event.Refresh names
 play_of h names (step.Dial called address) =
     with_new h called names (with_new h (dotted_name called) names (asks_cs h address (dials h called names)))
-play_of h names (step.Announce called address) = with_new h called names (asks_cs h address (announces h called names))
+play_of h names (step.Announce called address) = with_new h called names (asks_cs h address (announces_line h called names))
 play_of h names (step.Listen called from) =
     with_bound h from names (λ (f : Fid). with_new h called names
     (opens_beside h f file.Listen (Ends names) (λ (call : Fid). Ends (bind called call names))))
@@ -451,11 +451,11 @@ play_of h names (step.Accept called from) =
     with_bound h from names (λ (f : Fid). with_new h called names
     (opens_beside h f file.Data (Ends names) (λ (data_file : Fid). Ends (bind called data_file names))))
 play_of h names (step.Reject called) =
-    with_writable h called names (λ (f : Fid). puts h f f.file (codes "hangup") (Ends names) (ends_with (conversation_of h f) (event.Close f.generation) (unbind called names)))
-play_of h names (step.Hangup called) = with_writable h called names (λ (f : Fid). puts h f f.file (codes "hangup") (Ends names) (Ends names))
+    with_writable h called names (λ (f : Fid). puts_text h f f.file (codes "hangup") (Ends names) (ends_with (conversation_of h f) (event.Close f.generation) (unbind called names)))
+play_of h names (step.Hangup called) = with_writable h called names (λ (f : Fid). puts_text h f f.file (codes "hangup") (Ends names) (Ends names))
 play_of h names (step.Hread called count) =
     with_call h called names (λ (call data_file : Fid) (remote local : Addr).
-    hears h names count call data_file (record { name = called; remote = remote; local = local }))
+    hears_call h names count call data_file (record { name = called; remote = remote; local = local }))
 play_of h names (step.Hwrite called bytes) =
     on_fid (open_call called names) (uses h data_name names) (λ (data_file : Fid).
     if is_answer bytes names.heard then answers h names (text_behind bytes) data_file else misuses h data_name names)

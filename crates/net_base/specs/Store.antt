@@ -6,12 +6,12 @@ use Rattle.net_base.specs.declared.ndb.runs.Runs.{Runs}
 use Rattle.net_base.specs.Parts.{last_end, parts, Rise}
 
 -- a pair of these texts
-abbrev pub pair_of : List ℕ → List ℕ → NdbPair
-pair_of attr value = record { attr = attr; value = value }
+abbrev pub pair_with : List ℕ → List ℕ → NdbPair
+pair_with attr value = record { attr = attr; value = value }
 
 -- the pair that begins here and has this mark
 abbrev pub pair_between : ℕ → Mark → List ℕ → NdbPair
-pair_between start mark bytes = pair_of (slice_range bytes start mark.attr) (slice_range bytes mark.attr mark.value)
+pair_between start mark bytes = pair_with (slice_range bytes start mark.attr) (slice_range bytes mark.attr mark.value)
 
 -- the pairs with these marks, the first of which begins here
 abbrev pub marked : ℕ → List Mark → List ℕ → List NdbPair

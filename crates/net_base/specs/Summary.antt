@@ -14,9 +14,9 @@ use Rattle.net_base.specs.Next.{answered}
 use Rattle.net_base.specs.Numeral.{numeral}
 
 -- a write that counts is one message
-abbrev pub written_in : Event → Reply → ℕ
-written_in (event.Write g text) (reply.Count n) = 1
-written_in _ _ = 0
+abbrev pub writes_counted : Event → Reply → ℕ
+writes_counted (event.Write g text) (reply.Count n) = 1
+writes_counted _ _ = 0
 
 -- the bytes of a write that counts
 abbrev pub bytes_written_in : Event → Reply → ℕ
@@ -24,9 +24,9 @@ bytes_written_in (event.Write g text) (reply.Count n) = length text
 bytes_written_in _ _ = 0
 
 -- a read of a data file that gives at least one byte is one message
-abbrev pub read_in : Event → Reply → ℕ
-read_in (event.Read g count) (reply.Bytes bytes) = if nat_lt 0 (length bytes) then 1 else 0
-read_in _ _ = 0
+abbrev pub reads_counted : Event → Reply → ℕ
+reads_counted (event.Read g count) (reply.Bytes bytes) = if nat_lt 0 (length bytes) then 1 else 0
+reads_counted _ _ = 0
 
 -- the bytes that a read of a data file gives
 abbrev pub bytes_read_in : Event → Reply → ℕ
@@ -47,8 +47,8 @@ pub record Totals : Type 0 where
 abbrev pub totals : List Entry → Totals
 totals h =
     record {
-      written = sum_over written_in h;
-      read = sum_over read_in h;
+      written = sum_over writes_counted h;
+      read = sum_over reads_counted h;
       bytes_written = sum_over bytes_written_in h;
       bytes_read = sum_over bytes_read_in h;
     }

@@ -60,8 +60,8 @@ probe_after Measured (Some probe) now k = Some probe
 probe_after Fixed probe now k = probe
 
 -- message k is sent for the first time
-abbrev pub sends : ℕ → ℕ → Timer → Timer
-sends now k t = record t { probe = probe_after t.timers t.probe now k }
+abbrev pub timer_sends : ℕ → ℕ → Timer → Timer
+timer_sends now k t = record t { probe = probe_after t.timers t.probe now k }
 
 -- the time since a moment, at most 1,000,000,000; 0 where that moment is later
 abbrev pub round_trip : ℕ → ℕ → ℕ
@@ -83,22 +83,22 @@ acks_probe None now k t = t
 acks_probe (Some probe) now k t = if nat_le probe.k k then measures (round_trip now probe.at) t else t
 
 -- the messages up to k are acknowledged: the round trip of the probe is measured, where it is one of them
-abbrev pub acks : ℕ → ℕ → Timer → Timer
-acks now k t = acks_probe t.probe now k t
+abbrev pub timer_acks : ℕ → ℕ → Timer → Timer
+timer_acks now k t = acks_probe t.probe now k t
 
 -- What starts, moves and stops it.
 
 -- the end begins to wait
-abbrev pub starts : ℕ → Timer → Timer
-starts now t = record t { due = Some (now + base t); interval = base t; heard = now }
+abbrev pub timer_starts : ℕ → Timer → Timer
+timer_starts now t = record t { due = Some (now + base t); interval = base t; heard = now }
 
 -- a message came
-abbrev pub hears : ℕ → Timer → Timer
-hears now t = record t { heard = now }
+abbrev pub timer_hears : ℕ → Timer → Timer
+timer_hears now t = record t { heard = now }
 
 -- the other end acknowledged something, and the end still waits or doesn't
-abbrev pub moves : ℕ → Bool → Timer → Timer
-moves now waits t = record t { due = (if waits then Some (now + base t) else None); interval = base t }
+abbrev pub timer_moves : ℕ → Bool → Timer → Timer
+timer_moves now waits t = record t { due = (if waits then Some (now + base t) else None); interval = base t }
 
 -- the end waits for nothing
 abbrev pub stops : Timer → Timer
@@ -129,5 +129,5 @@ ticks_at (Some due) now t =
     then record { says = TimedOut; timer = stops t }
     else record { says = Again; timer = doubles now t })
 
-abbrev pub ticks : ℕ → Timer → Ticked
-ticks now t = ticks_at t.due now t
+abbrev pub timer_ticks : ℕ → Timer → Ticked
+timer_ticks now t = ticks_at t.due now t

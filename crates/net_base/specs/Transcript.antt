@@ -35,8 +35,8 @@ abbrev pub star : List ℕ
 star = codes "*"
 
 -- texts with a newline after each
-abbrev pub lines_of : List (List ℕ) → List ℕ
-lines_of texts = flat_map (λ text. text ++ 10 ∷ []) texts
+abbrev pub as_lines : List (List ℕ) → List ℕ
+as_lines texts = flat_map (λ text. text ++ 10 ∷ []) texts
 
 abbrev pub number_or_dash : Option ℕ → List ℕ
 number_or_dash None = dash
@@ -138,9 +138,9 @@ call_words [] = dash ∷ []
 call_words (call ∷ calls) = calls_of (call ∷ calls)
 
 abbrev pub reply_words : Reply → List (List ℕ)
-reply_words (reply.Lines lines) = codes "lines" ∷ hex_word (lines_of lines) ∷ []
+reply_words (reply.Lines lines) = codes "lines" ∷ hex_word (as_lines lines) ∷ []
 reply_words (reply.CsRefused n) = codes "csrefused" ∷ numeral n ∷ []
-reply_words (reply.Names names) = codes "names" ∷ hex_word (lines_of names) ∷ []
+reply_words (reply.Names names) = codes "names" ∷ hex_word (as_lines names) ∷ []
 reply_words reply.NoFile = codes "nofile" ∷ []
 reply_words reply.BadMode = codes "badmode" ∷ []
 reply_words reply.BadFid = codes "badfid" ∷ []

@@ -19,7 +19,7 @@ use Rattle.net_base.specs.DatagramHeaders.{has_headers}
 use Rattle.net_base.specs.NdbBundle.{reading}
 use Rattle.net_base.specs.Networks.{mask_bits}
 use Rattle.net_base.specs.Remotes.{is_remote_path}
-use Rattle.net_base.specs.Routes.{Route, matches, iface_routes, host_routes}
+use Rattle.net_base.specs.Routes.{Route, route_contains, iface_routes, host_routes}
 use Rattle.net_base.specs.Versions.{are_timed}
 
 -- no two values of the list are alike
@@ -115,7 +115,7 @@ is_route networks l =
     && (is_address l.net
     && ((bit_and l.net l.mask == l.net)
     && (is_address l.gateway
-    && list_any (matches l.gateway) networks)))
+    && list_any (route_contains l.gateway) networks)))
 
 -- both are routes to one network
 abbrev pub same_network : Route → Route → Bool

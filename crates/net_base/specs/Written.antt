@@ -54,7 +54,7 @@ abbrev pub gave : ActorName → Event → With → Reply → Option Given
 gave (name.Dir h p) (event.Grant n g remote lport) with (reply.Granted pair start limit) =
     Some (record { to = record { host = h; proto = p; slot = n; generation = g }; pair = pair })
 gave (name.Dir h p) event.Arrive (with_variants.Packet packet) (reply.Born n g start limit) =
-    Some (record { to = record { host = h; proto = p; slot = n; generation = g }; pair = directory.pair_of packet })
+    Some (record { to = record { host = h; proto = p; slot = n; generation = g }; pair = directory.packet_pair packet })
 gave _ _ with _ = None
 
 -- what an entry gives, by its work and its reply
@@ -105,17 +105,17 @@ abbrev pub read_by : Conversation → Entry → List (List ℕ)
 read_by e x = if is_at e x then read_in e.generation x.event x.reply else []
 
 -- the texts of the writes that count at a conversation, in order
-abbrev pub writes : List Entry → Conversation → List (List ℕ)
-writes h e = flat_map (written_by e) h
+abbrev pub written_texts : List Entry → Conversation → List (List ℕ)
+written_texts h e = flat_map (written_by e) h
 
 -- the texts of the reads that reply bytes at a conversation, in order
-abbrev pub reads : List Entry → Conversation → List (List ℕ)
-reads h e = flat_map (read_by e) h
+abbrev pub read_texts : List Entry → Conversation → List (List ℕ)
+read_texts h e = flat_map (read_by e) h
 
 -- texts one after another
-abbrev pub joined : List (List ℕ) → List ℕ
-joined [] = []
-joined (text ∷ texts) = text ++ joined texts
+abbrev pub joined_texts : List (List ℕ) → List ℕ
+joined_texts [] = []
+joined_texts (text ∷ texts) = text ++ joined_texts texts
 
 -- Ends.
 

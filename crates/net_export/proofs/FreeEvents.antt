@@ -20,10 +20,10 @@ use Rattle.net_base.specs.declared.world.Step.TheVariants as step
 use Rattle.net_base.specs.declared.world.World.{World}
 use Rattle.net_base.specs.ActorStep.{Step}
 use Rattle.net_base.specs.Actors.{Actor, IsConv}
-use Rattle.net_base.specs.Duties.{Duty, duties, put_by, emitted_put, close_calls, follow_up, forwarded, courier_duty, tick_at, ticks, has_come, due_of, conversations, release}
+use Rattle.net_base.specs.Duties.{Duty, duties, put_by, emitted_put, close_calls, follow_up, forwarded, courier_duty, tick_at, owed_ticks, has_come, due_of, conversations, release}
 use Rattle.net_base.specs.Routes.{Way, way, has_address}
 use Rattle.net_base.specs.Scripts.{at_first, position}
-use Rattle.net_base.specs.Steps.{call_names, clone_path, lines_in}
+use Rattle.net_base.specs.Steps.{call_names, clone_path, reply_lines}
 use Rattle.net_base.specs.Versions.{Tuples}
 use Rattle.history_laws.proofs.Shared.{Each, each_any, each_append, each_flat_map, next_event, Fits, IsNamed, IsNextEvent, IsOpened, IsOwn, Says}
 
@@ -78,7 +78,7 @@ courier_free w _ s _ = tt
 tick_free : (actors : ActorName → Actor) (s now : ℕ) (a : ActorName) → Each IsFreeDuty (tick_at actors s now a)
 tick_free actors s now a = either (has_come now (due_of (actors a))) _ [] (tt, tt) tt
 
-ticks_free : (w : World) (actors : ActorName → Actor) (a : ActorName) (s : ℕ) (e : Event) → Each IsFreeDuty (ticks w actors a s e)
+ticks_free : (w : World) (actors : ActorName → Actor) (a : ActorName) (s : ℕ) (e : Event) → Each IsFreeDuty (owed_ticks w actors a s e)
 ticks_free w actors name.Clock s (event.Move now) = each_flat_map IsFreeDuty (tick_at actors s now) (tick_free actors s now) (conversations w)
 ticks_free w actors _ s _ = tt
 
@@ -90,7 +90,7 @@ pub duties_free : (w : World) (actors : ActorName → Actor) (a : ActorName) (s 
     → Each IsFreeDuty (duties w actors a s work step)
 duties_free w actors a s work step =
     each_append IsFreeDuty _ (release a s step.state step.outcome.ended)
-    (each_append IsFreeDuty _ (ticks w actors a s work.event)
+    (each_append IsFreeDuty _ (owed_ticks w actors a s work.event)
     (each_append IsFreeDuty _ (courier_duty w a s step.outcome.taken)
     (each_append IsFreeDuty (emitted_put w a s step.outcome.emit) (follow_up a s work.event work.with step.outcome.reply)
     (emitted_free w a s step.outcome.emit)
@@ -116,7 +116,7 @@ fits_free : Fits FreeAt AnyReply
 fits_free =
     record {
       other = λ a e own. own_free e own;
-      dialled = λ r fine. each_any (λ (line : List ℕ). IsOpened FreeAt (clone_path line)) (λ line a m. tt) (lines_in r);
+      dialled = λ r fine. each_any (λ (line : List ℕ). IsOpened FreeAt (clone_path line)) (λ line a m. tt) (reply_lines r);
     }
 
 says_free : (h : ℕ) (s : ScriptStep) → Says h FreeAt s

@@ -23,7 +23,7 @@ use Rattle.net_base.specs.declared.world.World.{World}
 use Rattle.net_base.specs.ActorStep.{Step}
 use Rattle.net_base.specs.Actors.{Actor, IsConv, actor_step}
 use Rattle.net_base.specs.Directory.{Dir}
-use Rattle.net_base.specs.Duties.{Duty, duties, put_by, emitted_put, close_calls, follow_up, courier_duty, ticks, release}
+use Rattle.net_base.specs.Duties.{Duty, duties, put_by, emitted_put, close_calls, follow_up, courier_duty, owed_ticks, release}
 use Rattle.net_base.specs.Headers.{header}
 use Rattle.net_base.specs.Medium.{Medium}
 use Rattle.net_base.specs.Routes.{Way, way}
@@ -182,7 +182,7 @@ courier_none w (name.Dir h p) s o nothing = refl
 courier_none w (name.Conv h p n) s o nothing = refl
 courier_none w name.Clock s o nothing = refl
 
-ticks_none : (w : World) (actors : ActorName → Actor) (a : ActorName) (s : ℕ) (e : Event) → IsFree e → ticks w actors a s e ≡ []
+ticks_none : (w : World) (actors : ActorName → Actor) (a : ActorName) (s : ℕ) (e : Event) → IsFree e → owed_ticks w actors a s e ≡ []
 ticks_none w actors name.Clock s (event.Move now) free = absurd free
 ticks_none w actors _ s _ free = refl
 
@@ -210,7 +210,7 @@ pub duties_length : (w : World) (actors : ActorName → Actor) (a : ActorName) (
 duties_length w actors a now stamp work s free is =
     let part = is_part w a (actors a) now work s free is in
     in_all (emitted_put w a stamp s.outcome.emit) (follow_up a stamp work.event work.with s.outcome.reply) (courier_duty w a stamp s.outcome.taken)
-    (ticks w actors a stamp work.event)
+    (owed_ticks w actors a stamp work.event)
     (release a stamp s.state s.outcome.ended) _ _ _
     (emitted_length w a stamp s.outcome.emit) (follow_length a stamp work.event work.with s.outcome.reply part.given)
     (courier_none w a stamp s.outcome.taken part.takes)

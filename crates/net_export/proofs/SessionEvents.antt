@@ -16,13 +16,13 @@ use Rattle.net_base.specs.declared.reply.Reply.{Reply}
 use Rattle.net_base.specs.declared.world.Step.{Step}
 use Rattle.net_base.specs.declared.world.Step.TheVariants as step
 use Rattle.net_base.specs.ControlWords as control
-use Rattle.net_base.specs.Paths.{reads, walk, writes}
+use Rattle.net_base.specs.Paths.{mode_reads, walk, mode_writes}
 use Rattle.net_base.specs.Remotes.{is_remote}
-use Rattle.net_base.specs.Scripts.{Kept, heard, kept_after, new_names, own_play, play_by, position, step_play}
-use Rattle.net_base.specs.Steps.{Asking, Asks, Ends, Fid, Finished, Names, Play, Position, Stand, bind, controls, conversation_of, fid_of, if_accepted, is_accepted, is_bound, misuses, on_fid, open_actor, open_event, openable, opened_fid, opens, play_of, position_by, puts, read_event, stands, unbind, uses}
+use Rattle.net_base.specs.Scripts.{Kept, heard_replies, kept_after, new_names, own_play, play_by, position, step_play}
+use Rattle.net_base.specs.Steps.{Asking, Asks, Ends, Fid, Finished, Names, Play, Position, Stand, bind, controls, conversation_of, fid_of, if_accepted, is_accepted, is_bound, misuses, on_fid, open_actor, open_event, openable, opened_fid, opens, play_of, position_by, puts_text, read_event, stands, unbind, uses}
 use Rattle.history_laws.proofs.Shared.{Each, IsNextEvent, Records}
 use Rattle.net_base.specs.declared.ninep.Tmsg.{Tmsg}
-use Rattle.net_base.specs.SessionScript.{IsScript, after, step_of, steps_of}
+use Rattle.net_base.specs.SessionScript.{IsScript, table_next, message_step, steps_of}
 use Rattle.net_base.specs.SessionTable.{Table, opening}
 use Rattle.session_answers.specs.Served.{IsServed}
 use Rattle.session_answers.proofs.Shared.{step_served}
@@ -102,9 +102,9 @@ read_asked h f count file.Status = tt
 read_good : (h : ℕ) (names : Names) (called : List ℕ) (count : ℕ) → Good (play_of h names (step.Read called count))
 read_good h names called count =
     on_found (fid_of called names) (uses h called names)
-    (λ (f : Fid). cond (reads f.mode) (Asks (conversation_of h f) (read_event f count f.file) (λ (r : Reply). Ends names)) (misuses h called names)) (used h called names)
+    (λ (f : Fid). cond (mode_reads f.mode) (Asks (conversation_of h f) (read_event f count f.file) (λ (r : Reply). Ends names)) (misuses h called names)) (used h called names)
     (λ f.
-    either (reads f.mode) (Asks (conversation_of h f) (read_event f count f.file) (λ (r : Reply). Ends names)) (misuses h called names)
+    either (mode_reads f.mode) (Asks (conversation_of h f) (read_event f count f.file) (λ (r : Reply). Ends names)) (misuses h called names)
     (read_asked h f count f.file, λ r fine. tt) (misused h called names))
 
 -- refused or not, it ends
@@ -125,7 +125,7 @@ controlled h names f text (Ok (ctl.Ttl n)) = (tt, λ r fine. ended r names)
 controlled h names f text (Ok (ctl.Tos n)) = (tt, λ r fine. ended r names)
 controlled h names f text (Err fault) = (tt, λ r fine. ended r names)
 
-put : (h : ℕ) (names : Names) (f : Fid) (text : List ℕ) (g : FileName) → Good (puts h f g text (Ends names) (Ends names))
+put : (h : ℕ) (names : Names) (f : Fid) (text : List ℕ) (g : FileName) → Good (puts_text h f g text (Ends names) (Ends names))
 put h names f text file.Ctl = controlled h names f text (control.read text)
 put h names f text file.Data = (tt, λ r fine. ended r names)
 put h names f text file.Err = controlled h names f text (control.read text)
@@ -137,8 +137,8 @@ put h names f text file.Status = controlled h names f text (control.read text)
 write_good : (h : ℕ) (names : Names) (called text : List ℕ) → Good (play_of h names (step.Writex called text))
 write_good h names called text =
     on_found (fid_of called names) (uses h called names)
-    (λ (f : Fid). cond (writes f.mode) (puts h f f.file text (Ends names) (Ends names)) (misuses h called names)) (used h called names)
-    (λ f. either (writes f.mode) (puts h f f.file text (Ends names) (Ends names)) (misuses h called names) (put h names f text f.file) (misused h called names))
+    (λ (f : Fid). cond (mode_writes f.mode) (puts_text h f f.file text (Ends names) (Ends names)) (misuses h called names)) (used h called names)
+    (λ f. either (mode_writes f.mode) (puts_text h f f.file text (Ends names) (Ends names)) (misuses h called names) (put h names f text f.file) (misused h called names))
 
 close_good : (h : ℕ) (names : Names) (called : List ℕ) → Good (play_of h names (step.Close called))
 close_good h names called =
@@ -191,9 +191,9 @@ step_good h k s is = by (find (is_remote k.left) (new_names s))
 next_served : (h : ℕ) (steps : List Step) (k : Kept) (rs : List Reply) → Each IsServed steps → IsNextEvent IsSessionEvent (position h steps k rs).next
 next_served h [] k rs served = tt
 next_served h (s ∷ ss) k rs served =
-    next_by (stands (step_play h k s) rs) (s ∷ ss) (λ (names : Names) (later : List Reply). position h ss (kept_after k s names (heard (step_play h k s) rs)) later)
+    next_by (stands (step_play h k s) rs) (s ∷ ss) (λ (names : Names) (later : List Reply). position h ss (kept_after k s names (heard_replies (step_play h k s) rs)) later)
     (standing (step_play h k s) rs (step_good h k s served.0))
-    (λ names later. next_served h ss (kept_after k s names (heard (step_play h k s) rs)) later served.1)
+    (λ names later. next_served h ss (kept_after k s names (heard_replies (step_play h k s) rs)) later served.1)
 
 some_served : (o : Option Step) (steps : List Step) → ((s : Step) → o ≡ Some s → IsServed s) → Each IsServed steps → Each IsServed (option_to_list o ++ steps)
 some_served None steps one more = more
@@ -201,7 +201,7 @@ some_served (Some s) steps one more = (one s refl, more)
 
 all_served : (table : Table) (ms : List Tmsg) → Each IsServed (steps_of table ms)
 all_served table [] = tt
-all_served table (m ∷ ms) = some_served (step_of table m) (steps_of (after table m) ms) (λ s is. step_served table m s is) (all_served (after table m) ms)
+all_served table (m ∷ ms) = some_served (message_step table m) (steps_of (table_next table m) ms) (λ s is. step_served table m s is) (all_served (table_next table m) ms)
 
 -- what a session records next
 pub next_of_session : (h : ℕ) (bytes : List ℕ) (steps : List Step) (k : Kept) (rs : List Reply) → IsScript bytes steps → IsNextEvent IsSessionEvent (position h steps k rs).next

@@ -15,8 +15,8 @@ use Rattle.net_base.specs.declared.reply.Reply.{Reply}
 use Rattle.net_base.specs.declared.reply.Reply.TheVariants as reply
 use Rattle.net_base.specs.ControlWords as control
 use Rattle.net_base.specs.Exports.{is_dotted}
-use Rattle.net_base.specs.Paths.{reads, walk, writes}
-use Rattle.net_base.specs.Steps.{Asks, Bound, Ends, Fid, Names, Play, bind, conversation_of, controls, ends_with, fid_among, fid_of, if_accepted, is_accepted, is_bound, misuses, on_fid, openable, opened_fid, opens, puts, read_event, unbind, uses, without}
+use Rattle.net_base.specs.Paths.{mode_reads, walk, mode_writes}
+use Rattle.net_base.specs.Steps.{Asks, Bound, Ends, Fid, Names, Play, bind, conversation_of, controls, ends_with, fid_among, fid_of, if_accepted, is_accepted, is_bound, misuses, on_fid, openable, opened_fid, opens, puts_text, read_event, unbind, uses, without}
 use Rattle.net_export.specs.Serving.{IsDotted, goes_on}
 use Rattle.net_base.specs.declared.request.Request.{Request}
 use Rattle.net_base.specs.declared.request.Request.TheVariants as request
@@ -115,10 +115,10 @@ module _ (h : ℕ) (names : Names) (r : Reply) where
       by f false = IsLast _ _ _ refl
 
       found : (o : Option Fid) → Goes h names r names None
-          (on_fid o (uses h called names) (λ (f : Fid). if reads f.mode then ends_with (conversation_of h f)
+          (on_fid o (uses h called names) (λ (f : Fid). if mode_reads f.mode then ends_with (conversation_of h f)
           (read_event f count f.file) names else misuses h called names))
       found None = IsLast _ _ _ refl
-      found (Some f) = by f (reads f.mode)
+      found (Some f) = by f (mode_reads f.mode)
 
   close_goes : (called : List ℕ) → Goes h names r (unbind called names) None (request_play h names (request.Close called))
   close_goes called = found (fid_of called names) refl
@@ -172,8 +172,8 @@ module _ (h : ℕ) (names : Names) (r : Reply) (called : List ℕ) where
   controlled_goes f text (Ok (ctl.Tos n)) is fit = ended _ _ _ (not-true (is_granted r) fit) (same_ends r names)
   controlled_goes f text (Err fault) is fit = ended _ _ _ (not-true (is_granted r) fit) (same_ends r names)
 
-  put_goes : (f : Fid) (to : FileName) (text : List ℕ) → fid_of called names ≡ Some f → fits_play (puts h f to text (Ends names) (Ends names)) r ≡ true
-      → Goes h names r names waits (puts h f to text (Ends names) (Ends names))
+  put_goes : (f : Fid) (to : FileName) (text : List ℕ) → fid_of called names ≡ Some f → fits_play (puts_text h f to text (Ends names) (Ends names)) r ≡ true
+      → Goes h names r names waits (puts_text h f to text (Ends names) (Ends names))
   put_goes f file.Data text is fit = ended _ _ _ (written_no r fit) (same_ends r names)
   put_goes f file.Ctl text is fit = controlled_goes f text (control.read text) is fit
   put_goes f file.Err text is fit = controlled_goes f text (control.read text) is fit
@@ -187,18 +187,18 @@ module _ (h : ℕ) (names : Names) (r : Reply) (called : List ℕ) where
   write_goes text fit = found (fid_of called names) refl fit
     where
       by : (f : Fid) (v : Bool) → fid_of called names ≡ Some f → fits_play
-          (if v then puts h f f.file text (Ends names) (Ends names) else misuses h called names) r ≡ true
-          → Goes h names r names waits (if v then puts h f f.file text (Ends names) (Ends names) else misuses h called names)
+          (if v then puts_text h f f.file text (Ends names) (Ends names) else misuses h called names) r ≡ true
+          → Goes h names r names waits (if v then puts_text h f f.file text (Ends names) (Ends names) else misuses h called names)
       by f true is fit = put_goes f f.file text is fit
       by f false is fit = ended _ _ _ (unopened_no r fit) refl
 
       found : (o : Option Fid) → fid_of called names ≡ o
-          → fits_play (on_fid o (uses h called names) (λ (f : Fid). if writes f.mode then puts h f f.file text (Ends names)
+          → fits_play (on_fid o (uses h called names) (λ (f : Fid). if mode_writes f.mode then puts_text h f f.file text (Ends names)
           (Ends names) else misuses h called names)) r ≡ true
-          → Goes h names r names waits (on_fid o (uses h called names) (λ (f : Fid). if writes f.mode then puts h f f.file text (Ends names)
+          → Goes h names r names waits (on_fid o (uses h called names) (λ (f : Fid). if mode_writes f.mode then puts_text h f f.file text (Ends names)
           (Ends names) else misuses h called names))
       found None none fit = ended _ _ _ (unopened_no r fit) refl
-      found (Some f) is fit = by f (writes f.mode) is fit
+      found (Some f) is fit = by f (mode_writes f.mode) is fit
 
 -- each request of a session goes on so
 pub goes : (h : ℕ) (names : Names) (q : Request) (r : Reply) → IsDotted q → fits_play (request_play h names q) r ≡ true

@@ -8,7 +8,7 @@ use Rattle.net_base.specs.NinepMessages.{IsTmsg, longest, r_bytes}
 use Rattle.net_base.specs.NinepReading.{read_t}
 use Rattle.net_base.specs.Server.{Doing, Gives, doing_of}
 use Rattle.net_base.specs.Session.{State, by_last}
-use Rattle.net_base.specs.SessionAnswers.{Found, found_after, found_by, replied, said}
+use Rattle.net_base.specs.SessionAnswers.{Found, found_after, found_by, replied, said_at_once}
 use Rattle.net_base.specs.SessionScript as script
 use Rattle.net_base.specs.SessionTable.{Table, opening}
 use Rattle.net_base.specs.Steps.{Names, Play}
@@ -31,8 +31,8 @@ pub record Known : Type 0 where
   pub found : Found
 
 abbrev pub after_one : Option Reply → Tmsg → Known → Known
-after_one None m k = record { table = script.after k.table m; found = found_after k.found m }
-after_one (Some r) m k = record { table = script.after k.table m; found = found_by k.table k.found m r }
+after_one None m k = record { table = script.table_next k.table m; found = found_after k.found m }
+after_one (Some r) m k = record { table = script.table_next k.table m; found = found_by k.table k.found m r }
 
 -- after these messages, the last one first
 abbrev pub known_after : List Past → Known
@@ -82,7 +82,7 @@ begins s m st = record s { message = Some m; request = Some (dotted_request (ask
 
 -- a message without a step is answered
 abbrev pub tells : Serving → Tmsg → Serving
-tells s m = given (record s { past = record { message = m; last = None } ∷ s.past }) (r_bytes (said (known_by s).table (known_by s).found m))
+tells s m = given (record s { past = record { message = m; last = None } ∷ s.past }) (r_bytes (said_at_once (known_by s).table (known_by s).found m))
 
 abbrev pub hears_step : Serving → Tmsg → Option Step → Serving
 hears_step s m None = tells s m
@@ -90,7 +90,7 @@ hears_step s m (Some st) = begins s m st
 
 abbrev pub hears_by : Serving → Option Tmsg → Serving
 hears_by s None = given s bad_message
-hears_by s (Some m) = hears_step s m (script.step_of (known_by s).table m)
+hears_by s (Some m) = hears_step s m (script.message_step (known_by s).table m)
 
 -- a text that was read
 abbrev pub hears : Serving → List ℕ → Serving

@@ -1,6 +1,6 @@
 //! The fids for which a file is open.
 ghost use Rattle.std.specs.Prelude.{◌≡◌, ◌≤◌, [], drop, insert, length, OnErr, OnOk};
-ghost use Rattle.net_base.specs.Exports.{put_in, without};
+ghost use Rattle.net_base.specs.Exports.{put_in, without_number};
 ghost use Rattle.net_export.specs.Rows as spec;
 
 use std::alloc::{AllocError, Global};
@@ -62,7 +62,7 @@ impl OpenFids {
 
     /// No file is open for this one any longer.
     pub(crate) fn remove(&mut self, fid: u32)
-        ensures { spec.rising self.new ≡ without fid (spec.rising self.old) }
+        ensures { spec.rising self.new ≡ without_number fid (spec.rising self.old) }
     {
         self.fids.retain(|other| *other != fid);
     }

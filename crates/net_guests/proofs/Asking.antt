@@ -10,9 +10,9 @@ use Rattle.net_base.specs.declared.names.FileName.TheVariants as file
 use Rattle.net_base.specs.declared.names.Node.{Node}
 use Rattle.net_base.specs.declared.names.Node.TheVariants as node
 use Rattle.net_base.specs.ControlWords as control
-use Rattle.net_base.specs.Paths.{reads, walk, writes}
+use Rattle.net_base.specs.Paths.{mode_reads, walk, mode_writes}
 use Rattle.net_base.specs.Stamped.{same_actor}
-use Rattle.net_base.specs.Steps.{Ask, Names, Fid, Play, Asks, Ends, controls, fid_of, is_bound, ls_actor, on_fid, open_actor, openable, puts}
+use Rattle.net_base.specs.Steps.{Ask, Names, Fid, Play, Asks, Ends, controls, fid_of, is_bound, ls_actor, on_fid, open_actor, openable, puts_text}
 use Rattle.net_base.specs.declared.request.Request.{Request}
 use Rattle.net_base.specs.declared.request.Request.TheVariants as request
 use Rattle.net_base.specs.Requests.{head, planned, request_play}
@@ -54,22 +54,22 @@ controls_away h f text (Ok (ctl.Ttl n)) refused next = refl
 controls_away h f text (Ok (ctl.Tos n)) refused next = refl
 controls_away h f text (Err fault) refused next = refl
 
-puts_away : (h : ℕ) (f : Fid) (n : FileName) (text : List ℕ) (refused next : Play) → IsAway (puts h f n text refused next)
+puts_away : (h : ℕ) (f : Fid) (n : FileName) (text : List ℕ) (refused next : Play) → IsAway (puts_text h f n text refused next)
 puts_away h f file.Data text refused next = refl
 puts_away h f _ text refused next = controls_away h f text (control.read text) refused next
 
 request_away : (h : ℕ) (names : Names) (q : Request) → IsAway (request_play h names q)
 request_away h names (request.Open called path m) = either (is_bound names called) _ _ refl (open_away h (openable (walk path) m))
-request_away h names (request.Read called count) = bound_away (fid_of called names) _ _ refl (λ f. either (reads f.mode) _ _ refl refl)
+request_away h names (request.Read called count) = bound_away (fid_of called names) _ _ refl (λ f. either (mode_reads f.mode) _ _ refl refl)
 request_away h names (request.Write called text) =
     bound_away (fid_of called names) _ _ refl
-    (λ f. either (writes f.mode) (puts h f f.file text (Ends names) (Ends names)) _ (puts_away h f f.file text (Ends names) (Ends names)) refl)
+    (λ f. either (mode_writes f.mode) (puts_text h f f.file text (Ends names) (Ends names)) _ (puts_away h f f.file text (Ends names) (Ends names)) refl)
 request_away h names (request.Close called) = bound_away (fid_of called names) _ _ refl (λ f. refl)
 request_away h names (request.Cs query) = refl
 request_away h names (request.Ls path) = ls_away h (walk path)
 request_away h names (request.Until moment) = refl
 request_away h names request.Refresh = refl
-request_away h names (request.Hear called count heard) = bound_away (fid_of called names) _ _ refl (λ f. either (reads f.mode) _ _ refl refl)
+request_away h names (request.Hear called count heard) = bound_away (fid_of called names) _ _ refl (λ f. either (mode_reads f.mode) _ _ refl refl)
 request_away h names (request.Wait called) = bound_away (fid_of called names) _ _ refl (λ f. refl)
 request_away h names (request.Unbound called) = refl
 request_away h names (request.Misuse called) = refl

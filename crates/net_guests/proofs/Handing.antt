@@ -8,7 +8,7 @@ use Rattle.net_base.specs.declared.noted.Noted.{Noted}
 use Rattle.net_base.specs.declared.noted.Number.TheVariants as number
 use Rattle.net_base.specs.declared.world.World.{World}
 use Rattle.net_base.specs.Duties.{Duty}
-use Rattle.net_base.specs.Stamped.{In, at, moment}
+use Rattle.net_base.specs.Stamped.{In, at, moment_noted}
 use Rattle.journal.specs.declared.law.Roster.{Roster}
 use Rattle.journal.specs.declared.tokens.Sight.{Sight}
 use Rattle.journal.specs.Rule.{Held, has_caller, is_caller, same_number}
@@ -82,12 +82,12 @@ module _ (w : World) (r : Roster) (c : ℕ) (p q p' q' : Sight) (h : HandsOver r
       (ap (at (number.Caller v.caller)) h.left_seen ∙ is.guest.all)
 
   -- the moment
-  pub moment_there : (d : ℕ) (ds : List Duty) → IsGuest w r d q ds → moment q'.seen ≡ moment q.seen
+  pub moment_there : (d : ℕ) (ds : List Duty) → IsGuest w r d q ds → moment_noted q'.seen ≡ moment_noted q.seen
   moment_there d ds guest = h.met.moment_is (holds_caller d guest.list q.held guest.held)
 
-  pub moment_over : (ds : List Duty) → IsGuest w r c p ds → moment q'.seen ≡ moment p.seen
+  pub moment_over : (ds : List Duty) → IsGuest w r c p ds → moment_noted q'.seen ≡ moment_noted p.seen
   moment_over ds guest =
-      h.met.moment_that (holds_caller c guest.list h.moved.held (given guest.list guest.held)) ∙ ap moment h.given_seen
+      h.met.moment_that (holds_caller c guest.list h.moved.held (given guest.list guest.held)) ∙ ap moment_noted h.given_seen
 
-  pub moment_here : moment p'.seen ≡ moment p.seen
-  moment_here = ap moment h.left_seen
+  pub moment_here : moment_noted p'.seen ≡ moment_noted p.seen
+  moment_here = ap moment_noted h.left_seen

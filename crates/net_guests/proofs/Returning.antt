@@ -5,7 +5,7 @@ use Rattle.net_base.specs.declared.world.Script.{Script}
 use Rattle.net_base.specs.declared.world.World.{World}
 use Rattle.net_base.specs.Callers.{IsScript, caller_of}
 use Rattle.net_base.specs.Duties.{Duty}
-use Rattle.net_base.specs.Stamped.{moment}
+use Rattle.net_base.specs.Stamped.{moment_noted}
 use Rattle.net_base.specs.Steps.{no_names}
 use Rattle.journal.specs.declared.law.Roster.{Roster}
 use Rattle.journal.specs.declared.tokens.Sight.{Sight}
@@ -85,7 +85,7 @@ module _ (w : World) (r : Roster) (over : Overs w r) (here : Heres w r) (c : ℕ
       }
 
   -- the guest itself, at the clock's moment
-  pub me_visits : StaysKnown w → (v : Visit) → v.caller ≡ c → (ds : List Duty) → v.owed ≡ ds → IsWith w r v s → (now : ℕ) → now ≡ moment s.seen
+  pub me_visits : StaysKnown w → (v : Visit) → v.caller ≡ c → (ds : List Duty) → v.owed ≡ ds → IsWith w r v s → (now : ℕ) → now ≡ moment_noted s.seen
       → now < 2 ^ 63 → (host : ℕ) (touched forgotten : Marks) (k : Calendar) → ((z : Script) → caller_of w v.caller ≡ IsScript z → z.host ≡ host)
       → Covers (own v.caller v.sight) touched → ((es : List (ℕ × Noted)) → Covers es touched → Covers es forgotten)
       → IsKnown w v.sight.seen k → IsHosted w r c now p2 ds host forgotten k

@@ -7,7 +7,7 @@ use Rattle.net_base.specs.declared.world.World.{World}
 use Rattle.net_base.specs.Callers.{IsClock, caller_count, caller_of, clock_number}
 use Rattle.net_base.specs.Net.{Net}
 use Rattle.net_base.specs.Next.{by}
-use Rattle.net_base.specs.Stamped.{at, moment}
+use Rattle.net_base.specs.Stamped.{at, moment_noted}
 use Rattle.net_base.specs.Tasks.{Tasks}
 use Rattle.calm_laws.specs.Could.{is_full}
 use Rattle.journal.specs.declared.law.Roster.{Roster}
@@ -70,8 +70,8 @@ flipped true b x is at = ap not (sym is ∙ at)
 flipped false b x is at = ap not (sym is ∙ at)
 
 -- a moment that isn't the last comes before it
-pub in_end : (moment end now last : ℕ) → moment ≤ end → moment ≡ now → end ≡ last → (now ≡ last → ⊥) → moment < end
-in_end moment end now last within here is apart = omega arith
+pub in_end : (moment_noted end now last : ℕ) → moment_noted ≤ end → moment_noted ≡ now → end ≡ last → (now ≡ last → ⊥) → moment_noted < end
+in_end moment_noted end now last within here is apart = omega arith
 
 -- the history by a look
 pub guests_seen : (ts : Tasks) (w : World) (r : Roster) (p q : Sight) (ss : List Standing) (front : ℕ) → AllStand ts w r p ss → IsRosterOf w r → Looked r p front q → IsOfGuests w r p.seen

@@ -17,7 +17,7 @@ use Rattle.net_base.specs.Duties.{Duty, duties}
 use Rattle.net_base.specs.Legal.{IsAsked, IsInTimeBy}
 use Rattle.net_base.specs.Net.{Net}
 use Rattle.net_base.specs.Next.{next_by}
-use Rattle.net_base.specs.Stamped.{at, at_from, matches, moment}
+use Rattle.net_base.specs.Stamped.{at, at_from, matches, moment_noted}
 use Rattle.net_base.specs.Tasks.{Tasks}
 use Rattle.journal.specs.declared.law.Roster.{Roster}
 use Rattle.journal.specs.declared.tokens.Sight.{Sight}
@@ -97,11 +97,11 @@ module _ (ts : Tasks) (w : World) (r : Roster) (c now m : ℕ) (p p' : Sight) (d
 
   -- its moment is the new one
   pub moment_on : ((log : List Noted) (x : Noted) → noted_net w (log ++ x ∷ []) ≡ next_noted w (noted_net w log) x)
-      → ((log : List Noted) → (noted_net w log).moment ≡ moment log) → m ≡ moment p'.seen
+      → ((log : List Noted) → (noted_net w log).moment ≡ moment_noted log) → m ≡ moment_noted p'.seen
   moment_on grows here =
       sym (moment_next (noted_net w d.past) (step_by w (noted_net w d.past) entry))
       ∙ (ap (λ (n : Net). n.moment) (sym (grows d.past entry))
-      ∙ (here (d.past ++ entry ∷ []) ∙ ap moment (sym d.seen)))
+      ∙ (here (d.past ++ entry ∷ []) ∙ ap moment_noted (sym d.seen)))
 
   -- another caller is with the pass still
   others_on : (k : ℕ) (es : List Duty) → (k == c) ≡ false → StaysGuest w r k p es p' → IsGuest w r k p' es × Stays w k p p'
@@ -117,7 +117,7 @@ module _ (ts : Tasks) (w : World) (r : Roster) (c now m : ℕ) (p p' : Sight) (d
 
   pub leaves_moved : MovesOwe
       → ((log : List Noted) (x : Noted) → noted_net w (log ++ x ∷ []) ≡ next_noted w (noted_net w log) x)
-      → ((log : List Noted) → (noted_net w log).moment ≡ moment log)
+      → ((log : List Noted) → (noted_net w log).moment ≡ moment_noted log)
       → ((k : ℕ) (es : List Duty) → (c == k) ≡ false → IsGuest w r k p es → StaysGuest w r k p es p')
       → HasRoom c p → IsInTimeBy ts (noted_net w p.seen) w (event.Move m)
       → (dues : List Due) → dues ≡ dues_of w (noted_net w p.seen).actors → (ds' : List Duty) → ds' ≡ ds ++ ticks_of stamp m dues

@@ -16,7 +16,7 @@ use Rattle.net_base.specs.Calm.{unfinished_by}
 use Rattle.net_base.specs.Net.{Net}
 use Rattle.net_base.specs.Next.{is_left, is_unfinished_by, next_of_by, place_next, zone_of}
 use Rattle.net_base.specs.Stamped.{In}
-use Rattle.net_base.specs.Scripts.{Kept, at_first, heard, kept_after, position, step_play}
+use Rattle.net_base.specs.Scripts.{Kept, at_first, heard_replies, kept_after, position, step_play}
 use Rattle.net_base.specs.Steps.{Names, Stand, Asking, Finished, position_by, stands}
 use Rattle.net_base.specs.Tasks.{Asking as OwnAsking, Tasks}
 use Rattle.net_base.specs.Versions.{Tuples}
@@ -34,13 +34,13 @@ some_left n = lt-ltb 0 (suc n) (omega arith)
 
 left_is : (h : ℕ) (ss : List Step) (k : Kept) (rs : List Reply) → nat_lt 0 (length (position h ss k rs).left) ≡ is_some (position h ss k rs).next
 left_is h [] k rs = refl
-left_is h (s ∷ ss) k rs = by_stand (stands (step_play h k s) rs) (λ after later. left_is h ss (kept_after k s after (heard (step_play h k s) rs)) later)
+left_is h (s ∷ ss) k rs = by_stand (stands (step_play h k s) rs) (λ after later. left_is h ss (kept_after k s after (heard_replies (step_play h k s) rs)) later)
   where
     by_stand : (t : Stand)
         → ((after : Names) (later : List Reply)
-        → nat_lt 0 (length (position h ss (kept_after k s after (heard (step_play h k s) rs)) later).left) ≡ is_some (position h ss (kept_after k s after (heard (step_play h k s) rs)) later).next)
-        → nat_lt 0 (length (position_by t (s ∷ ss) (λ (after : Names) (later : List Reply). position h ss (kept_after k s after (heard (step_play h k s) rs)) later)).left)
-        ≡ is_some (position_by t (s ∷ ss) (λ (after : Names) (later : List Reply). position h ss (kept_after k s after (heard (step_play h k s) rs)) later)).next
+        → nat_lt 0 (length (position h ss (kept_after k s after (heard_replies (step_play h k s) rs)) later).left) ≡ is_some (position h ss (kept_after k s after (heard_replies (step_play h k s) rs)) later).next)
+        → nat_lt 0 (length (position_by t (s ∷ ss) (λ (after : Names) (later : List Reply). position h ss (kept_after k s after (heard_replies (step_play h k s) rs)) later)).left)
+        ≡ is_some (position_by t (s ∷ ss) (λ (after : Names) (later : List Reply). position h ss (kept_after k s after (heard_replies (step_play h k s) rs)) later)).next
     by_stand (Asking ask) rest = some_left (length ss)
     by_stand (Finished after later) rest = rest after later
 

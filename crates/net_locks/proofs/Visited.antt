@@ -10,7 +10,7 @@ use Rattle.net_base.specs.declared.noted.Noted.{Noted}
 use Rattle.net_base.specs.declared.world.World.{World}
 use Rattle.net_base.specs.Duties as spec
 use Rattle.net_base.specs.Duties.{Duty}
-use Rattle.net_base.specs.Stamped.{moment, same_actor}
+use Rattle.net_base.specs.Stamped.{moment_noted, same_actor}
 use Rattle.net_base.specs.World.{is_moment}
 use Rattle.net_base.specs.Tasks.{Tasks}
 use Rattle.journal.specs.declared.law.Roster.{Roster}
@@ -41,7 +41,7 @@ visitor b q t k = record { bearer = b; duties = q; touched = t; calendar = k }
 
 module _ {J : Type 0} (w : World) (r : Roster) (b b' : Bearer J) (same : IsSameBearer b b') where
   -- what is known of the caller is known of the bearer
-  pub is_visitor : (q : Queue) (t : Marks) (k : Calendar) → IsGuest w r b.caller b'.pass q.list → b'.now ≡ moment b'.pass.seen → b.now < 2 ^ 63
+  pub is_visitor : (q : Queue) (t : Marks) (k : Calendar) → IsGuest w r b.caller b'.pass q.list → b'.now ≡ moment_noted b'.pass.seen → b.now < 2 ^ 63
       → Covers (own b.caller b'.pass) t → IsKnown w b'.pass.seen k → IsVisitor w r (visitor b' q t k)
   is_visitor q t k guest here early covers known =
       record {
@@ -53,7 +53,7 @@ module _ {J : Type 0} (w : World) (r : Roster) (b b' : Bearer J) (same : IsSameB
       }
 
 module _ {J : Type 0} (ts : Tasks) (w : World) (r : Roster) (a : ActorName) (work : Work) (cites : Option ℕ) (v : Visitor J) (is : IsVisitor w r v) (b' : Bearer J)
-    (same : IsSameBearer v.bearer b') (here : b'.now ≡ moment b'.pass.seen) where
+    (same : IsSameBearer v.bearer b') (here : b'.now ≡ moment_noted b'.pass.seen) where
   -- an entry was recorded, and what it owes is owed after the others
   module _ (stamp : ℕ) (o : Outcome) (d : Does ts w r a work cites v.bearer v.duties.list stamp o b') (room : HasRoom v.bearer.caller v.bearer.pass)
       (other : same_actor a name.Clock ≡ false) (ks : List HostWays) (ways : AreWaysOfWorld w ks) (q q' : Queue) (owes : Owes ks a stamp work o q q')

@@ -10,7 +10,7 @@ use Rattle.net_base.specs.Callers.{caller_count}
 use Rattle.net_base.specs.Calm.{done_by, limited_by, movable_by, stopped_by, target_by}
 use Rattle.net_base.specs.Duties.{Duty}
 use Rattle.net_base.specs.Net.{Net}
-use Rattle.net_base.specs.Stamped.{moment}
+use Rattle.net_base.specs.Stamped.{moment_noted}
 use Rattle.net_base.specs.Tasks.{Tasks}
 use Rattle.calm_laws.specs.Could.{could}
 use Rattle.journal.specs.declared.law.Roster.{Roster}
@@ -61,7 +61,7 @@ pub record LeavesMoved (ts : Tasks) (w : World) (r : Roster) (c now m : ℕ) (p 
   pub guest : IsGuest w r c p' ds'
   pub entry : MovesTo ts w c now m p ds p' ds'
   pub free : ds ≡ []
-  pub here : m ≡ moment p'.seen
+  pub here : m ≡ moment_noted p'.seen
   pub covers : (t : Marks) → Covers (own c p) t → Covers (own c p') t
   pub others : (k : ℕ) (es : List Duty) → IsGuest w r k p es → (k == c) ≡ false → IsGuest w r k p' es × Stays w k p p'
 

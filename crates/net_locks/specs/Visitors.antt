@@ -8,7 +8,7 @@ use Rattle.net_base.specs.declared.history.Work.{Work}
 use Rattle.net_base.specs.declared.world.World.{World}
 use Rattle.net_base.specs.Duties.{Duty}
 use Rattle.net_base.specs.Legal.{IsInTimeBy}
-use Rattle.net_base.specs.Stamped.{moment}
+use Rattle.net_base.specs.Stamped.{moment_noted}
 use Rattle.net_base.specs.Tasks.{Tasks}
 use Rattle.journal.specs.declared.law.Roster.{Roster}
 use Rattle.journal.specs.declared.tokens.Sight.{Sight}
@@ -26,7 +26,7 @@ use Rattle.net_locks.specs.Turns.{Turned, own}
 -- a caller knows its duties and the moment, at which conversations it recorded something, and when conversations were due
 pub record IsVisit (w : World) (r : Roster) (c now : ℕ) (p : Sight) (ds : List Duty) (m : Marks) (k : Calendar) : Type 0 where
   pub guest : IsGuest w r c p ds
-  pub here : now ≡ moment p.seen
+  pub here : now ≡ moment_noted p.seen
   pub early : now < 2 ^ 63
   pub covers : Covers (own c p) m
   pub known : IsKnown w p.seen k

@@ -7,7 +7,7 @@ ghost use Rattle.net_base.specs.Actors.{actor_step};
 ghost use Rattle.net_base.specs.Callers.{IsClock, caller_of};
 ghost use Rattle.net_base.specs.Calm as calm;
 ghost use Rattle.net_base.specs.Legal.{IsInTimeBy};
-ghost use Rattle.net_base.specs.Stamped.{moment as moment_of};
+ghost use Rattle.net_base.specs.Stamped.{moment_noted as moment_of};
 ghost use Rattle.calm_laws.specs.Could.{could, is_full};
 ghost use Rattle.journal.specs.Rule.{Lawful};
 ghost use Rattle.journal.specs.Tokens.{HoldsAll};

@@ -5,7 +5,7 @@ ghost use Rattle.net_base.specs.declared.actor.ActorName.TheVariants.{Clock};
 ghost use Rattle.net_base.specs.declared.history.Work.{Work as AnyWork};
 ghost use Rattle.net_base.specs.declared.noted.Noted.{Noted};
 ghost use Rattle.net_base.specs.Duties.{Duty as AnyDuty};
-ghost use Rattle.net_base.specs.Stamped.{moment, same_actor};
+ghost use Rattle.net_base.specs.Stamped.{moment_noted, same_actor};
 ghost use Rattle.duties.specs.Owing.{Owes, most_owed};
 ghost use Rattle.duties.specs.Queue.{work_of_duty};
 ghost use Rattle.guest_laws.specs.Guests.{IsGuest, IsTurn};
@@ -126,10 +126,10 @@ impl<J: Naming + Placing> Locks<J, WorldActor<J>> {
         requires guest { IsGuest J.world J.run.roster bearer.old.caller bearer.old.pass duties.now.list }
         requires some { (d : AnyDuty) × (slice_get duties.now.list 0 ≡ Some d) }
         requires room { HasRoom bearer.old.caller bearer.old.pass }
-        requires here { bearer.old.now ≡ moment bearer.old.pass.seen }
+        requires here { bearer.old.now ≡ moment_noted bearer.old.pass.seen }
         requires early { bearer.old.now < 2 ^ 63 }
         ensures same { IsSameBearer bearer.old bearer.new }
-        ensures here { bearer.new.now ≡ moment bearer.new.pass.seen }
+        ensures here { bearer.new.now ≡ moment_noted bearer.new.pass.seen }
         ensures attempted { (d : AnyDuty) → slice_get duties.now.list 0 ≡ Some d
             → Attempted J.tasks J.world J.run.roster d.actor (work_of_duty d) (Some d.cites) bearer.old result bearer.new }
     {
@@ -153,11 +153,11 @@ impl<J: Naming + Placing> Locks<J, WorldActor<J>> {
     ) -> Result<(u64, Outcome), Turn>
         requires guest { (ds : List AnyDuty) × IsGuest J.world J.run.roster bearer.old.caller bearer.old.pass ds }
         requires room { HasRoom bearer.old.caller bearer.old.pass }
-        requires here { bearer.old.now ≡ moment bearer.old.pass.seen }
+        requires here { bearer.old.now ≡ moment_noted bearer.old.pass.seen }
         requires early { bearer.old.now < 2 ^ 63 }
         requires other { same_actor actor Clock ≡ false }
         ensures same { IsSameBearer bearer.old bearer.new }
-        ensures here { bearer.new.now ≡ moment bearer.new.pass.seen }
+        ensures here { bearer.new.now ≡ moment_noted bearer.new.pass.seen }
         ensures attempted { Attempted J.tasks J.world J.run.roster actor work.now cites bearer.old result bearer.new }
     {
         few_calls_wait();

@@ -10,7 +10,7 @@ use Rattle.net_base.specs.declared.address.Proto.{Proto}
 use Rattle.net_base.specs.Addresses.{read_digits, within, read_byte, read_port, join_bytes, join_words, read_address, address_text, parts_at}
 use Rattle.net_base.specs.Networks.{Network, own_networks, is_on}
 use Rattle.net_base.specs.Search.{all_beside}
-use Rattle.net_base.specs.Cs.{CsAnswer, Lines, Query, read_query, answer_read, answer_query, cs_list, refused_where_empty, nets_of, proto_name, host_words, address_texts, host_addresses, word_addresses, is_numeric, name_attr, once_each, named_ports, ports_of, cs_line, lines_of, is_any}
+use Rattle.net_base.specs.Cs.{CsAnswer, Lines, Query, read_query, answer_read, answer_query, cs_list, refused_where_empty, nets_of, proto_name, host_words, address_texts, host_addresses, word_addresses, is_numeric, name_attr, once_each, named_ports, ports_of, cs_line, address_lines, is_any}
 use Rattle.net_model.specs.CsOrder.{Dials, MayPrecede, OnFirst}
 use Rattle.net_base.proofs.Shared.{IsWithout}
 use Rattle.history_laws.proofs.Shared.{Each, Later, each_weaker, each_any, each_both, each_append, each_map, each_filter, each_passes, each_filter_map, each_flat_map, later_append, later_filter, later_map, later_flat_map, pairs_from_later, later_from_pairs}
@@ -210,7 +210,7 @@ cross_lines R net other_net text later gives ports others small low =
     (each_weaker (λ p. p < 2 ^ 16) (λ other. R (cs_line net text port) (cs_line other_net later other)) (λ other room. gives port other fits room) others low))
     ports small)
 
-at_net : (db : List (List (List NdbPair))) (service : List ℕ) (R S : List ℕ → List ℕ → Type 0) → Relates R S → (texts : List (List ℕ)) → Each Clean texts → Later S texts → (net : Proto) → Later R (lines_of db service texts net)
+at_net : (db : List (List (List NdbPair))) (service : List ℕ) (R S : List ℕ → List ℕ → Type 0) → Relates R S → (texts : List (List ℕ)) → Each Clean texts → Later S texts → (net : Proto) → Later R (address_lines db service texts net)
 at_net db service R S relates texts clean all net =
     later_flat_map R S Clean (λ text. map (cs_line net text) (ports_of db service net))
     (λ text is_clean. later_map R (λ p q. p ≢ q) (λ p. p < 2 ^ 16) (cs_line net text)
@@ -222,27 +222,27 @@ at_net db service R S relates texts clean all net =
     texts clean all
 
 -- each line of one net against each of another
-cross_texts : (db : List (List (List NdbPair))) (service : List ℕ) (R S : List ℕ → List ℕ → Type 0) → Relates R S → (net other_net : Proto) → net ≢ other_net → (text : List ℕ) → Clean text → (texts : List (List ℕ)) → Each Clean texts → Each (λ line. Each (R line) (lines_of db service texts other_net)) (map (cs_line net text) (ports_of db service net))
+cross_texts : (db : List (List (List NdbPair))) (service : List ℕ) (R S : List ℕ → List ℕ → Type 0) → Relates R S → (net other_net : Proto) → net ≢ other_net → (text : List ℕ) → Clean text → (texts : List (List ℕ)) → Each Clean texts → Each (λ line. Each (R line) (address_lines db service texts other_net)) (map (cs_line net text) (ports_of db service net))
 cross_texts db service R S relates net other_net apart text clean [] all =
     each_any (λ line. Each (R line) []) (λ line. tt) (map (cs_line net text) (ports_of db service net))
 cross_texts db service R S relates net other_net apart text clean (later ∷ texts) all =
-    each_both (λ line. Each (R line) (map (cs_line other_net later) (ports_of db service other_net))) (λ line. Each (R line) (lines_of db service texts other_net)) (λ line. Each (R line) (lines_of db service (later ∷ texts) other_net))
-    (λ line here rest. each_append (R line) (map (cs_line other_net later) (ports_of db service other_net)) (lines_of db service texts other_net) here rest)
+    each_both (λ line. Each (R line) (map (cs_line other_net later) (ports_of db service other_net))) (λ line. Each (R line) (address_lines db service texts other_net)) (λ line. Each (R line) (address_lines db service (later ∷ texts) other_net))
+    (λ line here rest. each_append (R line) (map (cs_line other_net later) (ports_of db service other_net)) (address_lines db service texts other_net) here rest)
     (map (cs_line net text) (ports_of db service net))
     (cross_lines R net other_net text later (λ p q small low. relates.nets net other_net text later p q apart clean all.0 small low)
     (ports_of db service net) (ports_of db service other_net) (ports_small db service net) (ports_small db service other_net))
     (cross_texts db service R S relates net other_net apart text clean texts all.1)
 
-cross_nets : (db : List (List (List NdbPair))) (service : List ℕ) (R S : List ℕ → List ℕ → Type 0) → Relates R S → (net other_net : Proto) → net ≢ other_net → (fronts texts : List (List ℕ)) → Each Clean fronts → Each Clean texts → Each (λ line. Each (R line) (lines_of db service texts other_net)) (lines_of db service fronts net)
+cross_nets : (db : List (List (List NdbPair))) (service : List ℕ) (R S : List ℕ → List ℕ → Type 0) → Relates R S → (net other_net : Proto) → net ≢ other_net → (fronts texts : List (List ℕ)) → Each Clean fronts → Each Clean texts → Each (λ line. Each (R line) (address_lines db service texts other_net)) (address_lines db service fronts net)
 cross_nets db service R S relates net other_net apart [] texts clean all = tt
 cross_nets db service R S relates net other_net apart (text ∷ fronts) texts clean all =
-    each_append (λ line. Each (R line) (lines_of db service texts other_net)) (map (cs_line net text) (ports_of db service net)) (lines_of db service fronts net)
+    each_append (λ line. Each (R line) (address_lines db service texts other_net)) (map (cs_line net text) (ports_of db service net)) (address_lines db service fronts net)
     (cross_texts db service R S relates net other_net apart text clean.0 texts all)
     (cross_nets db service R S relates net other_net apart fronts texts clean.1 all)
 
-all_lines : (db : List (List (List NdbPair))) (service : List ℕ) (R S : List ℕ → List ℕ → Type 0) → Relates R S → (texts : List (List ℕ)) → Each Clean texts → Later S texts → (nets : List Proto) → Later (λ net other. net ≢ other) nets → Later R (flat_map (lines_of db service texts) nets)
+all_lines : (db : List (List (List NdbPair))) (service : List ℕ) (R S : List ℕ → List ℕ → Type 0) → Relates R S → (texts : List (List ℕ)) → Each Clean texts → Later S texts → (nets : List Proto) → Later (λ net other. net ≢ other) nets → Later R (flat_map (address_lines db service texts) nets)
 all_lines db service R S relates texts clean all nets apart =
-    later_flat_map R (λ net other. net ≢ other) (λ net. Unit {0}) (lines_of db service texts)
+    later_flat_map R (λ net other. net ≢ other) (λ net. Unit {0}) (address_lines db service texts)
     (λ net _. at_net db service R S relates texts clean all net)
     (λ net other _ _ differ. cross_nets db service R S relates net other differ texts texts clean clean)
     nets (each_any (λ net. Unit {0}) (λ net. tt) nets) apart
@@ -252,11 +252,11 @@ past_test : {X : Type 0} (number : ℕ) (xs : List X) (answer : CsAnswer) (lines
 past_test number [] answer lines e = absurd cc
 past_test number (x ∷ xs) answer lines e = e
 
-lines_are : (db : List (List (List NdbPair))) (me : List ℕ) (nets : List Proto) (query : Query) (lines : List (List ℕ)) → answer_query db me nets query ≡ Lines lines → flat_map (lines_of db query.service (address_texts db me query.host)) (nets_of nets query.net) ≡ lines
+lines_are : (db : List (List (List NdbPair))) (me : List ℕ) (nets : List Proto) (query : Query) (lines : List (List ℕ)) → answer_query db me nets query ≡ Lines lines → flat_map (address_lines db query.service (address_texts db me query.host)) (nets_of nets query.net) ≡ lines
 lines_are db me nets query lines e =
     let chosen = nets_of nets query.net in
     let texts = address_texts db me query.host in
-    let all = Lines (flat_map (lines_of db query.service texts) chosen) in
+    let all = Lines (flat_map (address_lines db query.service texts) chosen) in
     let with_ports = refused_where_empty 4 (flat_map (ports_of db query.service) chosen) all in
     let with_texts = refused_where_empty 3 texts with_ports in
     let with_words = refused_where_empty 5 (host_words db me query.host) with_texts in

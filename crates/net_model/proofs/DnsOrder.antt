@@ -27,18 +27,18 @@ use Rattle.net_base.specs.ControlWords as control
 use Rattle.net_base.specs.DatagramHeaders.{text_behind}
 use Rattle.net_base.specs.DomainAnswers.{dns_answer}
 use Rattle.net_base.specs.Callers.{IsScript, caller_of}
-use Rattle.net_base.specs.Exports.{Own, and_then, asks, by_text, closes_each, dotted_fid, dotted_step, exported, exports, is_dotted, most_requests, own_of, serves_text, sharing, then_play, unheard, Sharing}
-use Rattle.net_base.specs.Imports.{attach_message, clunk_message, is_open, is_version, is_whole, longest_text, open_message, opens_remote, read_message, sends, sends_by, sends_for, sends_once, version_message, walk_message, write_message}
+use Rattle.net_base.specs.Exports.{Own, and_then, asks_on, by_text, closes_each, dotted_fid, dotted_step, exported, exports, is_dotted, most_requests, own_of, serves_text, sharing, then_play, unheard, Sharing}
+use Rattle.net_base.specs.Imports.{attach_message, clunk_message, is_open, is_version, is_whole, longest_text, open_message, opens_remote, read_message, sends_message, sends_by, sends_for, sends_once, version_message, walk_message, write_message}
 use Rattle.net_base.specs.Legal.{IsAsked, IsLegal, MayFollow, asked_by, cites_of}
 use Rattle.net_base.specs.Net.{owed}
-use Rattle.net_base.specs.Next.{finished_by, next, own_entries, own_replies, zone_of}
+use Rattle.net_base.specs.Next.{finished_by, next_recorded, own_entries, own_replies, zone_of}
 use Rattle.net_base.specs.NinepReading.{read_t}
-use Rattle.net_base.specs.Paths.{reads, walk, writes}
+use Rattle.net_base.specs.Paths.{mode_reads, walk, mode_writes}
 use Rattle.net_base.specs.Remotes.{free_fid, is_remote, is_remote_path, remote_of}
-use Rattle.net_base.specs.Scripts.{Kept, at_first, heard, kept_after, new_names, own_play, play_by, position, step_play}
+use Rattle.net_base.specs.Scripts.{Kept, at_first, heard_replies, kept_after, new_names, own_play, play_by, position, step_play}
 use Rattle.net_base.specs.Server.{Doing, Does, Gives, doing_of}
 use Rattle.net_base.specs.Session.{State, by_last, serves_by}
-use Rattle.net_base.specs.SessionScript.{step_of}
+use Rattle.net_base.specs.SessionScript.{message_step}
 use Rattle.net_base.specs.Steps as s
 use Rattle.net_base.specs.Steps.{Ask, Names, Fid, Play, Asks, Ends, Position, Stand, Asking, Finished, bytes_in, fid_of, is_accepted, is_bound, on_fid, opened_fid, play_of, position_by, stands}
 use Rattle.net_base.specs.Versions.{Tuples}
@@ -54,59 +54,59 @@ use Rattle.net_model.proofs.OwnEntries.{keeps_script}
 -- wherever the play ends, it leaves this database
 abbrev Leaves : Tuples → Play → Type 0
 Leaves z (Ends names) = names.zone ≡ z
-Leaves z (Asks a e next) = (r : Reply) → Leaves z (next r)
+Leaves z (Asks a e next_recorded) = (r : Reply) → Leaves z (next_recorded r)
 
 module _ (z : Tuples) (h : ℕ) where
   either : (b : Bool) (p q : Play) → Leaves z p → Leaves z q → Leaves z (if b then p else q)
   either true p q yes_p yes_q = yes_p
   either false p q yes_p yes_q = yes_q
 
-  on : (o : Option Fid) (p : Play) (next : Fid → Play) → Leaves z p → ((f : Fid) → Leaves z (next f)) → Leaves z (on_fid o p next)
-  on None p next refused found = refused
-  on (Some f) p next refused found = found f
+  on : (o : Option Fid) (p : Play) (next_recorded : Fid → Play) → Leaves z p → ((f : Fid) → Leaves z (next_recorded f)) → Leaves z (on_fid o p next_recorded)
+  on None p next_recorded refused found = refused
+  on (Some f) p next_recorded refused found = found f
 
   new : (called : List ℕ) (names : Names) (p : Play) → names.zone ≡ z → Leaves z p → Leaves z (s.with_new h called names p)
   new called names p is leaves = either (is_bound names called) (s.uses h called names) p (λ r. is) leaves
 
-  bound : (called : List ℕ) (names : Names) (next : Fid → Play) → names.zone ≡ z → ((f : Fid) → Leaves z (next f)) → Leaves z (s.with_bound h called names next)
-  bound called names next is leaves = on (fid_of called names) (s.uses h called names) next (λ r. is) leaves
+  bound : (called : List ℕ) (names : Names) (next_recorded : Fid → Play) → names.zone ≡ z → ((f : Fid) → Leaves z (next_recorded f)) → Leaves z (s.with_bound h called names next_recorded)
+  bound called names next_recorded is leaves = on (fid_of called names) (s.uses h called names) next_recorded (λ r. is) leaves
 
-  readable : (called : List ℕ) (names : Names) (next : Fid → Play) → names.zone ≡ z → ((f : Fid) → Leaves z (next f)) → Leaves z (s.with_readable h called names next)
-  readable called names next is leaves =
-      bound called names (λ (f : Fid). if reads f.mode then next f else s.misuses h called names) is
-      (λ f. either (reads f.mode) (next f) (s.misuses h called names) (leaves f) (λ r. is))
+  readable : (called : List ℕ) (names : Names) (next_recorded : Fid → Play) → names.zone ≡ z → ((f : Fid) → Leaves z (next_recorded f)) → Leaves z (s.with_readable h called names next_recorded)
+  readable called names next_recorded is leaves =
+      bound called names (λ (f : Fid). if mode_reads f.mode then next_recorded f else s.misuses h called names) is
+      (λ f. either (mode_reads f.mode) (next_recorded f) (s.misuses h called names) (leaves f) (λ r. is))
 
-  writable : (called : List ℕ) (names : Names) (next : Fid → Play) → names.zone ≡ z → ((f : Fid) → Leaves z (next f)) → Leaves z (s.with_writable h called names next)
-  writable called names next is leaves =
-      bound called names (λ (f : Fid). if writes f.mode then next f else s.misuses h called names) is
-      (λ f. either (writes f.mode) (next f) (s.misuses h called names) (leaves f) (λ r. is))
+  writable : (called : List ℕ) (names : Names) (next_recorded : Fid → Play) → names.zone ≡ z → ((f : Fid) → Leaves z (next_recorded f)) → Leaves z (s.with_writable h called names next_recorded)
+  writable called names next_recorded is leaves =
+      bound called names (λ (f : Fid). if mode_writes f.mode then next_recorded f else s.misuses h called names) is
+      (λ f. either (mode_writes f.mode) (next_recorded f) (s.misuses h called names) (leaves f) (λ r. is))
 
   accepted : (p q : Play) → Leaves z p → Leaves z q → (r : Reply) → Leaves z (s.if_accepted r p q)
   accepted p q yes_p yes_q r = either (is_accepted r) p q yes_p yes_q
 
-  opens : (path : List ℕ) (m : Mode) (n : Option Node) (p : Play) (next : Fid → Play) → Leaves z p → ((f : Fid) → Leaves z (next f)) → Leaves z (s.opens_node h path m n p next)
-  opens path m n p next refused found = λ r. on (opened_fid m n r) p next refused found
+  opens : (path : List ℕ) (m : Mode) (n : Option Node) (p : Play) (next_recorded : Fid → Play) → Leaves z p → ((f : Fid) → Leaves z (next_recorded f)) → Leaves z (s.opens_node h path m n p next_recorded)
+  opens path m n p next_recorded refused found = λ r. on (opened_fid m n r) p next_recorded refused found
 
   controls : (f : Fid) (text : List ℕ) (c : Result Ctl ℕ) (p q : Play) → Leaves z p → Leaves z q → Leaves z (s.controls h f text c p q)
-  controls f text (Ok (ctl.Connect remote lport)) p q refused next =
-      λ granted. accepted (Asks (s.conversation_of h f) (event.Await f.generation) (λ (r : Reply). s.if_accepted r q p)) p (λ r. accepted q p next refused r) refused granted
-  controls f text (Ok (ctl.Announce ip port)) p q refused next = λ r. accepted q p next refused r
-  controls f text (Ok (ctl.Bind port)) p q refused next = λ r. accepted q p next refused r
-  controls f text (Ok ctl.Hangup) p q refused next = λ r. accepted q p next refused r
-  controls f text (Ok (ctl.Ttl n)) p q refused next = λ r. accepted q p next refused r
-  controls f text (Ok (ctl.Tos n)) p q refused next = λ r. accepted q p next refused r
-  controls f text (Err fault) p q refused next = λ r. accepted q p next refused r
+  controls f text (Ok (ctl.Connect remote lport)) p q refused next_recorded =
+      λ granted. accepted (Asks (s.conversation_of h f) (event.Await f.generation) (λ (r : Reply). s.if_accepted r q p)) p (λ r. accepted q p next_recorded refused r) refused granted
+  controls f text (Ok (ctl.Announce ip port)) p q refused next_recorded = λ r. accepted q p next_recorded refused r
+  controls f text (Ok (ctl.Bind port)) p q refused next_recorded = λ r. accepted q p next_recorded refused r
+  controls f text (Ok ctl.Hangup) p q refused next_recorded = λ r. accepted q p next_recorded refused r
+  controls f text (Ok (ctl.Ttl n)) p q refused next_recorded = λ r. accepted q p next_recorded refused r
+  controls f text (Ok (ctl.Tos n)) p q refused next_recorded = λ r. accepted q p next_recorded refused r
+  controls f text (Err fault) p q refused next_recorded = λ r. accepted q p next_recorded refused r
 
-  puts : (f : Fid) (t : FileName) (text : List ℕ) (p q : Play) → Leaves z p → Leaves z q → Leaves z (s.puts h f t text p q)
-  puts f file.Data text p q refused next = λ r. accepted q p next refused r
-  puts f _ text p q refused next = controls f text (control.read text) p q refused next
+  puts : (f : Fid) (t : FileName) (text : List ℕ) (p q : Play) → Leaves z p → Leaves z q → Leaves z (s.puts_text h f t text p q)
+  puts f file.Data text p q refused next_recorded = λ r. accepted q p next_recorded refused r
+  puts f _ text p q refused next_recorded = controls f text (control.read text) p q refused next_recorded
 
-  closes : (f : Fid) (p q : Play) → Leaves z p → Leaves z q → Leaves z (s.closes h f p q)
-  closes f p q refused next = λ r. accepted q p next refused r
+  closes : (f : Fid) (p q : Play) → Leaves z p → Leaves z q → Leaves z (s.closes_fid h f p q)
+  closes f p q refused next_recorded = λ r. accepted q p next_recorded refused r
 
   closes_all : (fs : List Fid) (p : Play) → Leaves z p → Leaves z (s.closes_all h fs p)
-  closes_all [] p next = next
-  closes_all (f ∷ fs) p next = λ r. closes_all fs p next
+  closes_all [] p next_recorded = next_recorded
+  closes_all (f ∷ fs) p next_recorded = λ r. closes_all fs p next_recorded
 
   module _ (names : Names) (is : names.zone ≡ z) where
     connected : (called : List ℕ) (f : Fid) → Leaves z (s.connected h called names f)
@@ -120,57 +120,57 @@ module _ (z : Tuples) (h : ℕ) where
         by : Leaves z (s.dials h called names lines) → Leaves z (s.dials h called names (line ∷ lines))
         by others =
             opens (s.clone_path line) mode.Both (s.openable (walk (s.clone_path line)) mode.Both) (s.dials h called names lines)
-            (λ (made : Fid). s.puts h made made.file (codes "connect " ++ s.line_address line) (s.closes h made (Ends names) (s.dials h called names lines)) (s.connected h called names made)) others
-            (λ made. puts made made.file (codes "connect " ++ s.line_address line) (s.closes h made (Ends names) (s.dials h called names lines)) (s.connected h called names made)
+            (λ (made : Fid). s.puts_text h made made.file (codes "connect " ++ s.line_address line) (s.closes_fid h made (Ends names) (s.dials h called names lines)) (s.connected h called names made)) others
+            (λ made. puts made made.file (codes "connect " ++ s.line_address line) (s.closes_fid h made (Ends names) (s.dials h called names lines)) (s.connected h called names made)
             (closes made (Ends names) (s.dials h called names lines) is others) (connected called made))
 
-    announces : (called : List ℕ) (lines : List (List ℕ)) → Leaves z (s.announces h called names lines)
+    announces : (called : List ℕ) (lines : List (List ℕ)) → Leaves z (s.announces_line h called names lines)
     announces called [] = is
     announces called (line ∷ lines) =
         opens (s.clone_path line) mode.Both (s.openable (walk (s.clone_path line)) mode.Both) (Ends names)
-        (λ (made : Fid). s.puts h made made.file (codes "announce " ++ s.line_address line) (s.closes h made (Ends names) (Ends names)) (Ends (s.bind called made names))) is
-        (λ made. puts made made.file (codes "announce " ++ s.line_address line) (s.closes h made (Ends names) (Ends names)) (Ends (s.bind called made names)) (closes made (Ends names) (Ends names) is is) is)
+        (λ (made : Fid). s.puts_text h made made.file (codes "announce " ++ s.line_address line) (s.closes_fid h made (Ends names) (Ends names)) (Ends (s.bind called made names))) is
+        (λ made. puts made made.file (codes "announce " ++ s.line_address line) (s.closes_fid h made (Ends names) (Ends names)) (Ends (s.bind called made names)) (closes made (Ends names) (Ends names) is is) is)
 
-    tells : (call : Fid) (told : FileName) (others : List Fid) (p : Play) (next : Addr → Play) → Leaves z p → ((a : Addr) → Leaves z (next a)) → Leaves z (s.tells_address h call told others p next)
-    tells call told others p next refused found =
+    tells : (call : Fid) (told : FileName) (others : List Fid) (p : Play) (next_recorded : Addr → Play) → Leaves z p → ((a : Addr) → Leaves z (next_recorded a)) → Leaves z (s.tells_address h call told others p next_recorded)
+    tells call told others p next_recorded refused found =
         opens [] mode.Read (Some (node.File call.proto call.slot told)) (s.closes_all h others p)
         (λ (f : Fid). Asks (s.conversation_of h f) (event.File f.generation told 64) (λ (r : Reply).
-        s.if_accepted r (s.closes h f (s.closes_all h others p) (next (s.address_told (bytes_in r)))) (s.closes_all h (f ∷ others) p)))
+        s.if_accepted r (s.closes_fid h f (s.closes_all h others p) (next_recorded (s.address_told (bytes_in r)))) (s.closes_all h (f ∷ others) p)))
         (closes_all others p refused)
-        (λ f r. accepted (s.closes h f (s.closes_all h others p) (next (s.address_told (bytes_in r)))) (s.closes_all h (f ∷ others) p)
-        (closes f (s.closes_all h others p) (next (s.address_told (bytes_in r))) (closes_all others p refused) (found (s.address_told (bytes_in r))))
+        (λ f r. accepted (s.closes_fid h f (s.closes_all h others p) (next_recorded (s.address_told (bytes_in r)))) (s.closes_all h (f ∷ others) p)
+        (closes f (s.closes_all h others p) (next_recorded (s.address_told (bytes_in r))) (closes_all others p refused) (found (s.address_told (bytes_in r))))
         (closes_all (f ∷ others) p refused) r)
 
-    takes : (f : Fid) (next : Fid → Fid → Addr → Addr → Play) → ((call data_file : Fid) (remote local : Addr) → Leaves z (next call data_file remote local))
-        → Leaves z (s.takes_call h f (Ends names) next)
-    takes f next found =
+    takes : (f : Fid) (next_recorded : Fid → Fid → Addr → Addr → Play) → ((call data_file : Fid) (remote local : Addr) → Leaves z (next_recorded call data_file remote local))
+        → Leaves z (s.takes_call h f (Ends names) next_recorded)
+    takes f next_recorded found =
         opens [] mode.Both (Some (node.File f.proto f.slot file.Listen)) (Ends names) _ is (λ call.
         opens [] mode.Both (Some (node.File call.proto call.slot file.Data)) (s.closes_all h (call ∷ []) (Ends names)) _ (closes_all (call ∷ []) (Ends names) is) (λ data_file.
         tells call file.Remote (data_file ∷ call ∷ []) (Ends names)
-        (λ (remote : Addr). s.tells_address h call file.Local (data_file ∷ call ∷ []) (Ends names) (λ (local : Addr). next call data_file remote local)) is (λ remote.
-        tells call file.Local (data_file ∷ call ∷ []) (Ends names) (λ (local : Addr). next call data_file remote local) is (λ local. found call data_file remote local))))
+        (λ (remote : Addr). s.tells_address h call file.Local (data_file ∷ call ∷ []) (Ends names) (λ (local : Addr). next_recorded call data_file remote local)) is (λ remote.
+        tells call file.Local (data_file ∷ call ∷ []) (Ends names) (λ (local : Addr). next_recorded call data_file remote local) is (λ local. found call data_file remote local))))
 
     taken : (o : Option (List ℕ)) (p : Play) → Leaves z p → Leaves z (s.on_taken o (λ (used : List ℕ). s.uses h used names) p)
     taken None p leaves = leaves
     taken (Some used) p leaves = λ r. is
 
-    call_with : (called : List ℕ) (next : Fid → Fid → Addr → Addr → Play) → ((call data_file : Fid) (remote local : Addr) → Leaves z (next call data_file remote local))
-        → Leaves z (s.with_call h called names next)
-    call_with called next found =
-        taken (s.taken_name names) (s.with_bound h called names (λ (f : Fid). s.takes_call h f (Ends names) next))
-        (bound called names (λ (f : Fid). s.takes_call h f (Ends names) next) is (λ f. takes f next found))
+    call_with : (called : List ℕ) (next_recorded : Fid → Fid → Addr → Addr → Play) → ((call data_file : Fid) (remote local : Addr) → Leaves z (next_recorded call data_file remote local))
+        → Leaves z (s.with_call h called names next_recorded)
+    call_with called next_recorded found =
+        taken (s.taken_name names) (s.with_bound h called names (λ (f : Fid). s.takes_call h f (Ends names) next_recorded))
+        (bound called names (λ (f : Fid). s.takes_call h f (Ends names) next_recorded) is (λ f. takes f next_recorded found))
 
     closes_name : (called : List ℕ) → Leaves z (s.closes_name h called names)
     closes_name called = bound called names _ is (λ f r. is)
 
     leaves_call : (call data_file : Fid) (p q : Play) → Leaves z p → Leaves z q → Leaves z (s.leaves_call h call data_file p q)
-    leaves_call call data_file p q refused next =
-        closes data_file (s.closes_all h (call ∷ []) p) (s.closes h call p q) (closes_all (call ∷ []) p refused) (closes call p q refused next)
+    leaves_call call data_file p q refused next_recorded =
+        closes data_file (s.closes_all h (call ∷ []) p) (s.closes_fid h call p q) (closes_all (call ∷ []) p refused) (closes call p q refused next_recorded)
 
     answers_call : (call data_file : Fid) (o : Option (List ℕ)) (p q : Play) → Leaves z p → Leaves z q → Leaves z (s.answers_call h call data_file o p q)
-    answers_call call data_file None p q refused next = leaves_call call data_file p q refused next
-    answers_call call data_file (Some text) p q refused next =
-        λ r. accepted (s.leaves_call h call data_file p q) (s.closes_all h (data_file ∷ call ∷ []) p) (leaves_call call data_file p q refused next) (closes_all (data_file ∷ call ∷ []) p refused) r
+    answers_call call data_file None p q refused next_recorded = leaves_call call data_file p q refused next_recorded
+    answers_call call data_file (Some text) p q refused next_recorded =
+        λ r. accepted (s.leaves_call h call data_file p q) (s.closes_all h (data_file ∷ call ∷ []) p) (leaves_call call data_file p q refused next_recorded) (closes_all (data_file ∷ call ∷ []) p refused) r
 
     serves_call : (called : List ℕ) (p : Play) → Leaves z p → Leaves z (s.serves_call h called names p)
     serves_call called p later = call_with called reading read
@@ -189,10 +189,10 @@ module _ (z : Tuples) (h : ℕ) where
     serves called zero = serves_call called (Ends names) is
     serves called (suc more) = serves_call called (s.serves h called names more) (serves called more)
 
-  hears : (names : Names) → names.zone ≡ z → (count : ℕ) (call data_file : Fid) (heard : Heard) → Leaves z (s.hears h names count call data_file heard)
-  hears names is count call data_file heard =
-      λ r. accepted (Ends (s.bind s.data_name data_file (s.bind s.call_name call (s.hearing heard names)))) (s.closes_all h (data_file ∷ call ∷ []) (Ends (s.hearing heard names))) is
-      (closes_all (data_file ∷ call ∷ []) (Ends (s.hearing heard names)) is) r
+  hears : (names : Names) → names.zone ≡ z → (count : ℕ) (call data_file : Fid) (heard_replies : Heard) → Leaves z (s.hears_call h names count call data_file heard_replies)
+  hears names is count call data_file heard_replies =
+      λ r. accepted (Ends (s.bind s.data_name data_file (s.bind s.call_name call (s.hearing heard_replies names)))) (s.closes_all h (data_file ∷ call ∷ []) (Ends (s.hearing heard_replies names))) is
+      (closes_all (data_file ∷ call ∷ []) (Ends (s.hearing heard_replies names)) is) r
 
   -- whichever step it is
   leaves : (names : Names) → names.zone ≡ z → (t : Step) → Leaves z (play_of h names t)
@@ -205,15 +205,15 @@ module _ (z : Tuples) (h : ℕ) where
   leaves names is (step.Cs query) = λ r. is
   leaves names is (step.Until moment) = λ r. is
   leaves names is step.Refresh = λ r. is
-  leaves names is (step.Dial called address) = new called names _ is (new (s.dotted_name called) names _ is (λ r. dials names is called (s.lines_in r)))
-  leaves names is (step.Announce called address) = new called names _ is (λ r. announces names is called (s.lines_in r))
+  leaves names is (step.Dial called address) = new called names _ is (new (s.dotted_name called) names _ is (λ r. dials names is called (s.reply_lines r)))
+  leaves names is (step.Announce called address) = new called names _ is (λ r. announces names is called (s.reply_lines r))
   leaves names is (step.Listen called from) = bound from names _ is (λ f. new called names _ is (opens [] mode.Both (Some (node.File f.proto f.slot file.Listen)) (Ends names) _ is (λ call. is)))
   leaves names is (step.Accept called from) = bound from names _ is (λ f. new called names _ is (opens [] mode.Both (Some (node.File f.proto f.slot file.Data)) (Ends names) _ is (λ data_file. is)))
   leaves names is (step.Reject called) = writable called names _ is (λ f. puts f f.file (codes "hangup") (Ends names) _ is (λ r. is))
   leaves names is (step.Hangup called) = writable called names _ is (λ f. puts f f.file (codes "hangup") (Ends names) (Ends names) is is)
   leaves names is (step.Hread called count) =
       call_with names is called
-      (λ (call data_file : Fid) (remote local : Addr). s.hears h names count call data_file (record { name = called; remote = remote; local = local }))
+      (λ (call data_file : Fid) (remote local : Addr). s.hears_call h names count call data_file (record { name = called; remote = remote; local = local }))
       (λ call data_file remote local. hears names is count call data_file (record { name = called; remote = remote; local = local }))
   leaves names is (step.Hwrite called bytes) =
       on (s.open_call called names) (s.uses h s.data_name names) _ (λ r. is)
@@ -227,14 +227,14 @@ module _ (z : Tuples) (h : ℕ) where
   by_text_leaves [] none some closed found = closed
   by_text_leaves (b ∷ bs) none some closed found = found (b ∷ bs)
 
-  sends_leaves : (own : Own) (m : Tmsg) (refused : Play) (next : List ℕ → Play) → Leaves z refused → ((t : List ℕ) → Leaves z (next t)) → Leaves z (sends own m refused next)
-  sends_leaves own m refused next closed found =
-      λ w. either (is_accepted w) (asks own.reads (λ (r : Reply). by_text (bytes_in r) refused next)) refused (λ r. by_text_leaves (bytes_in r) refused next closed found) closed
+  sends_leaves : (own : Own) (m : Tmsg) (refused : Play) (next_recorded : List ℕ → Play) → Leaves z refused → ((t : List ℕ) → Leaves z (next_recorded t)) → Leaves z (sends_message own m refused next_recorded)
+  sends_leaves own m refused next_recorded closed found =
+      λ w. either (is_accepted w) (asks_on own.reads (λ (r : Reply). by_text (bytes_in r) refused next_recorded)) refused (λ r. by_text_leaves (bytes_in r) refused next_recorded closed found) closed
 
-  sends_for_leaves : (own : Own) (m : Tmsg) (is_reply : List ℕ → Bool) (refused other next : Play) → Leaves z refused → Leaves z other → Leaves z next
-      → Leaves z (sends_for own m is_reply refused other next)
-  sends_for_leaves own m is_reply refused other next closed out going =
-      sends_leaves own m refused (λ (t : List ℕ). if is_reply t then next else other) closed (λ t. either (is_reply t) next other going out)
+  sends_for_leaves : (own : Own) (m : Tmsg) (is_reply : List ℕ → Bool) (refused other next_recorded : Play) → Leaves z refused → Leaves z other → Leaves z next_recorded
+      → Leaves z (sends_for own m is_reply refused other next_recorded)
+  sends_for_leaves own m is_reply refused other next_recorded closed out going =
+      sends_leaves own m refused (λ (t : List ℕ). if is_reply t then next_recorded else other) closed (λ t. either (is_reply t) next_recorded other going out)
 
   once_leaves : (own : Own) (m : Tmsg) (names : Names) → names.zone ≡ z → Leaves z (sends_once own m (Ends names))
   once_leaves own m names is = sends_leaves own m (Ends names) (λ (t : List ℕ). Ends names) is (λ t. is)
@@ -257,13 +257,13 @@ module _ (z : Tuples) (h : ℕ) where
 
   -- a request leaves the database to the session
   abbrev DoingLeaves : Doing State → Type 0
-  DoingLeaves (Does ask next) = (r : Reply) → DoingLeaves (next r)
+  DoingLeaves (Does ask next_recorded) = (r : Reply) → DoingLeaves (next_recorded r)
   DoingLeaves (Gives answer later) = later.names.zone ≡ z
 
   step_doing : (p : Play) (last : Option Reply) (go_on : Names → Option Reply → Doing State) → Leaves z p
       → ((names : Names) (o : Option Reply) → names.zone ≡ z → DoingLeaves (go_on names o)) → DoingLeaves (doing_of p last go_on)
   step_doing (Ends names) last go_on is rest = rest names last is
-  step_doing (Asks a e next) last go_on is rest = λ r. step_doing (next r) (Some r) go_on (is r) rest
+  step_doing (Asks a e next_recorded) last go_on is rest = λ r. step_doing (next_recorded r) (Some r) go_on (is r) rest
 
   last_doing : (st : State) (m : Tmsg) → st.names.zone ≡ z → (names : Names) (o : Option Reply) → names.zone ≡ z → DoingLeaves (by_last st m names o)
   last_doing st m is names None after = is
@@ -274,26 +274,26 @@ module _ (z : Tuples) (h : ℕ) where
   served_by st m (Some t) is = step_doing (play_of h st.names t) None (by_last st m) (leaves st.names is t) (λ names o after. last_doing st m is names o after)
 
   abbrev SharingLeaves : Doing Sharing → Type 0
-  SharingLeaves (Does ask next) = (r : Reply) → SharingLeaves (next r)
+  SharingLeaves (Does ask next_recorded) = (r : Reply) → SharingLeaves (next_recorded r)
   SharingLeaves (Gives answer later) = later.session.names.zone ≡ z
 
   shared : (opened : List ℕ) (m : Tmsg) (last : Option Reply) (d : Doing State) → DoingLeaves d → SharingLeaves (sharing opened m last d)
-  shared opened m last (Does ask next) is = λ r. shared opened m (Some r) (next r) (is r)
+  shared opened m last (Does ask next_recorded) is = λ r. shared opened m (Some r) (next_recorded r) (is r)
   shared opened m last (Gives answer later) is = is
 
   served : (st : Sharing) (o : Option Tmsg) → st.session.names.zone ≡ z → SharingLeaves (serves_text h st o)
   served st None is = is
   served st (Some m) is =
-      shared st.opened m None (serves_by h st.session m (option_map dotted_step (step_of st.session.table m))) (served_by st.session m (option_map dotted_step (step_of st.session.table m)) is)
+      shared st.opened m None (serves_by h st.session m (option_map dotted_step (message_step st.session.table m))) (served_by st.session m (option_map dotted_step (message_step st.session.table m)) is)
 
   then_leaves : (d : Doing Sharing) (go_on : List ℕ → Sharing → Play) → SharingLeaves d
       → ((answer : List ℕ) (later : Sharing) → later.session.names.zone ≡ z → Leaves z (go_on answer later)) → Leaves z (then_play d go_on)
-  then_leaves (Does ask next) go_on is rest = λ r. then_leaves (next r) go_on (is r) rest
+  then_leaves (Does ask next_recorded) go_on is rest = λ r. then_leaves (next_recorded r) go_on (is r) rest
   then_leaves (Gives answer later) go_on is rest = rest answer later is
 
   after_leaves : (p : Play) (go_on : Names → Play) → Leaves z p → ((names : Names) → names.zone ≡ z → Leaves z (go_on names)) → Leaves z (and_then p go_on)
   after_leaves (Ends names) go_on is rest = rest names is
-  after_leaves (Asks a e next) go_on is rest = λ r. after_leaves (next r) go_on (is r) rest
+  after_leaves (Asks a e next_recorded) go_on is rest = λ r. after_leaves (next_recorded r) go_on (is r) rest
 
   closing : (ns : List ℕ) (names : Names) → names.zone ≡ z → Leaves z (closes_each h ns names)
   closing [] names is = is
@@ -333,8 +333,8 @@ module _ (z : Tuples) (h : ℕ) where
 left_by : (z : Tuples) (p : Play) (xs : List Entry) (bound : Names) → Leaves z p → IsPlayed p xs bound → bound.zone ≡ z
 left_by z (Ends names) [] bound is played = sym (ap (λ (n : Names). n.zone) played) ∙ is
 left_by z (Ends names) (x ∷ xs) bound is played = absurd played
-left_by z (Asks a e next) [] bound is played = absurd played
-left_by z (Asks a e next) (x ∷ xs) bound is played = left_by z (next x.reply) xs bound (is x.reply) played.1
+left_by z (Asks a e next_recorded) [] bound is played = absurd played
+left_by z (Asks a e next_recorded) (x ∷ xs) bound is played = left_by z (next_recorded x.reply) xs bound (is x.reply) played.1
 
 -- What is written is the answer to what was read just before.
 
@@ -356,7 +356,7 @@ Tells z a last _ = Unit {0}
 -- each text that the play writes is such an answer, where this entry stands before its first one
 abbrev Telling : Tuples → Option Entry → Play → Type 0
 Telling z last (Ends names) = Unit {0}
-Telling z last (Asks a e next) = Tells z a last e × ((x : Entry) → asked_by x ≡ record { actor = a; event = e } → Telling z (Some x) (next x.reply))
+Telling z last (Asks a e next_recorded) = Tells z a last e × ((x : Entry) → asked_by x ≡ record { actor = a; event = e } → Telling z (Some x) (next_recorded x.reply))
 
 -- whatever stands before
 abbrev Quiet : Tuples → Play → Type 0
@@ -367,9 +367,9 @@ module _ (z : Tuples) (h : ℕ) where
   either_quiet true last p q yes_p yes_q = yes_p
   either_quiet false last p q yes_p yes_q = yes_q
 
-  on_quiet : (o : Option Fid) (p : Play) (next : Fid → Play) → Quiet z p → ((f : Fid) → Quiet z (next f)) → Quiet z (on_fid o p next)
-  on_quiet None p next refused found = refused
-  on_quiet (Some f) p next refused found = found f
+  on_quiet : (o : Option Fid) (p : Play) (next_recorded : Fid → Play) → Quiet z p → ((f : Fid) → Quiet z (next_recorded f)) → Quiet z (on_fid o p next_recorded)
+  on_quiet None p next_recorded refused found = refused
+  on_quiet (Some f) p next_recorded refused found = found f
 
   accepted_quiet : (p q : Play) → Quiet z p → Quiet z q → (r : Reply) → Quiet z (s.if_accepted r p q)
   accepted_quiet p q yes_p yes_q r last = either_quiet (is_accepted r) last p q (yes_p last) (yes_q last)
@@ -384,39 +384,39 @@ module _ (z : Tuples) (h : ℕ) where
   opened_tells path m (Some (node.File p n f)) a last = tt
   opened_tells path m (Some _) a last = tt
 
-  opens_quiet : (path : List ℕ) (m : Mode) (n : Option Node) (p : Play) (next : Fid → Play) → Quiet z p → ((f : Fid) → Quiet z (next f)) → Quiet z (s.opens_node h path m n p next)
-  opens_quiet path m n p next refused found last =
-      (opened_tells path m n (s.open_actor h n) last, λ x asked. on_quiet (opened_fid m n x.reply) p next refused found (Some x))
+  opens_quiet : (path : List ℕ) (m : Mode) (n : Option Node) (p : Play) (next_recorded : Fid → Play) → Quiet z p → ((f : Fid) → Quiet z (next_recorded f)) → Quiet z (s.opens_node h path m n p next_recorded)
+  opens_quiet path m n p next_recorded refused found last =
+      (opened_tells path m n (s.open_actor h n) last, λ x asked. on_quiet (opened_fid m n x.reply) p next_recorded refused found (Some x))
 
-  closes_quiet : (f : Fid) (p q : Play) → Quiet z p → Quiet z q → Quiet z (s.closes h f p q)
-  closes_quiet f p q refused next last = (tt, λ x asked. accepted_quiet q p next refused x.reply (Some x))
+  closes_quiet : (f : Fid) (p q : Play) → Quiet z p → Quiet z q → Quiet z (s.closes_fid h f p q)
+  closes_quiet f p q refused next_recorded last = (tt, λ x asked. accepted_quiet q p next_recorded refused x.reply (Some x))
 
   all_quiet : (fs : List Fid) (p : Play) → Quiet z p → Quiet z (s.closes_all h fs p)
-  all_quiet [] p next = next
-  all_quiet (f ∷ fs) p next = λ last. (tt, λ x asked. all_quiet fs p next (Some x))
+  all_quiet [] p next_recorded = next_recorded
+  all_quiet (f ∷ fs) p next_recorded = λ last. (tt, λ x asked. all_quiet fs p next_recorded (Some x))
 
-  tells_quiet : (call : Fid) (told : FileName) (others : List Fid) (p : Play) (next : Addr → Play) → Quiet z p → ((a : Addr) → Quiet z (next a)) → Quiet z (s.tells_address h call told others p next)
-  tells_quiet call told others p next refused found =
+  tells_quiet : (call : Fid) (told : FileName) (others : List Fid) (p : Play) (next_recorded : Addr → Play) → Quiet z p → ((a : Addr) → Quiet z (next_recorded a)) → Quiet z (s.tells_address h call told others p next_recorded)
+  tells_quiet call told others p next_recorded refused found =
       opens_quiet [] mode.Read (Some (node.File call.proto call.slot told)) (s.closes_all h others p)
       (λ (f : Fid). Asks (s.conversation_of h f) (event.File f.generation told 64) (λ (r : Reply).
-      s.if_accepted r (s.closes h f (s.closes_all h others p) (next (s.address_told (bytes_in r)))) (s.closes_all h (f ∷ others) p)))
+      s.if_accepted r (s.closes_fid h f (s.closes_all h others p) (next_recorded (s.address_told (bytes_in r)))) (s.closes_all h (f ∷ others) p)))
       (all_quiet others p refused)
       (λ f last. (
         tt,
-        λ x asked. accepted_quiet (s.closes h f (s.closes_all h others p) (next (s.address_told (bytes_in x.reply)))) (s.closes_all h (f ∷ others) p)
-            (closes_quiet f (s.closes_all h others p) (next (s.address_told (bytes_in x.reply))) (all_quiet others p refused) (found (s.address_told (bytes_in x.reply))))
+        λ x asked. accepted_quiet (s.closes_fid h f (s.closes_all h others p) (next_recorded (s.address_told (bytes_in x.reply)))) (s.closes_all h (f ∷ others) p)
+            (closes_quiet f (s.closes_all h others p) (next_recorded (s.address_told (bytes_in x.reply))) (all_quiet others p refused) (found (s.address_told (bytes_in x.reply))))
             (all_quiet (f ∷ others) p refused) x.reply (Some x),
       ))
 
   module _ (names : Names) where
-    takes_quiet : (f : Fid) (next : Fid → Fid → Addr → Addr → Play) → ((call data_file : Fid) (remote local : Addr) → Quiet z (next call data_file remote local))
-        → Quiet z (s.takes_call h f (Ends names) next)
-    takes_quiet f next found =
+    takes_quiet : (f : Fid) (next_recorded : Fid → Fid → Addr → Addr → Play) → ((call data_file : Fid) (remote local : Addr) → Quiet z (next_recorded call data_file remote local))
+        → Quiet z (s.takes_call h f (Ends names) next_recorded)
+    takes_quiet f next_recorded found =
         opens_quiet [] mode.Both (Some (node.File f.proto f.slot file.Listen)) (Ends names) _ (λ last. tt) (λ call.
         opens_quiet [] mode.Both (Some (node.File call.proto call.slot file.Data)) (s.closes_all h (call ∷ []) (Ends names)) _ (all_quiet (call ∷ []) (Ends names) (λ last. tt)) (λ data_file.
         tells_quiet call file.Remote (data_file ∷ call ∷ []) (Ends names)
-        (λ (remote : Addr). s.tells_address h call file.Local (data_file ∷ call ∷ []) (Ends names) (λ (local : Addr). next call data_file remote local)) (λ last. tt) (λ remote.
-        tells_quiet call file.Local (data_file ∷ call ∷ []) (Ends names) (λ (local : Addr). next call data_file remote local) (λ last. tt) (λ local. found call data_file remote local))))
+        (λ (remote : Addr). s.tells_address h call file.Local (data_file ∷ call ∷ []) (Ends names) (λ (local : Addr). next_recorded call data_file remote local)) (λ last. tt) (λ remote.
+        tells_quiet call file.Local (data_file ∷ call ∷ []) (Ends names) (λ (local : Addr). next_recorded call data_file remote local) (λ last. tt) (λ local. found call data_file remote local))))
 
     used_quiet : (called : List ℕ) → Quiet z (s.uses h called names)
     used_quiet called last = (tt, λ x asked. tt)
@@ -426,21 +426,21 @@ module _ (z : Tuples) (h : ℕ) where
     taken_quiet (Some used) p quiet = used_quiet used
 
     leaves_quiet : (call data_file : Fid) (p q : Play) → Quiet z p → Quiet z q → Quiet z (s.leaves_call h call data_file p q)
-    leaves_quiet call data_file p q refused next =
-        closes_quiet data_file (s.closes_all h (call ∷ []) p) (s.closes h call p q) (all_quiet (call ∷ []) p refused) (closes_quiet call p q refused next)
+    leaves_quiet call data_file p q refused next_recorded =
+        closes_quiet data_file (s.closes_all h (call ∷ []) p) (s.closes_fid h call p q) (all_quiet (call ∷ []) p refused) (closes_quiet call p q refused next_recorded)
 
     -- behind the read
     answered : (call data_file : Fid) (o : Option (List ℕ)) (x : Entry) (p : Play) → Quiet z p → x.actor ≡ s.conversation_of h data_file
         → IsRead x → dns_answer z (bytes_in x.reply) ≡ o → Telling z (Some x) (s.answers_call h call data_file o (Ends names) p)
-    answered call data_file None x p next at read is = leaves_quiet call data_file (Ends names) p (λ last. tt) next (Some x)
-    answered call data_file (Some text) x p next at read is = (
+    answered call data_file None x p next_recorded at read is = leaves_quiet call data_file (Ends names) p (λ last. tt) next_recorded (Some x)
+    answered call data_file (Some text) x p next_recorded at read is = (
       (at, read, is),
       λ y asked. accepted_quiet (s.leaves_call h call data_file (Ends names) p) (s.closes_all h (data_file ∷ call ∷ []) (Ends names))
-          (leaves_quiet call data_file (Ends names) p (λ last. tt) next) (all_quiet (data_file ∷ call ∷ []) (Ends names) (λ last. tt)) y.reply (Some y),
+          (leaves_quiet call data_file (Ends names) p (λ last. tt) next_recorded) (all_quiet (data_file ∷ call ∷ []) (Ends names) (λ last. tt)) y.reply (Some y),
     )
 
     serve_tells : (zone_is : names.zone ≡ z) (called : List ℕ) (p : Play) → Quiet z p → Quiet z (s.serves_call h called names p)
-    serve_tells zone_is called p next =
+    serve_tells zone_is called p next_recorded =
         taken_quiet (s.taken_name names) (s.with_bound h called names (λ (f : Fid). s.takes_call h f (Ends names) reading))
         (on_quiet (fid_of called names) (s.uses h called names) (λ (f : Fid). s.takes_call h f (Ends names) reading) (used_quiet called) (λ f. takes_quiet f reading told))
       where
@@ -453,7 +453,7 @@ module _ (z : Tuples) (h : ℕ) where
         told call data_file remote local last = (
           tt,
           λ x asked. either_quiet (is_accepted x.reply) (Some x) (s.answers_call h call data_file (dns_answer names.zone (bytes_in x.reply)) (Ends names) p) (s.closes_all h (data_file ∷ call ∷ []) (Ends names))
-              (answered call data_file (dns_answer names.zone (bytes_in x.reply)) x p next (ap (λ (k : Ask). k.actor) asked) (record { generation = data_file.generation; is = ap (λ (k : Ask). k.event) asked })
+              (answered call data_file (dns_answer names.zone (bytes_in x.reply)) x p next_recorded (ap (λ (k : Ask). k.actor) asked) (record { generation = data_file.generation; is = ap (λ (k : Ask). k.event) asked })
               (ap (λ (t : Tuples). dns_answer t (bytes_in x.reply)) (sym zone_is)))
               (all_quiet (data_file ∷ call ∷ []) (Ends names) (λ last. tt) (Some x)),
         )
@@ -478,9 +478,9 @@ ask_is a b is = ap asked_in is
 -- the entry that the play asks for next tells what it should
 told_next : (z : Tuples) (p : Play) (last : Option Entry) (xs : List Entry) (x : Entry) → Telling z last p → Begins p xs → stands p (replies xs) ≡ Asking (asked_by x) → Tells z x.actor (latest last xs) x.event
 told_next z (Ends names) last xs x tells begins is = absurd begins
-told_next z (Asks a e next) last [] x tells begins is =
+told_next z (Asks a e next_recorded) last [] x tells begins is =
     subst (λ (k : Ask). Tells z k.actor last k.event) (ask_is (record { actor = a; event = e }) (asked_by x) is) tells.0
-told_next z (Asks a e next) last (y ∷ ys) x tells begins is = told_next z (next y.reply) (Some y) ys x (tells.1 y begins.0) begins.1 is
+told_next z (Asks a e next_recorded) last (y ∷ ys) x tells begins is = told_next z (next_recorded y.reply) (Some y) ys x (tells.1 y begins.0) begins.1 is
 
 -- the last entry stands at the end
 ends_so : (y : Entry) (ys : List Entry) (x : Entry) → latest (Some y) ys ≡ Some x → (front : List Entry) × (y ∷ ys ≡ front ++ x ∷ [])
@@ -541,10 +541,10 @@ module _ (z : Tuples) (sc : Script) (x : Entry) (text : List ℕ) where
       → Writing (position sc.host ts k (replies xs)) x text → AnswersRead z xs x text
   answered_in [] k is n xs there writing = absurd (none-some (asked_by x) writing.next)
   answered_in (t ∷ ts) k is zero xs there writing =
-      let asks = begins_asks (step_play sc.host k t) xs there in
-      in_first k is t ts xs asks.0 there asks.1
+      let asks_on = begins_asks (step_play sc.host k t) xs there in
+      in_first k is t ts xs asks_on.0 there asks_on.1
       (subst (λ (at : Stand).
-      Writing (position_by at (t ∷ ts) (λ (after : Names) (later : List Reply). position sc.host ts (kept_after k t after (heard (step_play sc.host k t) (replies xs))) later)) x text) asks.1 writing)
+      Writing (position_by at (t ∷ ts) (λ (after : Names) (later : List Reply). position sc.host ts (kept_after k t after (heard_replies (step_play sc.host k t) (replies xs))) later)) x text) asks_on.1 writing)
   answered_in (t ∷ ts) k is (suc n) xs there writing =
       behind z there.own there.rest xs x text there.all
       (answered_in ts (kept_after k t there.bound (replies there.own)) (left_by z (step_play sc.host k t) there.own there.bound (step_leaves z sc.host k is t) there.played) n there.rest there.later
@@ -553,18 +553,18 @@ module _ (z : Tuples) (sc : Script) (x : Entry) (text : List ℕ) where
 -- Histories.
 
 pub answers_questions : (w : World) (c : ℕ) (s : Script) → caller_of w c ≡ IsScript s → (h : List Entry) → IsLegal w h → AnswersQuestions w h c s
-answers_questions w c s is h legal k x text writes =
-    let may : MayFollow w (take k h) x = legal k x writes.stands in
+answers_questions w c s is h legal k x text mode_writes =
+    let may : MayFollow w (take k h) x = legal k x mode_writes.stands in
     answered_in (zone_of w) s x text s.steps (at_first (zone_of w)) refl (finished_by (zone_of w) (own_replies (take k h) c) s) (own_entries (take k h) c)
     (keeps_script w c s is (take k h) (legal_take w h k legal)).finished
     (record {
       next =
-          asks_next w (take k h) (owed w (take k h) c) (caller_of w c) c s x (sym writes.cites_is ∙ subst (λ (d : ℕ). x.cites ≡ cites_of (owed w (take k h) d)) writes.caller_is may.cites) is
-          (subst (λ (d : ℕ). IsAsked (owed w (take k h) d) (caller_of w d) (next w (take k h) d) x) writes.caller_is may.is_asked);
-      generation = writes.generation;
-      event_is = writes.event_is;
-      called = writes.called;
-      times = writes.times;
-      later = writes.behind;
-      step_is = writes.step_is;
+          asks_next w (take k h) (owed w (take k h) c) (caller_of w c) c s x (sym mode_writes.cites_is ∙ subst (λ (d : ℕ). x.cites ≡ cites_of (owed w (take k h) d)) mode_writes.caller_is may.cites) is
+          (subst (λ (d : ℕ). IsAsked (owed w (take k h) d) (caller_of w d) (next_recorded w (take k h) d) x) mode_writes.caller_is may.is_asked);
+      generation = mode_writes.generation;
+      event_is = mode_writes.event_is;
+      called = mode_writes.called;
+      times = mode_writes.times;
+      later = mode_writes.behind;
+      step_is = mode_writes.step_is;
     })

@@ -4,7 +4,7 @@ use Rattle.std.specs.List.{list_any, filter, flat_map}
 use Rattle.std.proofs.lemmas.Slice.Eq.{bytes_eq-Decides}
 use Rattle.net_base.specs.Ndb.{NdbPair}
 use Rattle.net_base.specs.NdbText.{is_empty}
-use Rattle.net_base.specs.NdbBundle.{File, local_name, each_once, tuples_named, tuples_chosen, names_of, choosing, chosen, reading}
+use Rattle.net_base.specs.NdbBundle.{File, unnamed_file, each_once, tuples_named, tuples_chosen, names_of, choosing, chosen, reading}
 use Rattle.ndb_text.proofs.Shared.{false_true}
 use Rattle.ndb_reader.specs.Written.{db_text}
 use Rattle.net_model.specs.NdbWhole.{files_in, is_local, is_whole}
@@ -15,13 +15,13 @@ use Rattle.net_base.proofs.Shared.{equal_texts}
 
 -- the one file of a text without files
 abbrev local_of : List (List (List NdbPair)) → File
-local_of db = record { name = local_name; tuples = db }
+local_of db = record { name = unnamed_file; tuples = db }
 
 -- the tuples of the one file with this name
 abbrev of_name : List (List (List NdbPair)) → List ℕ → List (List (List NdbPair))
 of_name db name = tuples_named (local_of db ∷ []) name
 
-of-name : (db : List (List (List NdbPair))) (name : List ℕ) (v : Bool) → bytes_eq local_name name ≡ v → of_name db name ≡ cond v db []
+of-name : (db : List (List (List NdbPair))) (name : List ℕ) (v : Bool) → bytes_eq unnamed_file name ≡ v → of_name db name ≡ cond v db []
 of-name db name true e = rw e (append-nil db)
 of-name db name false e = rw e refl
 
@@ -41,15 +41,15 @@ filter-by db name other names true e = rw e refl
 filter-by db name other names false e = rw e refl
 
 -- names other than the file's have no tuples
-others-none : (db : List (List (List NdbPair))) (names : List (List ℕ)) → flat_map (of_name db) (others local_name names) ≡ []
+others-none : (db : List (List (List NdbPair))) (names : List (List ℕ)) → flat_map (of_name db) (others unnamed_file names) ≡ []
 others-none db [] = refl
-others-none db (other ∷ names) = by (bytes_eq other local_name) refl (others-none db names)
+others-none db (other ∷ names) = by (bytes_eq other unnamed_file) refl (others-none db names)
   where
-    by : (v : Bool) → bytes_eq other local_name ≡ v → flat_map (of_name db) (others local_name names) ≡ [] → flat_map (of_name db) (others local_name (other ∷ names)) ≡ []
-    by true e rest = filter-by db local_name other names true e ∙ rest
+    by : (v : Bool) → bytes_eq other unnamed_file ≡ v → flat_map (of_name db) (others unnamed_file names) ≡ [] → flat_map (of_name db) (others unnamed_file (other ∷ names)) ≡ []
+    by true e rest = filter-by db unnamed_file other names true e ∙ rest
     by false e rest =
-        filter-by db local_name other names false e
-        ∙ (none-in (of_name db other) _ (of-name db other false (eq-turned other local_name false e)) ∙ rest)
+        filter-by db unnamed_file other names false e
+        ∙ (none-in (of_name db other) _ (of-name db other false (eq-turned other unnamed_file false e)) ∙ rest)
 
 -- a name without tuples may be left out
 others-all : (db : List (List (List NdbPair))) (name : List ℕ) (names : List (List ℕ)) → of_name db name ≡ [] → flat_map (of_name db) (others name names) ≡ flat_map (of_name db) names
@@ -64,16 +64,16 @@ others-all db name (other ∷ names) none = by (bytes_eq other name) refl (other
 
 once-names : (db : List (List (List NdbPair))) (names : List (List ℕ)) → flat_map (of_name db) (each_once names) ≡ cond (list_any is_local names) db []
 once-names db [] = refl
-once-names db (name ∷ names) = by (bytes_eq name local_name) refl (once-names db names)
+once-names db (name ∷ names) = by (bytes_eq name unnamed_file) refl (once-names db names)
   where
-    by : (v : Bool) → bytes_eq name local_name ≡ v → flat_map (of_name db) (each_once names) ≡ cond (list_any is_local names) db [] → flat_map (of_name db) (each_once (name ∷ names)) ≡ cond (list_any is_local (name ∷ names)) db []
+    by : (v : Bool) → bytes_eq name unnamed_file ≡ v → flat_map (of_name db) (each_once names) ≡ cond (list_any is_local names) db [] → flat_map (of_name db) (each_once (name ∷ names)) ≡ cond (list_any is_local (name ∷ names)) db []
     by true e rest =
-        ap (λ (ts : List (List (List NdbPair))). of_name db name ++ ts) (ap (λ (n : List ℕ). flat_map (of_name db) (others n (each_once names))) (equal_texts name local_name e) ∙ others-none db (each_once names))
+        ap (λ (ts : List (List (List NdbPair))). of_name db name ++ ts) (ap (λ (n : List ℕ). flat_map (of_name db) (others n (each_once names))) (equal_texts name unnamed_file e) ∙ others-none db (each_once names))
         ∙ (append-nil (of_name db name)
-        ∙ (of-name db name true (eq-turned name local_name true e)
+        ∙ (of-name db name true (eq-turned name unnamed_file true e)
         ∙ sym (ap (λ (v : Bool). cond (v || list_any is_local names) db []) e)))
     by false e rest =
-        let none = of-name db name false (eq-turned name local_name false e) in
+        let none = of-name db name false (eq-turned name unnamed_file false e) in
         none-in (of_name db name) _ none
         ∙ (others-all db name (each_once names) none
         ∙ (rest ∙ sym (ap (λ (v : Bool). cond (v || list_any is_local names) db []) e)))

@@ -7,8 +7,8 @@ use Rattle.std.proofs.lemmas.Bool.Decides.{nat_tests}
 use Rattle.std.proofs.lemmas.List.{take_all}
 use Rattle.std.proofs.lemmas.Bool.{or_parts, or_left, or_right}
 use Rattle.net_base.specs.Ndb.{NdbPair}
-use Rattle.net_base.specs.NdbText.{is_percent, begins, begins_with, is_empty, lines_of, pairs_of, starts, goes_on, tuples_of}
-use Rattle.net_base.specs.NdbBundle.{File, file_of, is_file_line, named_files, has_tuple, cause, causes_of, told, first_bad, bad_line, chosen, reading, database}
+use Rattle.net_base.specs.NdbText.{is_percent, begins, begins_with, is_empty, lines_of, pairs_of, starts_tuple, goes_on, tuples_of}
+use Rattle.net_base.specs.NdbBundle.{File, file_of, is_file_line, named_files, has_tuple, cause, causes_of, told_line, first_bad, bad_line, chosen, reading, database}
 use Rattle.ndb_text.specs.NdbSpelling.{ReadsLine, ReadsTuples, ReadsFiles, ReadsBundle, IsFileName}
 use Rattle.ndb_text.proofs.Shared.{or_false, some_none, before_first-none, line_reads, cons_none, some_once, starts-at, goes_on-at, line_has_no_cause, tuples_read}
 use Rattle.ndb_reader.proofs.Shared.{Next, has-line, before-more, before-stop, named-more, named-stop, reading-is, bundle-is-spelled}
@@ -63,10 +63,10 @@ good-lines before (line ∷ front) tail more tuples (inl some) (inr (inl (pair, 
 good-lines before (line ∷ front) tail more tuples begun (inr (inr (pair, pairs, left, behind, m, t, white, r, others))) rest =
     let words : is_empty (pairs_of line) ≡ false = ap is_empty (line_reads line (pair ∷ pairs) r) in
     let g : goes_on line ≡ false = goes_on-at line false false words white in
-    let s : starts line ≡ true = starts-at line false false words white in
+    let s : starts_tuple line ≡ true = starts-at line false false words white in
     good-more before line (front ++ tail) (line_has_no_cause (has_tuple before) line (pair ∷ pairs) (ap (λ (b : Bool). b && not (has_tuple before)) g) r)
     (good-lines (before ++ line ∷ []) front tail left behind
-    (inl (push-line before line (begins_no_file line (pair ∷ pairs) r) ∙ or_right (has_tuple before) _ (or_left (starts line) false s))) others rest)
+    (inl (push-line before line (begins_no_file line (pair ∷ pairs) r) ∙ or_right (has_tuple before) _ (or_left (starts_tuple line) false s))) others rest)
 
 good-files : (lines : List (List ℕ)) (file : File) (files : List File) (before : List (List ℕ)) → ReadsFiles lines file files → first_bad causes_of before lines ≡ None
 good-files lines file [] before r =
@@ -143,7 +143,7 @@ bundle_reads text tuples r =
 
 pub good-if : (text : List ℕ) (tuples : List (List (List NdbPair))) (bad : Option (ℕ × ℕ)) → bad_line text ≡ bad → reading text ≡ Some tuples → bad_line text ≡ None
 good-if text tuples None e h = e
-good-if text tuples (Some told) e h = absurd (some_none (sym h ∙ rw e refl))
+good-if text tuples (Some told_line) e h = absurd (some_none (sym h ∙ rw e refl))
 
 pub bundle_spelled : (text : List ℕ) (tuples : List (List (List NdbPair))) → reading text ≡ Some tuples → ReadsBundle (lines_of text) tuples
 bundle_spelled text tuples h =

@@ -8,7 +8,7 @@ use Rattle.net_base.specs.Ndb.{NdbPair}
 use Rattle.net_base.specs.Networks.{tuple_names}
 use Rattle.std.specs.Prelude.{codes}
 use Rattle.net_base.specs.NdbText.{is_empty, lines_of}
-use Rattle.net_base.specs.NdbBundle.{File, local_name, local_file, named_files, each_once, tuples_named, tuples_chosen, choosing, chosen, bad_line, reading}
+use Rattle.net_base.specs.NdbBundle.{File, unnamed_file, local_file, named_files, each_once, tuples_named, tuples_chosen, choosing, chosen, bad_line, reading}
 use Rattle.ndb_text.proofs.Shared.{cons_none, some_once}
 use Rattle.ndb_reader.proofs.Shared.{reading-is}
 use Rattle.net_model.specs.NdbWhole.{files_in, is_local, is_whole, begins_local, is_first}
@@ -19,8 +19,8 @@ use Rattle.net_model.proofs.NdbBundles.{good-if}
 named-first : (local : File) (files : List File) (name : List ℕ) → bytes_eq local.name name ≡ true → (more : List (List (List NdbPair))) × (tuples_named (local ∷ files) name ≡ local.tuples ++ more)
 named-first local files name e = (tuples_named files name, rw e refl)
 
-same-local : (local : File) (name : List ℕ) → local.name ≡ local_name → is_local name ≡ true → bytes_eq local.name name ≡ true
-same-local local name named e = grind (arith, bytes_eq-Decides name local_name, bytes_eq-Decides local.name name, named, e)
+same-local : (local : File) (name : List ℕ) → local.name ≡ unnamed_file → is_local name ≡ true → bytes_eq local.name name ≡ true
+same-local local name named e = grind (arith, bytes_eq-Decides name unnamed_file, bytes_eq-Decides local.name name, named, e)
 
 -- the first file's tuples stand before others
 record Leads (local : File) (files : List File) : Type 0 where
@@ -28,7 +28,7 @@ record Leads (local : File) (files : List File) : Type 0 where
   is : chosen local files ≡ local.tuples ++ more
   alone : files_in (choosing local.tuples) ≡ [] → more ≡ []
 
-leads-by : (local : File) (files : List File) (names : List (List ℕ)) → local.name ≡ local_name → files_in (choosing local.tuples) ≡ names → begins_local names ≡ true → Leads local files
+leads-by : (local : File) (files : List File) (names : List (List ℕ)) → local.name ≡ unnamed_file → files_in (choosing local.tuples) ≡ names → begins_local names ≡ true → Leads local files
 leads-by local files [] named is first = record {
   more = [];
   is = ap (tuples_chosen local files) (names-are (choosing local.tuples) ∙ ap each_once is) ∙ sym (append-nil local.tuples);

@@ -20,7 +20,7 @@ use Rattle.net_base.specs.declared.world.Step.{Step}
 use Rattle.net_base.specs.declared.world.Step.TheVariants as step
 use Rattle.net_base.specs.DatagramHeaders.{has_headers}
 use Rattle.net_base.specs.Plain.{IsClean, IsWord, IsLine, AreLines, AreBytes, IsPlainEvent, IsPlainReply}
-use Rattle.net_base.specs.Steps.{call_names, is_blank, clone_path, lines_in, dotted_name}
+use Rattle.net_base.specs.Steps.{call_names, is_blank, clone_path, reply_lines, dotted_name}
 use Rattle.net_base.specs.Exports.{dotted_fid}
 use Rattle.net_base.specs.Numeral.{numeral}
 use Rattle.net_base.specs.Paths.{file_name, path_of, proto_name}
@@ -132,7 +132,7 @@ lines_opened : (lines : List (List ℕ)) → Each IsText lines → Each (λ (lin
 lines_opened [] all = tt
 lines_opened (line ∷ lines) all = (λ a m. clone_bytes line all.0, lines_opened lines all.1)
 
-reply_opened : (r : Reply) → ListsTexts r → Each (λ (line : List ℕ). IsOpened PlainAt (clone_path line)) (lines_in r)
+reply_opened : (r : Reply) → ListsTexts r → Each (λ (line : List ℕ). IsOpened PlainAt (clone_path line)) (reply_lines r)
 reply_opened (reply.Lines lines) all = lines_opened lines all
 reply_opened _ all = tt
 

@@ -15,7 +15,7 @@ use Rattle.net_base.specs.Callers.{Caller, IsScript, IsCourier, IsClock, IsNobod
 use Rattle.net_base.specs.Duties.{Duty}
 use Rattle.net_base.specs.Legal.{IsMove, IsNext, IsAsked, MayFollow, IsLegal, asked_by}
 use Rattle.net_base.specs.Net.{Net, after, step_of}
-use Rattle.net_base.specs.Next.{by, own_replies, next, next_of, zone_of}
+use Rattle.net_base.specs.Next.{by, own_replies, next_recorded, next_of, zone_of}
 use Rattle.net_base.specs.Plain.{IsPlainEvent, IsPlain}
 use Rattle.net_base.specs.Steps.{Ask}
 use Rattle.net_base.specs.World.{is_step, is_script, IsWorld}
@@ -82,7 +82,7 @@ kept_by : (w : World) (h : List Entry) (x : Entry) → IsWorld w → MayFollow w
 kept_by w h x world may kept =
     let net = after w h in
     let replies = each_weaker IsFine (λ (y : Entry). ListsTexts y.reply) (λ y fine. fine.1) h kept.entries in
-    let here = entry_event (net.owed x.caller) (caller_of w x.caller) (next w h x.caller) x (kept.owed x.caller) (caller_next w h x.caller (slice_get w.scripts x.caller) world refl replies) may.is_asked in
+    let here = entry_event (net.owed x.caller) (caller_of w x.caller) (next_recorded w h x.caller) x (kept.owed x.caller) (caller_next w h x.caller (slice_get w.scripts x.caller) world refl replies) may.is_asked in
     record {
       entries = each_append IsFine h (x ∷ []) kept.entries ((here, entry_replies w net x may.is_ready may.answers), tt);
       owed = λ c. subst (λ (n : Net). Each IsPlainDuty (n.owed c)) (sym (after_push w h x)) (owed_each IsPlainDuty w net x (step_of w net x) c (kept.owed c) (λ same a e gift other. plain_other e other));

@@ -13,7 +13,7 @@ use Rattle.net_base.specs.Ndb.{NdbPair}
 use Rattle.net_base.specs.declared.reply.Reply.{Reply}
 use Rattle.net_base.specs.declared.reply.Reply.TheVariants as reply
 use Rattle.net_base.specs.Addresses.{address_text}
-use Rattle.net_base.specs.Cs.{CsAnswer, Query, proto_name, nets_of, host_words, is_any, address_texts, host_addresses, ports_of, cs_line, lines_of, refused_where_empty, answer_query, answer_read}
+use Rattle.net_base.specs.Cs.{CsAnswer, Query, proto_name, nets_of, host_words, is_any, address_texts, host_addresses, ports_of, cs_line, address_lines, refused_where_empty, answer_query, answer_read}
 use Rattle.net_base.specs.Desk.{cs_reply}
 use Rattle.net_base.specs.Paths.{names}
 use Rattle.net_base.specs.World.{is_text}
@@ -72,10 +72,10 @@ line_text net address port text =
     (text_append (front ++ address) (codes "!") (text_append front address (clone_text net) text) refl)
     (decimal_text port)
 
-lines_text : (db : List (List (List NdbPair))) (service : List ℕ) (net : Proto) (addresses : List (List ℕ)) → Each IsText addresses → Each IsText (lines_of db service addresses net)
+lines_text : (db : List (List (List NdbPair))) (service : List ℕ) (net : Proto) (addresses : List (List ℕ)) → Each IsText addresses → Each IsText (address_lines db service addresses net)
 lines_text db service net [] all = tt
 lines_text db service net (address ∷ addresses) all =
-    each_append IsText (map (cs_line net address) (ports_of db service net)) (lines_of db service addresses net)
+    each_append IsText (map (cs_line net address) (ports_of db service net)) (address_lines db service addresses net)
     (each_map IsText (cs_line net address) (ports_of db service net) (each_any (λ (port : ℕ). IsText (cs_line net address port)) (λ port. line_text net address port all.0) (ports_of db service net)))
     (lines_text db service net addresses all.1)
 
@@ -103,7 +103,7 @@ query_texts db me nets query =
     (refused_or 5 (host_words db me query.host) _
     (refused_or 3 found _
     (refused_or 4 (flat_map (ports_of db query.service) (nets_of nets query.net)) _
-    (each_flat_map IsText (lines_of db query.service found) (λ net. lines_text db query.service net found (texts_are db me query.host (is_any query.host) refl)) (nets_of nets query.net)))))
+    (each_flat_map IsText (address_lines db query.service found) (λ net. lines_text db query.service net found (texts_are db me query.host (is_any query.host) refl)) (nets_of nets query.net)))))
 
 -- what cs answers lists texts
 pub cs_texts : (db : List (List (List NdbPair))) (me : List ℕ) (nets : List Proto) (query : Option Query) → ListsTexts (cs_reply (answer_read db me nets query))

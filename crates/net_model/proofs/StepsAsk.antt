@@ -17,8 +17,8 @@ use Rattle.net_base.specs.Exports.{Own, Sharing, exported, exports, is_dotted, m
 use Rattle.net_base.specs.Imports.{clunk_message, longest_text, read_message, sends_by, write_message}
 use Rattle.net_base.specs.DatagramHeaders.{text_behind}
 use Rattle.net_base.specs.DomainAnswers.{dns_answer}
-use Rattle.net_base.specs.Paths.{reads, writes}
-use Rattle.net_base.specs.Steps.{Names, Fid, Play, Asks, Ends, answers, answers_call, asks_cs, bytes_in, closes_all, controls, conversation_of, data_name, dials, dotted_name, fid_of, hears, if_accepted, is_answer, is_bound, misuses, on_fid, on_taken, open_call, puts, serves, serves_call, taken_name, takes_call, uses, with_bound, with_call, with_new, with_readable, with_writable}
+use Rattle.net_base.specs.Paths.{mode_reads, mode_writes}
+use Rattle.net_base.specs.Steps.{Names, Fid, Play, Asks, Ends, answers, answers_call, asks_cs, bytes_in, closes_all, controls, conversation_of, data_name, dials, dotted_name, fid_of, hears_call, if_accepted, is_answer, is_bound, misuses, on_fid, on_taken, open_call, puts_text, serves, serves_call, taken_name, takes_call, uses, with_bound, with_call, with_new, with_readable, with_writable}
 use Rattle.net_base.specs.Remotes.{is_remote, is_remote_path, remote_of}
 use Rattle.net_base.specs.Scripts.{Kept, new_names, own_play, play_by, step_play}
 use Rattle.import_law.specs.Order.{Begins}
@@ -43,13 +43,13 @@ bound h called names next each = on (fid_of called names) (uses h called names) 
 
 readable : (h : ℕ) (called : List ℕ) (names : Names) (next : Fid → Play) → ((f : Fid) → Asking (next f)) → Asking (with_readable h called names next)
 readable h called names next each =
-    bound h called names (λ (f : Fid). if reads f.mode then next f else misuses h called names)
-    (λ f. either (reads f.mode) (next f) (misuses h called names) (each f) tt)
+    bound h called names (λ (f : Fid). if mode_reads f.mode then next f else misuses h called names)
+    (λ f. either (mode_reads f.mode) (next f) (misuses h called names) (each f) tt)
 
 writable : (h : ℕ) (called : List ℕ) (names : Names) (next : Fid → Play) → ((f : Fid) → Asking (next f)) → Asking (with_writable h called names next)
 writable h called names next each =
-    bound h called names (λ (f : Fid). if writes f.mode then next f else misuses h called names)
-    (λ f. either (writes f.mode) (next f) (misuses h called names) (each f) tt)
+    bound h called names (λ (f : Fid). if mode_writes f.mode then next f else misuses h called names)
+    (λ f. either (mode_writes f.mode) (next f) (misuses h called names) (each f) tt)
 
 controlling : (h : ℕ) (f : Fid) (text : List ℕ) (said : Result Ctl ℕ) (refused next : Play) → Asking (controls h f text said refused next)
 controlling h f text (Ok (ctl.Connect remote lport)) refused next = tt
@@ -60,7 +60,7 @@ controlling h f text (Ok (ctl.Ttl n)) refused next = tt
 controlling h f text (Ok (ctl.Tos n)) refused next = tt
 controlling h f text (Err fault) refused next = tt
 
-putting : (h : ℕ) (f : Fid) (into : FileName) (text : List ℕ) (refused next : Play) → Asking (puts h f into text refused next)
+putting : (h : ℕ) (f : Fid) (into : FileName) (text : List ℕ) (refused next : Play) → Asking (puts_text h f into text refused next)
 putting h f file.Data text refused next = tt
 putting h f file.Ctl text refused next = controlling h f text (control.read text) refused next
 putting h f file.Err text refused next = controlling h f text (control.read text) refused next
@@ -115,7 +115,7 @@ own_asks h k (step.Reject called) = writable h called k.names _ (λ f. putting h
 own_asks h k (step.Hangup called) = writable h called k.names _ (λ f. putting h f f.file _ _ _)
 own_asks h k (step.Hread called count) =
     calling h called k.names
-    (λ (call data_file : Fid) (remote local : Addr). hears h k.names count call data_file (record { name = called; remote = remote; local = local }))
+    (λ (call data_file : Fid) (remote local : Addr). hears_call h k.names count call data_file (record { name = called; remote = remote; local = local }))
 own_asks h k (step.Hwrite called bytes) =
     on (open_call called k.names) (uses h data_name k.names)
     (λ (data_file : Fid). if is_answer bytes k.names.heard then answers h k.names (text_behind bytes) data_file else misuses h data_name k.names)

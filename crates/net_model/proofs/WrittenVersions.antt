@@ -6,8 +6,8 @@ use Rattle.std.proofs.lemmas.Bool.{and_parts, eqb-true, false≢true, leb-true}
 use Rattle.std.proofs.lemmas.Option.{none-some, same_Some}
 use Rattle.net_base.specs.Ndb.{NdbPair}
 use Rattle.net_base.specs.declared.world.Version.{Version}
-use Rattle.net_base.specs.NdbBundle.{File, bad_line, causes_of, chosen, database, file_name, file_of, first_bad, has_tuple, is_file_line, least, local_file, named_files, reading, told}
-use Rattle.net_base.specs.NdbText.{going_on, goes_on, is_newline, lines_of, pairs_of, starts, tuples_of}
+use Rattle.net_base.specs.NdbBundle.{File, bad_line, causes_of, chosen, database, bundle_file, file_of, first_bad, has_tuple, is_file_line, least_of_causes, local_file, named_files, reading, told_line}
+use Rattle.net_base.specs.NdbText.{going_on, goes_on, is_newline, lines_of, pairs_of, starts_tuple, tuples_of}
 use Rattle.net_base.specs.Versions.{are_later, are_timed}
 use Rattle.net_base.specs.World.{IsDatabase}
 use Rattle.net_base.proofs.Shared.{IsWithout, cut_at, decimal_without, without_one}
@@ -110,10 +110,10 @@ padded (line ∷ lines) = by (is_file_line line) refl (padded lines)
         let one = before-more line (lines ++ [] ∷ []) own in
         let two = before-more line lines own in (
           ap tuples_of one
-              ∙ (ap (λ (g : List (List NdbPair)). cond (starts line) ((pairs_of line ∷ g) ∷ tuples_of (before_first is_file_line (lines ++ [] ∷ []))) (tuples_of (before_first is_file_line (lines ++ [] ∷ [])))) rest.1
-              ∙ (ap (λ (t : Tuples). cond (starts line) ((pairs_of line ∷ going_on (before_first is_file_line lines)) ∷ t) t) rest.0 ∙ ap tuples_of (sym two))),
+              ∙ (ap (λ (g : List (List NdbPair)). cond (starts_tuple line) ((pairs_of line ∷ g) ∷ tuples_of (before_first is_file_line (lines ++ [] ∷ []))) (tuples_of (before_first is_file_line (lines ++ [] ∷ [])))) rest.1
+              ∙ (ap (λ (t : Tuples). cond (starts_tuple line) ((pairs_of line ∷ going_on (before_first is_file_line lines)) ∷ t) t) rest.0 ∙ ap tuples_of (sym two))),
           ap going_on one
-              ∙ (ap (λ (g : List (List NdbPair)). cond (starts line) [] (cond (goes_on line) (pairs_of line ∷ g) g)) rest.1 ∙ ap going_on (sym two)),
+              ∙ (ap (λ (g : List (List NdbPair)). cond (starts_tuple line) [] (cond (goes_on line) (pairs_of line ∷ g) g)) rest.1 ∙ ap going_on (sym two)),
         )
 
 file-padded : (name : List ℕ) (lines : List (List ℕ)) → file_of name (lines ++ [] ∷ []) ≡ file_of name lines
@@ -122,8 +122,8 @@ file-padded name lines = ap (λ (t : Tuples). record { name = name; tuples = t }
 named-padded : (lines : List (List ℕ)) → named_files (lines ++ [] ∷ []) ≡ named_files lines
 named-padded [] = refl
 named-padded (line ∷ lines) =
-    ap (λ (f : File). cond (is_file_line line) (f ∷ named_files (lines ++ [] ∷ [])) (named_files (lines ++ [] ∷ []))) (file-padded (file_name line) lines)
-    ∙ ap (λ (fs : List File). cond (is_file_line line) (file_of (file_name line) lines ∷ fs) fs) (named-padded lines)
+    ap (λ (f : File). cond (is_file_line line) (f ∷ named_files (lines ++ [] ∷ [])) (named_files (lines ++ [] ∷ []))) (file-padded (bundle_file line) lines)
+    ∙ ap (λ (fs : List File). cond (is_file_line line) (file_of (bundle_file line) lines ∷ fs) fs) (named-padded lines)
 
 database-padded : (lines : List (List ℕ)) → database (lines ++ [] ∷ []) ≡ database lines
 database-padded lines =
@@ -131,10 +131,10 @@ database-padded lines =
 
 good-front : (own xs ys : List (List ℕ)) → first_bad causes_of own (xs ++ ys) ≡ None → first_bad causes_of own xs ≡ None
 good-front own [] ys good = refl
-good-front own (x ∷ xs) ys good = by (least (causes_of (has_tuple own) x)) good (good-front (own ++ x ∷ []) xs ys)
+good-front own (x ∷ xs) ys good = by (least_of_causes (causes_of (has_tuple own) x)) good (good-front (own ++ x ∷ []) xs ys)
   where
-    by : (o : Option ℕ) → told (length own + 1) o (first_bad causes_of (own ++ x ∷ []) (xs ++ ys)) ≡ None → (first_bad causes_of (own ++ x ∷ []) (xs ++ ys) ≡ None → first_bad causes_of (own ++ x ∷ []) xs ≡ None)
-        → told (length own + 1) o (first_bad causes_of (own ++ x ∷ []) xs) ≡ None
+    by : (o : Option ℕ) → told_line (length own + 1) o (first_bad causes_of (own ++ x ∷ []) (xs ++ ys)) ≡ None → (first_bad causes_of (own ++ x ∷ []) (xs ++ ys) ≡ None → first_bad causes_of (own ++ x ∷ []) xs ≡ None)
+        → told_line (length own + 1) o (first_bad causes_of (own ++ x ∷ []) xs) ≡ None
     by None rest later = later rest
     by (Some c) rest later = absurd (none-some (length own + 1, c) (sym rest))
 

@@ -1,10 +1,10 @@
 -- What it means that a line of a database's text is the first bad one.
 use Rattle.std.specs.Prelude.{◌≡◌, ◌+◌, ◌<◌, ℕ, Bool, List, [], length, take, slice_index_or, Option, None, Some}
-use Rattle.net_base.specs.NdbBundle.{has_tuple, least}
+use Rattle.net_base.specs.NdbBundle.{has_tuple, least_of_causes}
 
 -- the least cause of the line at a place of these, from 0
 abbrev pub least_at : (Bool → List ℕ → List ℕ) → List (List ℕ) → ℕ → Option ℕ
-least_at causes lines place = least (causes (has_tuple (take place lines)) (slice_index_or lines place []))
+least_at causes lines place = least_of_causes (causes (has_tuple (take place lines)) (slice_index_or lines place []))
 
 -- the line with this number, from 1, has this least cause, and no line before it has a cause
 pub record IsFirstBad (causes : Bool → List ℕ → List ℕ) (lines : List (List ℕ)) (number cause : ℕ) : Type 0 where

@@ -3,7 +3,7 @@ use Rattle.std.specs.Prelude.{ℕ, Bool, true, ◌||◌, List, [], ◌∷◌, by
 use Rattle.std.specs.List.{list_any}
 use Rattle.net_base.specs.Ndb.{NdbPair}
 use Rattle.net_base.specs.NdbText.{is_empty}
-use Rattle.net_base.specs.NdbBundle.{local_name, choosing}
+use Rattle.net_base.specs.NdbBundle.{unnamed_file, choosing}
 use Rattle.net_base.specs.Search.{values_in}
 
 -- the `file` values of the tuple that chooses; no tuple has none
@@ -13,7 +13,7 @@ files_in (Some tuple) = values_in (codes "file") tuple
 
 -- a name is the first file's
 abbrev pub is_local : List ℕ → Bool
-is_local name = bytes_eq name local_name
+is_local name = bytes_eq name unnamed_file
 
 -- the tuple that chooses, if there is one, gives no file, or the first file among others
 abbrev pub is_whole : List (List (List NdbPair)) → Bool

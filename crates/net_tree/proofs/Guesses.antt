@@ -10,7 +10,7 @@ use Rattle.net_base.specs.declared.address.Proto.{Proto}
 use Rattle.net_base.specs.declared.names.FileName.{FileName}
 use Rattle.net_base.specs.declared.names.Node.{Node}
 use Rattle.net_base.specs.declared.names.Node.TheVariants as node
-use Rattle.net_base.specs.Paths.{proto_named, in_range, node_of, checked, walk, path_of, file_name}
+use Rattle.net_base.specs.Paths.{proto_named, node_in_range, node_of, checked_node, walk, path_of, file_name}
 use Rattle.net_tree.specs.Guess.{kept, under_proto}
 
 abbrev parts : List ℕ → List (List ℕ)
@@ -57,19 +57,19 @@ no_node_behind p path rest more a b first second =
 
 -- Checks.
 
-kept_fits : (o : Option Node) (n : Node) → kept o ≡ Some n → in_range n ≡ true
+kept_fits : (o : Option Node) (n : Node) → kept o ≡ Some n → node_in_range n ≡ true
 kept_fits None n is = absurd (none-some n is)
-kept_fits (Some m) n is = by (in_range m) refl is
+kept_fits (Some m) n is = by (node_in_range m) refl is
   where
-    by : (b : Bool) → in_range m ≡ b → (if b then Some m else None) ≡ Some n → in_range n ≡ true
-    by true fits same = subst (λ (x : Node). in_range x ≡ true) (same_Some m n same) fits
+    by : (b : Bool) → node_in_range m ≡ b → (if b then Some m else None) ≡ Some n → node_in_range n ≡ true
+    by true fits same = subst (λ (x : Node). node_in_range x ≡ true) (same_Some m n same) fits
     by false fits same = absurd (none-some n same)
 
-checked_kept : (path : List ℕ) (o : Option Node) → checked path (kept o) ≡ checked path o
+checked_kept : (path : List ℕ) (o : Option Node) → checked_node path (kept o) ≡ checked_node path o
 checked_kept path None = refl
-checked_kept path (Some n) = by (in_range n) refl
+checked_kept path (Some n) = by (node_in_range n) refl
   where
-    by : (b : Bool) → in_range n ≡ b → checked path (if b then Some n else None) ≡ (if b && bytes_eq path (path_of n) then Some n else None)
+    by : (b : Bool) → node_in_range n ≡ b → checked_node path (if b then Some n else None) ≡ (if b && bytes_eq path (path_of n) then Some n else None)
     by true fits = rw fits refl
     by false fits = refl
 
@@ -77,7 +77,7 @@ checked_kept path (Some n) = by (in_range n) refl
 pub walk_kept : (path : List ℕ) (n : Node) → kept (node_of (parts path)) ≡ Some n → walk path ≡ (if bytes_eq path (path_of n) then Some n else None)
 walk_kept path n is =
     sym (checked_kept path (node_of (parts path)))
-    ∙ (ap (λ o. checked path o) is ∙ ap (λ b. if b && bytes_eq path (path_of n) then Some n else None) (kept_fits (node_of (parts path)) n is))
+    ∙ (ap (λ o. checked_node path o) is ∙ ap (λ b. if b && bytes_eq path (path_of n) then Some n else None) (kept_fits (node_of (parts path)) n is))
 
 -- Fronts.
 

@@ -6,12 +6,12 @@ use Rattle.net_base.specs.declared.address.Proto.{Proto}
 use Rattle.net_base.specs.declared.names.FileName.{FileName}
 use Rattle.net_base.specs.declared.names.Node.{Node}
 use Rattle.net_base.specs.declared.names.Node.TheVariants as node
-use Rattle.net_base.specs.Paths.{in_range, clone_or_dir, file_named}
+use Rattle.net_base.specs.Paths.{node_in_range, clone_or_dir, file_named}
 
 -- the node, where its slot is below 32
 abbrev pub kept : Option Node → Option Node
 kept None = None
-kept (Some n) = if in_range n then Some n else None
+kept (Some n) = if node_in_range n then Some n else None
 
 -- what the parts behind a protocol would name
 abbrev pub under_proto : Proto → List (List ℕ) → Option Node

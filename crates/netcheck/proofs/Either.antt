@@ -17,7 +17,7 @@ use Rattle.net_base.specs.Calm.{most_entries, movable, target}
 use Rattle.net_base.specs.Duties.{Duty}
 use Rattle.net_base.specs.Legal.{Answers, AtMoment, Cites, Asked, Ready, InTime, Known, HasRoom, IsAsked, IsFault, IsInTime, IsLegal, IsMove, IsNext, IsTimed, Keeps, MayFollow, Rule, Shown, Shows, asked_by, cites_of, rule_number, shown_by, shown_of}
 use Rattle.net_base.specs.Net.{Net, after, outcome_in}
-use Rattle.net_base.specs.Next.{by, next}
+use Rattle.net_base.specs.Next.{by, next_recorded}
 use Rattle.net_base.specs.Steps.{Ask}
 use Rattle.history_laws.proofs.Shared.{legal_push, one_more, timed_push}
 use Rattle.same_values.proofs.Shared.{Decided, decide_actor, decide_event, decide_header, decide_reply}
@@ -103,7 +103,7 @@ decide_keeps : (r : Rule) (w : World) (past : List Entry) (net : Net) (x : Entry
 decide_keeps Answers w past net x = decide_shows (outcome_in w net x) x
 decide_keeps AtMoment w past net x = cases_eq x.moment net.moment
 decide_keeps Cites w past net x = decide_option cases_eq x.cites (cites_of (net.owed x.caller))
-decide_keeps Asked w past net x = decide_asked (net.owed x.caller) (caller_of w x.caller) (next w past x.caller) x
+decide_keeps Asked w past net x = decide_asked (net.owed x.caller) (caller_of w x.caller) (next_recorded w past x.caller) x
 decide_keeps Ready w past net x = decide_bool (is_some (outcome_in w net x)) true
 decide_keeps InTime w past net x = decide_in_time net w x.event
 decide_keeps Known w past net x = decide_both (decide_bool (has_actor w x.actor) true) (decide_below x.caller (caller_count w))

@@ -7,7 +7,7 @@ use Rattle.net_base.specs.declared.history.Entry.{Entry}
 use Rattle.net_base.specs.declared.world.World.{World}
 use Rattle.net_base.specs.Callers.{Caller, caller_count}
 use Rattle.net_base.specs.Legal.{IsFault, IsLegal, IsTimed, Rule, rule_number}
-use Rattle.net_base.specs.Next.{next, next_of}
+use Rattle.net_base.specs.Next.{next_recorded, next_of}
 use Rattle.history_laws.proofs.Shared.{fault_is_not_legal}
 use Rattle.netcheck.specs.Judged.{KeepsAt}
 use Rattle.netcheck.proofs.Least.{same_rule}
@@ -63,5 +63,5 @@ one_fault w h s t r q f g = by_order (cases_order s t)
 
 -- Nobody.
 
-pub nothing_next : (w : World) (h : List Entry) (c : ℕ) → caller_count w ≤ c → next w h c ≡ None
+pub nothing_next : (w : World) (h : List Entry) (c : ℕ) → caller_count w ≤ c → next_recorded w h c ≡ None
 nothing_next w h c past = ap (λ (k : Caller). next_of w k h c) (nobody w c past)

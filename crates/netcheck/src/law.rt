@@ -5,12 +5,12 @@ ghost use Rattle.net_base.specs.declared.world.World.{World};
 ghost use Rattle.net_base.specs.Callers.{caller_count};
 ghost use Rattle.net_base.specs.Legal.{IsFault, IsLegal, IsTimed, Rule};
 ghost use Rattle.net_base.specs.Net.{owed};
-ghost use Rattle.net_base.specs.Next.{next};
+ghost use Rattle.net_base.specs.Next.{next_recorded};
 
 /// A caller that the world hasn't owes nothing after a legal history, and nothing of it comes next.
 pub fn nobody_owes()
     ensures owes { (w : World) (h : List Entry) (c : ℕ) → IsLegal w h → caller_count w ≤ c → owed w h c ≡ [] }
-    ensures next { (w : World) (h : List Entry) (c : ℕ) → caller_count w ≤ c → next w h c ≡ None }
+    ensures next { (w : World) (h : List Entry) (c : ℕ) → caller_count w ≤ c → next_recorded w h c ≡ None }
 {}
 
 /// A history has at most one fault.

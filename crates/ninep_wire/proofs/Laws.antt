@@ -9,8 +9,8 @@ use Rattle.std.proofs.lemmas.Nat.{le_bytes_2, le_bytes_4, le_bytes_8}
 use Rattle.byteorder.specs.Endian.{little_number}
 use Rattle.byteorder.specs.Numbers.{little_from-lt, little_from-take, little_number-reads_back, length-bytes_low_first}
 use Rattle.net_base.specs.declared.ninep.Qid.{Qid}
-use Rattle.net_base.specs.NinepFields.{number, counted, string, qid, many, Holds, Counts, IsQid, AreFew}
-use Rattle.net_base.specs.NinepReading.{◌>>=◌, Reader, both, making, number_at, bytes_at, counted_at, qid_of, qid_at, list_at, many_at}
+use Rattle.net_base.specs.NinepFields.{number_bytes, counted, string, qid, many, Holds, Counts, IsQid, AreFew}
+use Rattle.net_base.specs.NinepReading.{◌>>=◌, Reader, both, making, number_at, bytes_at, counted_at, qid_from, qid_at, list_at, many_at}
 
 abbrev pub IsBytes : List ℕ → Type 0
 IsBytes bytes = (i : ℕ) → get_or bytes i 0 < 256
@@ -87,7 +87,7 @@ both_reads f g s t P Q first second = record {
 
 -- a number in so many bytes is those bytes
 abbrev Backs : ℕ → Type 0
-Backs k = (bytes : List ℕ) → length bytes ≡ k → IsBytes bytes → number k (little_number k bytes) ≡ bytes
+Backs k = (bytes : List ℕ) → length bytes ≡ k → IsBytes bytes → number_bytes k (little_number k bytes) ≡ bytes
 
 back_1 : Backs 1
 back_1 (b ∷ []) len fits = ap (λ (n : ℕ). n ∷ []) (omega (arith, fits 0))
@@ -104,38 +104,38 @@ back_8 : Backs 8
 back_8 bytes len fits = le_bytes_8 bytes _ len fits (omega arith)
 
 number_takes : (k : ℕ) → Backs k → (bytes : List ℕ) (n : ℕ) (rest : List ℕ) → IsBytes bytes → number_at k bytes ≡ Some (n, rest)
-    → Takes bytes (number k n) rest × Holds k n
+    → Takes bytes (number_bytes k n) rest × Holds k n
 number_takes k back bytes n rest fits e =
     let g = guard_low (ltb (length bytes) k) (little_number k bytes, drop k bytes) (n, rest) e in
     let long : k ≤ length bytes = ltb-false _ _ g.0 in
     let n-is : little_number k bytes ≡ n = ap (λ (p : ℕ × List ℕ). p.0) g.1 in
     let rest-is : drop k bytes ≡ rest = ap (λ (p : ℕ × List ℕ). p.1) g.1 in
-    let front : number k n ≡ take k bytes =
-    ap (number k) (sym n-is ∙ sym (little_from-take 0 k k bytes (omega arith))) ∙ back (take k bytes) (omega (arith, length-take k bytes))
+    let front : number_bytes k n ≡ take k bytes =
+    ap (number_bytes k) (sym n-is ∙ sym (little_from-take 0 k k bytes (omega arith))) ∙ back (take k bytes) (omega (arith, length-take k bytes))
     (IsBytes-take k bytes fits) in (
       record { parts = rw (front, ← rest-is) (sym (take-append-drop k bytes)); rest_fits = rw (← rest-is) (IsBytes-drop k bytes fits) },
       subst (Holds k) n-is (little_from-lt 0 k bytes fits),
     )
 
-number_again : (k n : ℕ) (rest : List ℕ) → Holds k n → number_at k (number k n ++ rest) ≡ Some (n, rest)
+number_again : (k n : ℕ) (rest : List ℕ) → Holds k n → number_at k (number_bytes k n ++ rest) ≡ Some (n, rest)
 number_again k n rest fits =
-    let len : length (number k n) ≡ k = length-bytes_low_first 0 k n in
-    let long : ltb (length (number k n ++ rest)) k ≡ false = le-ltb _ _ (omega (arith, len, length-append (number k n) rest)) in
-    rw (long, little_number-reads_back k n rest fits, drop_at (number k n) rest k len) refl
+    let len : length (number_bytes k n) ≡ k = length-bytes_low_first 0 k n in
+    let long : ltb (length (number_bytes k n ++ rest)) k ≡ false = le-ltb _ _ (omega (arith, len, length-append (number_bytes k n) rest)) in
+    rw (long, little_number-reads_back k n rest fits, drop_at (number_bytes k n) rest k len) refl
 
-number_reads : (k : ℕ) → Backs k → Reads ℕ (number_at k) (number k) (Holds k)
+number_reads : (k : ℕ) → Backs k → Reads ℕ (number_at k) (number_bytes k) (Holds k)
 number_reads k back = record { takes = number_takes k back; again = number_again k }
 
-pub reads_1 : Reads ℕ (number_at 1) (number 1) (Holds 1)
+pub reads_1 : Reads ℕ (number_at 1) (number_bytes 1) (Holds 1)
 reads_1 = number_reads 1 back_1
 
-pub reads_2 : Reads ℕ (number_at 2) (number 2) (Holds 2)
+pub reads_2 : Reads ℕ (number_at 2) (number_bytes 2) (Holds 2)
 reads_2 = number_reads 2 back_2
 
-pub reads_4 : Reads ℕ (number_at 4) (number 4) (Holds 4)
+pub reads_4 : Reads ℕ (number_at 4) (number_bytes 4) (Holds 4)
 reads_4 = number_reads 4 back_4
 
-pub reads_8 : Reads ℕ (number_at 8) (number 8) (Holds 8)
+pub reads_8 : Reads ℕ (number_at 8) (number_bytes 8) (Holds 8)
 reads_8 = number_reads 8 back_8
 
 -- ---- bytes after how many they are
@@ -152,23 +152,23 @@ bytes_again text rest =
     let long : ltb (length (text ++ rest)) (length text) ≡ false = le-ltb _ _ (omega (arith, length-append text rest)) in
     rw (long, take_at text rest (length text) refl, drop_at text rest (length text) refl) refl
 
-counted_takes : (k : ℕ) → Reads ℕ (number_at k) (number k) (Holds k) → (bytes text rest : List ℕ) → IsBytes bytes → counted_at k bytes ≡ Some (text, rest)
+counted_takes : (k : ℕ) → Reads ℕ (number_at k) (number_bytes k) (Holds k) → (bytes text rest : List ℕ) → IsBytes bytes → counted_at k bytes ≡ Some (text, rest)
     → Takes bytes (counted k text) rest × Counts k text
 unfolding counted_at
 counted_takes k numbers bytes text rest fits e =
     let a = bind_some (number_at k bytes) (λ n. bytes_at n.0 n.1) (text, rest) e in
     let one = numbers.takes bytes a.0.0 a.0.1 fits a.1 in
     let two = bytes_take a.0.0 a.0.1 text rest one.0.rest_fits a.2 in
-    subst (λ (n : ℕ). Takes bytes (number k n ++ text) rest × Holds k n) (sym two.1)
-    (Takes-then bytes (number k a.0.0) a.0.1 text rest one.0 two.0, one.1)
+    subst (λ (n : ℕ). Takes bytes (number_bytes k n ++ text) rest × Holds k n) (sym two.1)
+    (Takes-then bytes (number_bytes k a.0.0) a.0.1 text rest one.0 two.0, one.1)
 
-counted_again : (k : ℕ) → Reads ℕ (number_at k) (number k) (Holds k) → (text rest : List ℕ) → Counts k text
+counted_again : (k : ℕ) → Reads ℕ (number_at k) (number_bytes k) (Holds k) → (text rest : List ℕ) → Counts k text
     → counted_at k (counted k text ++ rest) ≡ Some (text, rest)
 unfolding counted_at
 counted_again k numbers text rest fits =
-    ap (counted_at k) (append_assoc (number k (length text)) text rest) ∙ rw (numbers.again (length text) (text ++ rest) fits) (bytes_again text rest)
+    ap (counted_at k) (append_assoc (number_bytes k (length text)) text rest) ∙ rw (numbers.again (length text) (text ++ rest) fits) (bytes_again text rest)
 
-counted_reads : (k : ℕ) → Reads ℕ (number_at k) (number k) (Holds k) → Reads (List ℕ) (counted_at k) (counted k) (Counts k)
+counted_reads : (k : ℕ) → Reads ℕ (number_at k) (number_bytes k) (Holds k) → Reads (List ℕ) (counted_at k) (counted k) (Counts k)
 counted_reads k numbers = record { takes = counted_takes k numbers; again = counted_again k numbers }
 
 pub string_reads : Reads (List ℕ) (counted_at 2) string (Counts 2)
@@ -182,12 +182,12 @@ data_reads = counted_reads 4 reads_4
 abbrev parts_of : Qid → ℕ × (ℕ × ℕ)
 parts_of q = (q.kind, (q.version, q.path))
 
-qid_parts : Reads (ℕ × (ℕ × ℕ)) (both (number_at 1) (both (number_at 4) (number_at 8))) (λ x. number 1 x.0 ++ (number 4 x.1.0 ++ number 8 x.1.1))
+qid_parts : Reads (ℕ × (ℕ × ℕ)) (both (number_at 1) (both (number_at 4) (number_at 8))) (λ x. number_bytes 1 x.0 ++ (number_bytes 4 x.1.0 ++ number_bytes 8 x.1.1))
     (λ x. Holds 1 x.0 × (Holds 4 x.1.0 × Holds 8 x.1.1))
 qid_parts =
-    both_reads (number_at 1) (both (number_at 4) (number_at 8)) (number 1) (λ x. number 4 x.0 ++ number 8 x.1) (Holds 1)
+    both_reads (number_at 1) (both (number_at 4) (number_at 8)) (number_bytes 1) (λ x. number_bytes 4 x.0 ++ number_bytes 8 x.1) (Holds 1)
     (λ x. Holds 4 x.0 × Holds 8 x.1) reads_1
-    (both_reads (number_at 4) (number_at 8) (number 4) (number 8) (Holds 4) (Holds 8) reads_4 reads_8)
+    (both_reads (number_at 4) (number_at 8) (number_bytes 4) (number_bytes 8) (Holds 4) (Holds 8) reads_4 reads_8)
 
 -- what is made of a reading
 pub making_takes : {A B : Type 0} (f : Reader A) (made : A → B) (s : A → List ℕ) (P : A → Type 0) → Reads A f s P
@@ -207,14 +207,14 @@ qid_takes : (bytes : List ℕ) (q : Qid) (rest : List ℕ) → IsBytes bytes →
 unfolding qid_at
 qid_takes bytes q rest fits e =
     let a =
-    making_takes (both (number_at 1) (both (number_at 4) (number_at 8))) qid_of (λ x. number 1 x.0 ++ (number 4 x.1.0 ++ number 8 x.1.1))
+    making_takes (both (number_at 1) (both (number_at 4) (number_at 8))) qid_from (λ x. number_bytes 1 x.0 ++ (number_bytes 4 x.1.0 ++ number_bytes 8 x.1.1))
     (λ x. Holds 1 x.0 × (Holds 4 x.1.0 × Holds 8 x.1.1)) qid_parts bytes q rest fits e in
     subst (λ (p : Qid). Takes bytes (qid p) rest × IsQid p) a.1 a.2
 
 qid_again : (q : Qid) (rest : List ℕ) → IsQid q → qid_at (qid q ++ rest) ≡ Some (q, rest)
 unfolding qid_at
 qid_again q rest fits =
-    making_again (both (number_at 1) (both (number_at 4) (number_at 8))) qid_of (λ x. number 1 x.0 ++ (number 4 x.1.0 ++ number 8 x.1.1))
+    making_again (both (number_at 1) (both (number_at 4) (number_at 8))) qid_from (λ x. number_bytes 1 x.0 ++ (number_bytes 4 x.1.0 ++ number_bytes 8 x.1.1))
     (λ x. Holds 1 x.0 × (Holds 4 x.1.0 × Holds 8 x.1.1)) qid_parts (parts_of q) rest fits
 
 pub qid_reads : Reads Qid qid_at qid IsQid
@@ -255,15 +255,15 @@ module _ {A : Type 0} (one : Reader A) (spell : A → List ℕ) (Is : A → Type
       let first = reads_2.takes bytes a.0.0 a.0.1 fits a.1 in
       let g = guard_then (ltb a.0.0 17) (list_at one a.0.0 a.0.1) (xs, rest) a.2 in
       let second = list_takes a.0.0 a.0.1 xs rest first.0.rest_fits g.1 in
-      let all = Takes-then bytes (number 2 a.0.0) a.0.1 (flat_map spell xs) rest first.0 second.0 in
-      subst (λ (n : ℕ). Takes bytes (number 2 n ++ flat_map spell xs) rest × ((n < 17) × AllByRecursion Is xs)) (sym second.1.0)
+      let all = Takes-then bytes (number_bytes 2 a.0.0) a.0.1 (flat_map spell xs) rest first.0 second.0 in
+      subst (λ (n : ℕ). Takes bytes (number_bytes 2 n ++ flat_map spell xs) rest × ((n < 17) × AllByRecursion Is xs)) (sym second.1.0)
       (all, (ltb-true _ _ g.0, second.1.1))
 
   many_again : (xs : List A) (rest : List ℕ) → AreFew Is xs → many_at one (many spell xs ++ rest) ≡ Some (xs, rest)
   unfolding many_at
   many_again xs rest fits =
       let few : ltb (length xs) 17 ≡ true = lt-ltb _ _ fits.0 in
-      ap (many_at one) (append_assoc (number 2 (length xs)) (flat_map spell xs) rest)
+      ap (many_at one) (append_assoc (number_bytes 2 (length xs)) (flat_map spell xs) rest)
       ∙ rw (reads_2.again (length xs) (flat_map spell xs ++ rest) (omega (arith, fits.0)), few) (list_again xs rest fits.1)
 
   pub many_reads : Reads (List A) (many_at one) (many spell) (AreFew Is)
@@ -271,18 +271,18 @@ module _ {A : Type 0} (one : Reader A) (spell : A → List ℕ) (Is : A → Type
 
 -- ---- the numbers at the front
 
-number_front : (k : ℕ) → Reads ℕ (number_at k) (number k) (Holds k) → (bytes : List ℕ) → IsBytes bytes → k ≤ length bytes
-    → (bytes ≡ number k (little_number k bytes) ++ drop k bytes) × Holds k (little_number k bytes)
+number_front : (k : ℕ) → Reads ℕ (number_at k) (number_bytes k) (Holds k) → (bytes : List ℕ) → IsBytes bytes → k ≤ length bytes
+    → (bytes ≡ number_bytes k (little_number k bytes) ++ drop k bytes) × Holds k (little_number k bytes)
 number_front k reads bytes fits long =
     let low : ltb (length bytes) k ≡ false = le-ltb _ _ long in
     let t = reads.takes bytes (little_number k bytes) (drop k bytes) fits (rw low refl) in
     (t.0.parts, t.1)
 
-pub front_1 : (bytes : List ℕ) → IsBytes bytes → 1 ≤ length bytes → (bytes ≡ number 1 (little_number 1 bytes) ++ drop 1 bytes) × Holds 1 (little_number 1 bytes)
+pub front_1 : (bytes : List ℕ) → IsBytes bytes → 1 ≤ length bytes → (bytes ≡ number_bytes 1 (little_number 1 bytes) ++ drop 1 bytes) × Holds 1 (little_number 1 bytes)
 front_1 bytes fits long = number_front 1 reads_1 bytes fits long
 
-pub front_2 : (bytes : List ℕ) → IsBytes bytes → 2 ≤ length bytes → (bytes ≡ number 2 (little_number 2 bytes) ++ drop 2 bytes) × Holds 2 (little_number 2 bytes)
+pub front_2 : (bytes : List ℕ) → IsBytes bytes → 2 ≤ length bytes → (bytes ≡ number_bytes 2 (little_number 2 bytes) ++ drop 2 bytes) × Holds 2 (little_number 2 bytes)
 front_2 bytes fits long = number_front 2 reads_2 bytes fits long
 
-pub front_4 : (bytes : List ℕ) → IsBytes bytes → 4 ≤ length bytes → (bytes ≡ number 4 (little_number 4 bytes) ++ drop 4 bytes) × Holds 4 (little_number 4 bytes)
+pub front_4 : (bytes : List ℕ) → IsBytes bytes → 4 ≤ length bytes → (bytes ≡ number_bytes 4 (little_number 4 bytes) ++ drop 4 bytes) × Holds 4 (little_number 4 bytes)
 front_4 bytes fits long = number_front 4 reads_4 bytes fits long

@@ -1,7 +1,7 @@
 -- Layouts of fields: how the values are read, how they are spelled, and which have a spelling.
 use Rattle.std.proofs.Common.{◌≡◌, ℕ, Bool, true, false, cond, List, ◌++◌, Some, refl, inl, inr, ◌⊎◌}
 use Rattle.net_base.specs.declared.ninep.Qid.{Qid}
-use Rattle.net_base.specs.NinepFields.{number, counted, string, qid, many, Holds, Counts, IsQid, AreFew}
+use Rattle.net_base.specs.NinepFields.{number_bytes, counted, string, qid, many, Holds, Counts, IsQid, AreFew}
 use Rattle.net_base.specs.NinepReading.{Reader, both, making, number_at, counted_at, qid_at, many_at}
 use Rattle.ninep_wire.proofs.Laws.{Reads, both_reads, making_again, reads_1, reads_2, reads_4, reads_8, string_reads, data_reads, qid_reads, many_reads}
 
@@ -14,16 +14,16 @@ pub record Layout (A : Type 0) : Type 1 where
 -- ---- single fields
 
 abbrev pub byte : Layout ℕ
-byte = record { read = number_at 1; spell = number 1; Is = Holds 1; reads = reads_1 }
+byte = record { read = number_at 1; spell = number_bytes 1; Is = Holds 1; reads = reads_1 }
 
 abbrev pub word : Layout ℕ
-word = record { read = number_at 2; spell = number 2; Is = Holds 2; reads = reads_2 }
+word = record { read = number_at 2; spell = number_bytes 2; Is = Holds 2; reads = reads_2 }
 
 abbrev pub long : Layout ℕ
-long = record { read = number_at 4; spell = number 4; Is = Holds 4; reads = reads_4 }
+long = record { read = number_at 4; spell = number_bytes 4; Is = Holds 4; reads = reads_4 }
 
 abbrev pub vast : Layout ℕ
-vast = record { read = number_at 8; spell = number 8; Is = Holds 8; reads = reads_8 }
+vast = record { read = number_at 8; spell = number_bytes 8; Is = Holds 8; reads = reads_8 }
 
 abbrev pub text : Layout (List ℕ)
 text = record { read = counted_at 2; spell = string; Is = Counts 2; reads = string_reads }

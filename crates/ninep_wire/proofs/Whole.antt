@@ -10,7 +10,7 @@ use Rattle.net_base.specs.declared.ninep.Tmsg.TheVariants as t
 use Rattle.net_base.specs.declared.ninep.Rmsg.{Rmsg}
 use Rattle.net_base.specs.declared.ninep.Rmsg.TheVariants as r
 use Rattle.net_base.specs.NinepFaults.{HasSize, is_r_type, is_t_type, tag_field, type_field}
-use Rattle.net_base.specs.NinepFields.{number, Holds}
+use Rattle.net_base.specs.NinepFields.{number_bytes, Holds}
 use Rattle.net_base.specs.NinepMessages.{framed, longest, t_type, t_tag, t_fields, t_bytes, IsTmsg, SpellsT, r_type, r_tag, r_fields, r_bytes, IsRmsg, SpellsR}
 use Rattle.net_base.specs.NinepReading.{all_of, t_at, t_of, r_at, r_of}
 use Rattle.ninep_wire.proofs.Laws.{IsBytes, IsBytes-drop, bind_some, front_1, front_2, front_4}
@@ -27,13 +27,13 @@ headed bytes fits sized =
     let f2 = front_2 (drop 5 bytes) (IsBytes-drop 5 bytes fits) (omega (arith, sized.header, length-drop 5 bytes)) in
     let kind : little_number 1 (drop 4 bytes) ≡ type_field bytes = omega (arith, get_or-drop 4 bytes 0 0) in
     let size : little_number 4 bytes ≡ 7 + length (drop 7 bytes) = sized.whole ∙ omega (arith, sized.header, length-drop 7 bytes) in
-    let behind : drop 5 bytes ≡ number 2 (tag_field bytes) ++ drop 7 bytes =
-    f2.0 ∙ ap (λ (rest : List ℕ). number 2 (tag_field bytes) ++ rest) (drop-drop 2 5 bytes) in
-    let tail : drop 4 bytes ≡ number 1 (type_field bytes) ++ (number 2 (tag_field bytes) ++ drop 7 bytes) =
-    f1.0 ∙ ap (λ (n : ℕ). number 1 n ++ drop 1 (drop 4 bytes)) kind ∙ ap (λ (rest : List ℕ). number 1 (type_field bytes) ++ rest)
+    let behind : drop 5 bytes ≡ number_bytes 2 (tag_field bytes) ++ drop 7 bytes =
+    f2.0 ∙ ap (λ (rest : List ℕ). number_bytes 2 (tag_field bytes) ++ rest) (drop-drop 2 5 bytes) in
+    let tail : drop 4 bytes ≡ number_bytes 1 (type_field bytes) ++ (number_bytes 2 (tag_field bytes) ++ drop 7 bytes) =
+    f1.0 ∙ ap (λ (n : ℕ). number_bytes 1 n ++ drop 1 (drop 4 bytes)) kind ∙ ap (λ (rest : List ℕ). number_bytes 1 (type_field bytes) ++ rest)
     (drop-drop 1 4 bytes ∙ behind) in (
-      f4.0 ∙ ap (λ (rest : List ℕ). number 4 (little_number 4 bytes) ++ rest) tail
-          ∙ ap (λ (n : ℕ). number 4 n ++ (number 1 (type_field bytes) ++ (number 2 (tag_field bytes) ++ drop 7 bytes))) size,
+      f4.0 ∙ ap (λ (rest : List ℕ). number_bytes 4 (little_number 4 bytes) ++ rest) tail
+          ∙ ap (λ (n : ℕ). number_bytes 4 n ++ (number_bytes 1 (type_field bytes) ++ (number_bytes 2 (tag_field bytes) ++ drop 7 bytes))) size,
       f2.1,
     )
 
@@ -48,7 +48,7 @@ frame_heads : (n tag : ℕ) (fields : List ℕ) → Holds 1 n → Holds 2 tag �
 frame_heads n tag fields kind tagged short = record {
   sized = record {
     header = omega arith;
-    whole = little_number-reads_back 4 (7 + length fields) (number 1 n ++ (number 2 tag ++ fields)) (omega (arith, short)) ∙ omega arith;
+    whole = little_number-reads_back 4 (7 + length fields) (number_bytes 1 n ++ (number_bytes 2 tag ++ fields)) (omega (arith, short)) ∙ omega arith;
     short = short;
   };
   kind = omega (arith, kind);

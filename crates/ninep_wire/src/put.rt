@@ -29,7 +29,7 @@ pub(crate) fn framed(
 /// Writes a number of one byte.
 pub(crate) fn put_byte(out: &mut Octets, number: u8) -> Result<(), AllocError>
     ensures fits { spec.Holds 1 number }
-    ensures spelled { OnOk result (out.new ≡ out.old ++ spec.number 1 number) }
+    ensures spelled { OnOk result (out.new ≡ out.old ++ spec.number_bytes 1 number) }
 {
     out.push(number)
 }
@@ -37,7 +37,7 @@ pub(crate) fn put_byte(out: &mut Octets, number: u8) -> Result<(), AllocError>
 /// Writes a number of two bytes.
 pub(crate) fn put_word(out: &mut Octets, number: u16) -> Result<(), AllocError>
     ensures fits { spec.Holds 2 number }
-    ensures spelled { OnOk result (out.new ≡ out.old ++ spec.number 2 number) }
+    ensures spelled { OnOk result (out.new ≡ out.old ++ spec.number_bytes 2 number) }
 {
     let mut bytes = [0; 2];
     LittleEndian::write_u16(&mut bytes, number);
@@ -47,7 +47,7 @@ pub(crate) fn put_word(out: &mut Octets, number: u16) -> Result<(), AllocError>
 /// Writes a number of four bytes.
 pub(crate) fn put_long(out: &mut Octets, number: u32) -> Result<(), AllocError>
     ensures fits { spec.Holds 4 number }
-    ensures spelled { OnOk result (out.new ≡ out.old ++ spec.number 4 number) }
+    ensures spelled { OnOk result (out.new ≡ out.old ++ spec.number_bytes 4 number) }
 {
     let mut bytes = [0; 4];
     LittleEndian::write_u32(&mut bytes, number);
@@ -57,7 +57,7 @@ pub(crate) fn put_long(out: &mut Octets, number: u32) -> Result<(), AllocError>
 /// Writes a number of eight bytes.
 pub(crate) fn put_vast(out: &mut Octets, number: u64) -> Result<(), AllocError>
     ensures fits { spec.Holds 8 number }
-    ensures spelled { OnOk result (out.new ≡ out.old ++ spec.number 8 number) }
+    ensures spelled { OnOk result (out.new ≡ out.old ++ spec.number_bytes 8 number) }
 {
     let mut bytes = [0; 8];
     LittleEndian::write_u64(&mut bytes, number);

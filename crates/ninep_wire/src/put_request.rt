@@ -1,6 +1,6 @@
 //! Writing what a client asks.
 ghost use Rattle.std.specs.Prelude.{◌≡◌, ◌<◌, ◌≤◌, ◌++◌, length, IfOk, OnOk};
-ghost use Rattle.net_base.specs.NinepFields.{Holds, number};
+ghost use Rattle.net_base.specs.NinepFields.{Holds, number_bytes};
 ghost use Rattle.net_base.specs.NinepMessages.{SpellsT, IsTmsg, longest, t_bytes, t_fields, t_names, t_tag, t_type};
 
 use crate::put::{
@@ -114,7 +114,7 @@ fn put_fields(out: &mut Octets, message: &Tmsg) -> Result<(), AllocError>
 // A file and a place in it.
 fn put_place(out: &mut Octets, fid: u32, offset: u64) -> Result<(), AllocError>
     ensures fits { Holds 4 fid × Holds 8 offset }
-    ensures spelled { OnOk result (out.new ≡ out.old ++ (number 4 fid ++ number 8 offset)) }
+    ensures spelled { OnOk result (out.new ≡ out.old ++ (number_bytes 4 fid ++ number_bytes 8 offset)) }
 {
     put_long(out, fid)?;
     put_vast(out, offset)

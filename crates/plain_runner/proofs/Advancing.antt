@@ -16,8 +16,8 @@ use Rattle.net_base.specs.Calm.{most_entries, movable, owes, target}
 use Rattle.net_base.specs.Desk.{clock_reply}
 use Rattle.net_base.specs.Duties.{Duty}
 use Rattle.net_base.specs.Legal.{IsAsked, IsInTime, IsMove, cites_of}
-use Rattle.net_base.specs.Net.{Play, after, moment, owed, played, stepped_to, with_of, works}
-use Rattle.net_base.specs.Next.{by, next}
+use Rattle.net_base.specs.Net.{WorkAt, after, moment, owed, played, stepped_to, with_of, works}
+use Rattle.net_base.specs.Next.{by, next_recorded}
 use Rattle.history_laws.proofs.Shared.{state_is_fold}
 use Rattle.plain_runner.specs.Callers.{IsCaller, IsTurning}
 use Rattle.plain_runner.specs.Tracks.{IsBefore, Tracks}
@@ -29,7 +29,7 @@ use Rattle.calm_laws.proofs.Shared.{clock_is}
 
 -- The clock is ready to move at any time.
 
-pub played_plain : (w : World) (ps : List Play) → played w name.Clock IsPlain ps ≡ IsPlain
+pub played_plain : (w : World) (ps : List WorkAt) → played w name.Clock IsPlain ps ≡ IsPlain
 played_plain w [] = refl
 played_plain w (p ∷ ps) = ap (λ (s : Actor). played w name.Clock s ps) (one (clock_reply p.work.event)) ∙ played_plain w ps
   where
@@ -91,8 +91,8 @@ clock_before w r c t m s at nothing moves may to room = record {
     clock : caller_of w c ≡ IsClock
     clock = ap (caller_of w) at ∙ clock_is w
 
-    asked : (x : Entry) → x.actor ≡ t.actor → x.event ≡ t.work.event → IsAsked (owed w r.history.entries c) (caller_of w c) (next w r.history.entries c) x
+    asked : (x : Entry) → x.actor ≡ t.actor → x.event ≡ t.work.event → IsAsked (owed w r.history.entries c) (caller_of w c) (next_recorded w r.history.entries c) x
     asked x actor_is event_is =
-        subst (λ (ds : List Duty). IsAsked ds (caller_of w c) (next w r.history.entries c) x) (sym nothing)
-        (subst (λ (k : AnyCaller). IsAsked [] k (next w r.history.entries c) x) (sym clock) (move_at x.actor x.event (actor_is ∙ moves.actor) (event_is
+        subst (λ (ds : List Duty). IsAsked ds (caller_of w c) (next_recorded w r.history.entries c) x) (sym nothing)
+        (subst (λ (k : AnyCaller). IsAsked [] k (next_recorded w r.history.entries c) x) (sym clock) (move_at x.actor x.event (actor_is ∙ moves.actor) (event_is
         ∙ moves.event)))

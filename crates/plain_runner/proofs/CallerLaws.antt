@@ -13,7 +13,7 @@ use Rattle.net_base.specs.Calm.{is_ready}
 use Rattle.net_base.specs.Duties.{Duty}
 use Rattle.net_base.specs.Legal.{IsNext, asked_by}
 use Rattle.net_base.specs.Net.{after, owed}
-use Rattle.net_base.specs.Next.{finished_by, next, next_of, own_replies, zone_of}
+use Rattle.net_base.specs.Next.{finished_by, next_recorded, next_of, own_replies, zone_of}
 use Rattle.net_base.specs.Versions.{Tuples}
 use Rattle.net_base.specs.Steps.{Ask}
 use Rattle.script_player.specs.Players.{IsAt, Playing, next_after}
@@ -28,7 +28,7 @@ use Rattle.net_base.proofs.Members.{first_of, none_first}
 
 -- What comes next.
 
-pub next_of_script : (w : World) (h : List Entry) (c : ℕ) (s : Script) → slice_get w.scripts c ≡ Some s → next w h c ≡ next_after (zone_of w) s (own_replies h c)
+pub next_of_script : (w : World) (h : List Entry) (c : ℕ) (s : Script) → slice_get w.scripts c ≡ Some s → next_recorded w h c ≡ next_after (zone_of w) s (own_replies h c)
 next_of_script w h c s is = ap (λ (k : Called). next_of w k h c) (script_is w c s is)
 
 -- Whether it may record.
@@ -60,15 +60,15 @@ own_work t own = ap (λ (g : _). record { event = t.work.event; with = g }) own.
 pub may_own : (w : World) (h : List Entry) (c : ℕ) (k : Caller) (t : Turn) (now : ℕ) → (after w h).past ≡ h → IsCaller w h c k
     → slice_get k.owed.list 0 ≡ None → k.next ≡ Some t → now ≡ (after w h).moment
     → is_some (actor_step w t.actor ((after w h).actors t.actor) now t.work) ≡ may_turn w h c
-may_own w h c k t now past kept is next now_is =
-    let own : IsOwn t = subst (λ (o : Option Turn). AreOwn o) next kept.stands.own in
+may_own w h c k t now past kept is next_recorded now_is =
+    let own : IsOwn t = subst (λ (o : Option Turn). AreOwn o) next_recorded kept.stands.own in
     ap (λ (m : ℕ). is_some (actor_step w t.actor ((after w h).actors t.actor) m t.work)) now_is
     ∙ ap (λ (work : Work). is_some (actor_step w t.actor ((after w h).actors t.actor) (after w h).moment work)) (own_work t own)
-    ∙ sym (may_next w h c k past kept is ∙ ap (λ (o : Option Turn). is_ready w (after w h) (asks_of o)) next)
+    ∙ sym (may_next w h c k past kept is ∙ ap (λ (o : Option Turn). is_ready w (after w h) (asks_of o)) next_recorded)
 
 pub may_not : (w : World) (h : List Entry) (c : ℕ) (k : Caller) → (after w h).past ≡ h → IsCaller w h c k → slice_get k.owed.list 0 ≡ None → k.next ≡ None
     → false ≡ may_turn w h c
-may_not w h c k past kept is next = sym (may_next w h c k past kept is ∙ ap (λ (o : Option Turn). is_ready w (after w h) (asks_of o)) next)
+may_not w h c k past kept is next_recorded = sym (may_next w h c k past kept is ∙ ap (λ (o : Option Turn). is_ready w (after w h) (asks_of o)) next_recorded)
 
 -- Its turn is taken.
 
@@ -92,7 +92,7 @@ Tells s p told reply = (zone : Tuples) (rs : List Reply) (ask : Ask) → IsAt zo
 script_goes : (w : World) (h : List Entry) (c : ℕ) (s : Script) (p told : Playing) (reply : Reply) (x : Entry) (earlier : ℕ)
     → Tells s p told reply → IsScriptAt w h c s p earlier → IsEntryOf w h c None reply x → IsAt (zone_of w) s (own_replies (h ++ x ∷ []) c) told
 script_goes w h c s p told reply x earlier tells at is =
-    let came : next w h c ≡ Some (asked_by x) = subst (λ (k : Called). IsNext k (next w h c) x) (script_is w c s at.is) (is.came_next refl) in
+    let came : next_recorded w h c ≡ Some (asked_by x) = subst (λ (k : Called). IsNext k (next_recorded w h c) x) (script_is w c s at.is) (is.came_next refl) in
     let more : own_replies (h ++ x ∷ []) c ≡ own_replies h c ++ reply ∷ [] =
     next_replies h x c is.caller_is is.cites_is ∙ ap (λ (r : Reply). own_replies h c ++ r ∷ []) is.reply_is in
     subst (λ (rs : List Reply). IsAt (zone_of w) s rs told) (sym more)
@@ -106,7 +106,7 @@ pub stands_script : (w : World) (h : List Entry) (c : ℕ) (s : Script) (p told 
     → ((zone : Tuples) (rs : List Reply) → IsAt zone s rs told → asks_of event ≡ next_after zone s rs)
     → ((zone : Tuples) (rs : List Reply) → IsAt zone s rs told → IsAt zone s rs asked)
     → IsScriptAt w h c s p earlier → IsEntryOf w h c None reply x
-    → IsScriptAt w (h ++ x ∷ []) c s asked before × (asks_of event ≡ next w (h ++ x ∷ []) c)
+    → IsScriptAt w (h ++ x ∷ []) c s asked before × (asks_of event ≡ next_recorded w (h ++ x ∷ []) c)
 stands_script w h c s p told asked earlier before event reply x finished tells nexts same at is =
     let there = script_goes w h c s p told reply x earlier tells at is in
     let more : own_replies (h ++ x ∷ []) c ≡ own_replies h c ++ reply ∷ [] =

@@ -21,7 +21,7 @@ use Rattle.net_base.specs.Calm.{is_ready}
 use Rattle.net_base.specs.Duties.{Duty}
 use Rattle.net_base.specs.Legal.{Follows, IsAsked, IsInTime, IsLegal, IsMove, IsNext, IsTimed, MayFollow, Shown, Shows, asked_by, cites_of, shown_by}
 use Rattle.net_base.specs.Net.{Net, after, outcome_in, owed, step_of, with_of, work_of}
-use Rattle.net_base.specs.Next.{next, next_of}
+use Rattle.net_base.specs.Next.{next_recorded, next_of}
 use Rattle.net_base.specs.Steps.{Ask}
 use Rattle.history_laws.proofs.Shared.{at_push, one_more, Each}
 use Rattle.progress_law.proofs.Shared.{steady_after, OfKind}
@@ -117,8 +117,8 @@ grown_follows : (w : World) (r new : Runner) (x y : Entry) → FollowsOn w r x �
     → GoesOnWith w r new x y
 grown_follows w r new x y f other g =
     followed_so w r new x y f g.tracks g.history_is g.caller_is
-    (one_ask (caller_of w x.caller) (owed w r.history.entries x.caller) (next w r.history.entries x.caller) x y (no_move x other)
-    (subst (λ (c : ℕ). IsAsked (owed w r.history.entries c) (caller_of w c) (next w r.history.entries c) y) g.caller_is may.is_asked) f.may.is_asked)
+    (one_ask (caller_of w x.caller) (owed w r.history.entries x.caller) (next_recorded w r.history.entries x.caller) x y (no_move x other)
+    (subst (λ (c : ℕ). IsAsked (owed w r.history.entries c) (caller_of w c) (next_recorded w r.history.entries c) y) g.caller_is may.is_asked) f.may.is_asked)
   where
     may : MayFollow w r.history.entries y
     may = last_follows w r.history.entries y (subst (IsLegal w) g.history_is g.tracks.history.legal)
@@ -167,7 +167,7 @@ move_at name.Clock (event.Move m) is = refl
 move_at _ _ is = absurd is
 
 pub clock_moves : (w : World) (h : List Entry) (x : Entry) (m : ℕ) → IsHistory w h → x.caller < caller_count w
-    → IsAsked (owed w h x.caller) (caller_of w x.caller) (next w h x.caller) x → x.event ≡ event.Move m → IsClockMove w h x
+    → IsAsked (owed w h x.caller) (caller_of w x.caller) (next_recorded w h x.caller) x → x.event ≡ event.Move m → IsClockMove w h x
 clock_moves w h x m history known asked is = by_owed (owed w h x.caller) refl asked
   where
     kinds : Each (OfKind w) (owed w h x.caller)
@@ -176,18 +176,18 @@ clock_moves w h x m history known asked is = by_owed (owed w h x.caller) refl as
     not_next : (k : AnyCaller) → next_of w k h x.caller ≡ Some (asked_by x) → IsClockMove w h x
     not_next k asked = absurd (still_not x.event m is (next_still w k h x.caller (asked_by x) asked))
 
-    by_kind : owed w h x.caller ≡ [] → Kind w x.caller → IsNext (caller_of w x.caller) (next w h x.caller) x → IsClockMove w h x
+    by_kind : owed w h x.caller ≡ [] → Kind w x.caller → IsNext (caller_of w x.caller) (next_recorded w h x.caller) x → IsClockMove w h x
     by_kind none (OfClock at) asked = record {
       clock = at;
       nothing = none;
-      at_clock = move_at x.actor x.event (subst (λ (k : AnyCaller). IsNext k (next w h x.caller) x) (ap (caller_of w) at ∙ clock_is w) asked);
+      at_clock = move_at x.actor x.event (subst (λ (k : AnyCaller). IsNext k (next_recorded w h x.caller) x) (ap (caller_of w) at ∙ clock_is w) asked);
     }
     by_kind none (OfScript s at) asked =
-        not_next (caller_of w x.caller) (subst (λ (k : AnyCaller). IsNext k (next w h x.caller) x) (script_is w x.caller s at) asked)
+        not_next (caller_of w x.caller) (subst (λ (k : AnyCaller). IsNext k (next_recorded w h x.caller) x) (script_is w x.caller s at) asked)
     by_kind none (OfCourier n lt at) asked =
-        not_next (caller_of w x.caller) (subst (λ (k : AnyCaller). IsNext k (next w h x.caller) x) (courier_is w n x.caller at lt) asked)
+        not_next (caller_of w x.caller) (subst (λ (k : AnyCaller). IsNext k (next_recorded w h x.caller) x) (courier_is w n x.caller at lt) asked)
 
-    by_owed : (ds : List Duty) → owed w h x.caller ≡ ds → IsAsked ds (caller_of w x.caller) (next w h x.caller) x → IsClockMove w h x
+    by_owed : (ds : List Duty) → owed w h x.caller ≡ ds → IsAsked ds (caller_of w x.caller) (next_recorded w h x.caller) x → IsClockMove w h x
     by_owed [] none asked = by_kind none (kind_of w x.caller known) asked
     by_owed (d ∷ ds) some asked =
         let kind = (subst (Each (OfKind w)) some kinds).0 in
@@ -252,9 +252,9 @@ may_next w h items r n x legal timed same lt is f = record {
 
 pub followed_more : (w : World) (items : List Entry) (r new : Runner) (n : ℕ) (x : Entry) → n < length items → x ≡ get_or items n x
     → r.history.entries ≡ take n items → Followed w (r.history.entries ++ x ∷ []) new → Followed w (take (n + 1) items) new
-followed_more w items r new n x lt is before next = record {
-  tracks = next.tracks;
-  history_is = next.history_is ∙ ap (λ (p : List Entry). p ++ x ∷ []) before ∙ more;
+followed_more w items r new n x lt is before next_recorded = record {
+  tracks = next_recorded.tracks;
+  history_is = next_recorded.history_is ∙ ap (λ (p : List Entry). p ++ x ∷ []) before ∙ more;
 }
   where
     there : (y : Entry) × (slice_get items n ≡ Some y) × (take (suc n) items ≡ take n items ++ y ∷ [])

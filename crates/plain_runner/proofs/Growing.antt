@@ -18,7 +18,7 @@ use Rattle.net_base.specs.Calm.{most_entries}
 use Rattle.net_base.specs.Duties.{Duty, duties}
 use Rattle.net_base.specs.Legal.{IsNext, IsAsked, MayFollow, Shows, shown_by, cites_of}
 use Rattle.net_base.specs.Net.{Net, actors_after, after, moment, net_after, next_net, owed, owed_after, outcome_in, step_of, with_of, work_of}
-use Rattle.net_base.specs.Next.{by, next}
+use Rattle.net_base.specs.Next.{by, next_recorded}
 use Rattle.net_base.specs.Steps.{Ask}
 use Rattle.duties.specs.declared.due.Due.{Due}
 use Rattle.duties.specs.Owing.{Gives, without_copy}
@@ -125,7 +125,7 @@ module _ {Z : Type 0} (grows : Grows) (pasts : HavePasts) (replies : RepliesFit)
           answers = subst (λ (p : Option Outcome). Shows p x) (sym (outcome_so w h comes)) (ap shown_by entry_is);
           at_moment = ap (λ (y : Entry). y.moment) entry_is ∙ comes.now_is;
           cites = ap (λ (y : Entry). y.cites) entry_is ∙ comes.ready.turn.cited ∙ ap (λ (e : ℕ). cites_of (owed w h e)) (sym caller_so);
-          is_asked = subst (λ (e : ℕ). IsAsked (owed w h e) (caller_of w e) (next w h e) x) (sym caller_so) (comes.ready.turn.asked x actor_so event_so);
+          is_asked = subst (λ (e : ℕ). IsAsked (owed w h e) (caller_of w e) (next_recorded w h e) x) (sym caller_so) (comes.ready.turn.asked x actor_so event_so);
           is_ready = subst (λ (p : Option Outcome). IsSome p) (sym (outcome_so w h comes)) refl;
           is_known = (
             subst (λ (a : ActorName). has_actor w a ≡ true) (sym actor_so) (ready_has w h c t comes.ready),
@@ -141,7 +141,7 @@ module _ {Z : Type 0} (grows : Grows) (pasts : HavePasts) (replies : RepliesFit)
           cites_is = ap (λ (y : Entry). y.cites) entry_is;
           reply_is = ap (λ (y : Entry). y.reply) entry_is;
           fitting = ap (λ (e : Event). fits e o.reply) event_so ∙ replies w h t.actor now t.work _ (stepped_in w h comes).step;
-          came_next = λ none. came_by (caller_of w c) (next w h c) (owed w h c) x (sym comes.ready.turn.cited ∙ none)
+          came_next = λ none. came_by (caller_of w c) (next_recorded w h c) (owed w h c) x (sym comes.ready.turn.cited ∙ none)
               (comes.ready.turn.asked x actor_so event_so);
         }
 

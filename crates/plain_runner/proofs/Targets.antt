@@ -16,7 +16,7 @@ use Rattle.net_base.specs.Callers.{caller_count, caller_of}
 use Rattle.net_base.specs.Calm.{awaited_moment, callers, least, target}
 use Rattle.net_base.specs.Duties.{conversations, due_of, slots_of}
 use Rattle.net_base.specs.Net.{after}
-use Rattle.net_base.specs.Next.{next, next_of}
+use Rattle.net_base.specs.Next.{next_recorded, next_of}
 use Rattle.duties.specs.declared.due.Due.{Due}
 use Rattle.duties.specs.Ticking.{due_at, dues_of}
 use Rattle.plain_runner.specs.Waiting.{awaited_moments, due_moments}
@@ -83,7 +83,7 @@ dues_agree w actors = agree_hosts actors (range_with_len 0 (length w.hosts))
 -- Awaited moments.
 
 abbrev pub awaited_from : World → List Entry → ℕ → List ℕ
-awaited_from w h n = filter_map (λ (c : ℕ). awaited_moment (next w h c)) (range_with_len n (caller_count w - n))
+awaited_from w h n = filter_map (λ (c : ℕ). awaited_moment (next_recorded w h c)) (range_with_len n (caller_count w - n))
 
 awaited_one : (f : ℕ → Option ℕ) (n k now : ℕ) (o : Option ℕ) → f n ≡ o
     → least (least now (option_to_list o)) (filter_map f (range_with_len (n + 1) k)) ≡ least now (filter_map f (range_with_len n (suc k)))
@@ -97,9 +97,9 @@ pub awaited_next : (w : World) (r : Runner) (n now earlier last : ℕ) (k : Call
     → least earlier (awaited_from w r.history.entries (n + 1)) ≡ least last (awaited_moments w r.history.entries)
 awaited_next w r n now earlier last k s at lt is all =
     ap (λ (m : ℕ). least m (awaited_from w r.history.entries (n + 1))) is
-    ∙ awaited_one (λ (c : ℕ). awaited_moment (next w r.history.entries c)) n (caller_count w - (n + 1)) now (awaited_moment (asks_of k.next))
+    ∙ awaited_one (λ (c : ℕ). awaited_moment (next_recorded w r.history.entries c)) n (caller_count w - (n + 1)) now (awaited_moment (asks_of k.next))
     (ap awaited_moment (sym (s.callers_are.each n k at).stands.next_is))
-    ∙ ap (λ (i : ℕ). least now (filter_map (λ (c : ℕ). awaited_moment (next w r.history.entries c)) (range_with_len n i))) (sym more) ∙ all
+    ∙ ap (λ (i : ℕ). least now (filter_map (λ (c : ℕ). awaited_moment (next_recorded w r.history.entries c)) (range_with_len n i))) (sym more) ∙ all
   where
     more : caller_count w - n ≡ suc (caller_count w - (n + 1))
     more = omega (arith, lt, s.callers_are.count)
@@ -109,7 +109,7 @@ pub awaited_all : (w : World) (r : Runner) (n now last : ℕ) → Tracks w r →
     → now ≡ least last (awaited_moments w r.history.entries)
 awaited_all w r n now last s le all =
     let none : caller_count w - n ≡ 0 = omega (arith, le, s.callers_are.count) in
-    ap (λ (i : ℕ). least now (filter_map (λ (c : ℕ). awaited_moment (next w r.history.entries c)) (range_with_len n i))) (sym none) ∙ all
+    ap (λ (i : ℕ). least now (filter_map (λ (c : ℕ). awaited_moment (next_recorded w r.history.entries c)) (range_with_len n i))) (sym none) ∙ all
 
 -- The target.
 

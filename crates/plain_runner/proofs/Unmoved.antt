@@ -20,9 +20,9 @@ use Rattle.net_base.specs.Calm.{is_ready, most_entries}
 use Rattle.net_base.specs.Duties.{Duty}
 use Rattle.net_base.specs.Legal.{IsAsked, IsInTime, IsNext, asked_by}
 use Rattle.net_base.specs.Net.{Net, after, moment, owed, with_of}
-use Rattle.net_base.specs.Next.{by, next, next_of, own_replies, zone_of}
+use Rattle.net_base.specs.Next.{by, next_recorded, next_of, own_replies, zone_of}
 use Rattle.net_base.specs.Scripts.{at_first, position}
-use Rattle.net_base.specs.Steps.{Ask, call_names, clone_path, lines_in}
+use Rattle.net_base.specs.Steps.{Ask, call_names, clone_path, reply_lines}
 use Rattle.net_base.specs.Versions.{Tuples}
 use Rattle.history_laws.proofs.Shared.{Each, each_any, past_after, next_event, Fits, IsNextEvent, IsNamed, IsOpened, IsOwn, Says}
 use Rattle.progress_law.proofs.Shared.{steady_after, IsKind, OfKind}
@@ -58,7 +58,7 @@ own_still a _ own = tt
 fits_still : Fits IsStillAt (λ (r : Reply). Unit {0})
 fits_still = record {
   other = own_still;
-  dialled = λ r fine. each_any (λ (line : List ℕ). IsOpened IsStillAt (clone_path line)) (λ line a m. tt) (lines_in r);
+  dialled = λ r fine. each_any (λ (line : List ℕ). IsOpened IsStillAt (clone_path line)) (λ line a m. tt) (reply_lines r);
 }
 
 says_still : (h : ℕ) (s : Step) → Says h IsStillAt s
@@ -127,7 +127,7 @@ by_next w net h c (IsCourier m) t past asked gave ready = by_ask w net h c (IsCo
 by_next w net h c IsNobody t past asked gave ready = by_ask w net h c IsNobody t past asked gave ready
 
 by_owed : (w : World) (net : Net) (h : List Entry) (c : ℕ) (t : Turn) (ds : List Duty) → net.past ≡ h → Each (OfKind w) ds
-    → IsAsked ds (caller_of w c) (next w h c) (entry_for c t)
+    → IsAsked ds (caller_of w c) (next_recorded w h c) (entry_for c t)
     → t.work.with ≡ with_of ds → may_turn_by w net c ds ≡ true → IsReadyAsk w net t
 by_owed w net h c t [] past kinds asked gave may = by_next w net h c (caller_of w c) t past asked gave may
 by_owed w net h c t (d ∷ ds) past kinds asked gave may =

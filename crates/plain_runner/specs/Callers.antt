@@ -9,7 +9,7 @@ use Rattle.net_base.specs.declared.world.World.{World}
 use Rattle.net_base.specs.Callers.{IsCourier, IsClock, caller_of}
 use Rattle.net_base.specs.Legal.{IsNext}
 use Rattle.net_base.specs.Net.{owed}
-use Rattle.net_base.specs.Next.{by, finished_by, next, own_replies, zone_of}
+use Rattle.net_base.specs.Next.{by, finished_by, next_recorded, own_replies, zone_of}
 use Rattle.script_player.specs.Players.{IsAt, Playing}
 use Rattle.script_task.specs.Fitting.{fits}
 use Rattle.plain_runner.specs.Turns.{AreOwn, IsTurn, asks_of, may_turn}
@@ -33,13 +33,13 @@ HasRole w h c role.Clock before = caller_of w c ≡ IsClock
 -- who a caller is, and what it records next
 pub record Stands (w : World) (h : List Entry) (c : ℕ) (k : Caller) : Type 0 where
   pub role_is : HasRole w h c k.role k.before
-  pub next_is : asks_of k.next ≡ next w h c
+  pub next_is : asks_of k.next ≡ next_recorded w h c
   pub own : AreOwn k.next
 
 -- a caller while its turn, which cites this, is recorded: what it records next was taken where it owed nothing
 pub record Turns (w : World) (h : List Entry) (c : ℕ) (cites : Option ℕ) (k : Caller) : Type 0 where
   pub role_is : HasRole w h c k.role k.before
-  pub next_is : IsSome cites → asks_of k.next ≡ next w h c
+  pub next_is : IsSome cites → asks_of k.next ≡ next_recorded w h c
   pub own : IsSome cites → AreOwn k.next
 
 -- what is kept of a caller after a history
@@ -70,7 +70,7 @@ pub record IsEntryOf (w : World) (h : List Entry) (c : ℕ) (cites : Option ℕ)
   pub cites_is : x.cites ≡ cites
   pub reply_is : x.reply ≡ reply
   pub fitting : fits x.event reply ≡ true
-  pub came_next : cites ≡ None → IsNext (caller_of w c) (next w h c) x
+  pub came_next : cites ≡ None → IsNext (caller_of w c) (next_recorded w h c) x
 
 -- the caller went on after an entry of its turn
 pub record GoesOn (old new : Caller) (cites : Option ℕ) (reply : Reply) : Type 0 where

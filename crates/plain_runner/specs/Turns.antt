@@ -12,14 +12,14 @@ use Rattle.net_base.specs.Calm.{can_go_on, most_entries}
 use Rattle.net_base.specs.Duties.{Duty}
 use Rattle.net_base.specs.Legal.{IsAsked, IsInTime, cites_of}
 use Rattle.net_base.specs.Net.{Net, after, owed, moment, with_of}
-use Rattle.net_base.specs.Next.{by, next}
+use Rattle.net_base.specs.Next.{by, next_recorded}
 use Rattle.net_base.specs.Steps.{Ask}
 use Rattle.plain_runner.specs.declared.turn.Turn.{Turn}
 
 -- the turn is the caller's first duty, or its next event, or a move of the clock
 abbrev pub IsAskedOf : World → List Entry → ℕ → Turn → Type 0
 IsAskedOf w h c t =
-    (x : Entry) → x.actor ≡ t.actor → x.event ≡ t.work.event → IsAsked (owed w h c) (caller_of w c) (next w h c) x
+    (x : Entry) → x.actor ≡ t.actor → x.event ≡ t.work.event → IsAsked (owed w h c) (caller_of w c) (next_recorded w h c) x
 
 -- a caller's turn after a history
 pub record IsTurn (w : World) (h : List Entry) (c : ℕ) (t : Turn) : Type 0 where

@@ -13,7 +13,7 @@ use Rattle.net_base.specs.Networks.{is_filled}
 use Rattle.net_base.specs.IlEnd.{End, Turn, has_unacked, starts}
 use Rattle.net_base.specs.IlTable.{first_unread, sends}
 use Rattle.net_base.specs.IlTable.{reads as reads_end, writes as writes_end}
-use Rattle.net_base.specs.Written.{written_in, read_in, joined}
+use Rattle.net_base.specs.Written.{written_in, read_in, joined_texts}
 use Rattle.prefix_law.proofs.Begins.{Begins, begins_prefix, begins_length, in_pushed}
 use Rattle.prefix_law.proofs.Untouched.{Leaves}
 
@@ -24,7 +24,7 @@ HasEmpty (text ∷ texts) = (text ≡ []) ⊎ HasEmpty texts
 
 -- the bytes that an end has given to its readers
 abbrev pub given_out : ℕ → ℕ → List (List ℕ) → List ℕ
-given_out taken cut got = joined (take taken got) ++ take cut (slice_index_or got taken [])
+given_out taken cut got = joined_texts (take taken got) ++ take cut (slice_index_or got taken [])
 
 -- it stands in a message, or before the next one
 abbrev pub IsReading : ℕ → ℕ → List (List ℕ) → Type 0
@@ -55,7 +55,7 @@ AtEnd e = (e.closed_by_peer ≡ true) × (e.read_count ≡ length e.got) × (e.r
 -- an entry's event and reply say what the end wrote and gave
 pub record Account (g : ℕ) (ev : Event) (r : Reply) (e e' : End) : Type 0 where
   pub sent_is : e'.sent ≡ e.sent ++ written_in g ev r
-  pub read_is : Reading e → given_by e' ≡ given_by e ++ joined (read_in g ev r)
+  pub read_is : Reading e → given_by e' ≡ given_by e ++ joined_texts (read_in g ev r)
   pub reading : Reading e → Reading e'
   pub sized : AllSized e.sent → AllSized e'.sent
   -- a read of nothing comes at the end alone
@@ -63,7 +63,7 @@ pub record Account (g : ℕ) (ev : Event) (r : Reply) (e e' : End) : Type 0 wher
   -- reads with room for every message take whole messages
   pub whole : ReadsAll g ev r → Reading e → AllSized e.got → e.read_offset ≡ 0 → (e'.read_offset ≡ 0) × (take e'.read_count e'.got ≡ take e.read_count e.got ++ filter is_filled (read_in g ev r))
   -- nothing more is read at the end
-  pub quiet : AtEnd e → joined (read_in g ev r) ≡ []
+  pub quiet : AtEnd e → joined_texts (read_in g ev r) ≡ []
   -- the end stays the end, where nothing more comes
   pub stays : AtEnd e → Begins e'.got e.got → AtEnd e'
 
@@ -106,7 +106,7 @@ left_account g ev r e e' l silent = record {
   whole = λ _ reading _ none.
       let more = begins_prefix e.got e'.got l.got_more in
       (l.cut_is ∙ none, rw silent.1 (rw (l.taken_is, ← more.1) (taken_more e.read_count e.read_offset e.got more.0 reading ∙ sym (append-nil (take e.read_count e.got)))));
-  quiet = λ _. ap joined silent.1;
+  quiet = λ _. ap joined_texts silent.1;
   stays = λ at back. (l.marked_stays at.0, omega (arith, l.taken_is, at.1, begins_length e.got e'.got l.got_more, begins_length e'.got e.got back), l.cut_is ∙ at.2);
 }
 
@@ -130,9 +130,9 @@ write_account g g' now text n e own some =
     cond_both (has_unacked e) _ _ (λ (t : Turn). Account g (event.Write g' text) (reply.Count n) e t.end)
     (λ _. sends_account g g' text n e (sends now text e).end own refl refl refl refl refl some) (λ _. sends_account g g' text n e (sends now text (starts now e)).end own refl refl refl refl refl some)
 
-pub joined-append : (xs ys : List (List ℕ)) → joined (xs ++ ys) ≡ joined xs ++ joined ys
+pub joined-append : (xs ys : List (List ℕ)) → joined_texts (xs ++ ys) ≡ joined_texts xs ++ joined_texts ys
 joined-append [] ys = refl
-joined-append (x ∷ xs) ys = ap (λ (zs : List ℕ). x ++ zs) (joined-append xs ys) ∙ sym (append_assoc x (joined xs) (joined ys))
+joined-append (x ∷ xs) ys = ap (λ (zs : List ℕ). x ++ zs) (joined-append xs ys) ∙ sym (append_assoc x (joined_texts xs) (joined_texts ys))
 
 one_piece : (js xs cs : List ℕ) → js ++ (xs ++ cs) ≡ (js ++ xs) ++ (cs ++ [])
 one_piece js xs cs = simp (append_assoc, append-nil)
@@ -161,7 +161,7 @@ some_read g g' count e own some there reading all h =
 pub read_account : (g g' count : ℕ) (e : End) → g' ≡ g → 0 < count → e.read_count < length e.got → Account g (event.Read g' count) (reply.Bytes (take count (first_unread e))) e (reads_end count e)
 read_account g g' count e own some there =
     let m = slice_index_or e.got e.read_count [] in
-    let js = joined (take e.read_count e.got) in
+    let js = joined_texts (take e.read_count e.got) in
     cond_both (nat_lt count (length (first_unread e))) _ _ (λ (x : End). Account g (event.Read g' count) (reply.Bytes (take count (first_unread e))) e x)
     (λ more. record {
       sent_is = sym (append-nil e.sent);
@@ -177,8 +177,8 @@ read_account g g' count e own some there =
       sent_is = sym (append-nil e.sent);
       read_is = λ _.
           let all : take count (drop e.read_offset m) ≡ drop e.read_offset m = take_all count (drop e.read_offset m) (ltb-false count (length (drop e.read_offset m)) not) in
-          let next : joined (take (e.read_count + 1) e.got) ≡ js ++ ((take e.read_offset m ++ drop e.read_offset m) ++ []) =
-          ap joined (take_more e.got e.read_count [] there) ∙ (joined-append (take e.read_count e.got) (m ∷ []) ∙ ap (λ (x : List ℕ). js ++ (x ++ [])) (sym (take-append-drop e.read_offset m))) in
+          let next : joined_texts (take (e.read_count + 1) e.got) ≡ js ++ ((take e.read_offset m ++ drop e.read_offset m) ++ []) =
+          ap joined_texts (take_more e.got e.read_count [] there) ∙ (joined-append (take e.read_count e.got) (m ∷ []) ∙ ap (λ (x : List ℕ). js ++ (x ++ [])) (sym (take-append-drop e.read_offset m))) in
           rw (eq-eqb g' g own) (rw (all, next) (last_piece js (take e.read_offset m) (drop e.read_offset m)));
       reading = λ _. elim (cases_lt (e.read_count + 1) (length e.got)) [ inl less ↦ inl (less, inl refl) | inr more ↦ inr (omega arith, refl) ];
       sized = λ all. all;
@@ -197,7 +197,7 @@ read_account g g' count e own some there =
 pub end_account : (g g' count : ℕ) (e : End) → e.closed_by_peer ≡ true → length e.got ≤ e.read_count → Account g (event.Read g' count) (reply.Bytes []) e e
 end_account g g' count e closed_by_peer all = record {
   sent_is = sym (append-nil e.sent);
-  read_is = λ _. cond_both (g' == g) _ _ (λ (xs : List (List ℕ)). given_by e ≡ given_by e ++ joined xs) (λ _. sym (append-nil (given_by e))) (λ _. sym (append-nil (given_by e)));
+  read_is = λ _. cond_both (g' == g) _ _ (λ (xs : List (List ℕ)). given_by e ≡ given_by e ++ joined_texts xs) (λ _. sym (append-nil (given_by e))) (λ _. sym (append-nil (given_by e)));
   reading = λ r. r;
   sized = λ x. x;
   ends = λ reading _ _.
@@ -207,6 +207,6 @@ end_account g g' count e closed_by_peer all = record {
     none,
     cond_both (g' == g) _ _ (λ (xs : List (List ℕ)). take e.read_count e.got ≡ take e.read_count e.got ++ filter is_filled xs) (λ _. sym (append-nil (take e.read_count e.got))) (λ _. sym (append-nil (take e.read_count e.got))),
   );
-  quiet = λ _. cond_both (g' == g) _ _ (λ (xs : List (List ℕ)). joined xs ≡ []) (λ _. refl) (λ _. refl);
+  quiet = λ _. cond_both (g' == g) _ _ (λ (xs : List (List ℕ)). joined_texts xs ≡ []) (λ _. refl) (λ _. refl);
   stays = λ at _. at;
 }

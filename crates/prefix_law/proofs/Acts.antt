@@ -75,7 +75,7 @@ good_act now c e e' ev gift t (Writing text stage state_is is) few l back knows 
     subst (λ (u : Turn). Good e e' u) (sym is) (let met = writer_met e.state e.rstart e.fresh e.cause state_is knows.0 in good_writes now text e e' met.0 met.1 l knows)
 good_act now c e e' ev gift t (Reading count stage is) few l back knows told = subst (λ (u : Turn). Good e e' u) (sym is) (good_reads count e e' l knows)
 good_act now c e e' ev gift t (Hanging is) few l back knows told = subst (λ (u : Turn). Good e e' u) (sym is) (good_hangs_up_at e.state now e e' l knows knows.0)
-good_act now c e e' ev gift t (Ticking is) few l back knows told = subst (λ (u : Turn). Good e e' u) (sym is) (good_ticks (timer.ticks now e.timer).says (timer.ticks now e.timer).timer e e' l knows)
+good_act now c e e' ev gift t (Ticking is) few l back knows told = subst (λ (u : Turn). Good e e' u) (sym is) (good_ticks (timer.timer_ticks now e.timer).says (timer.timer_ticks now e.timer).timer e e' l knows)
 
 -- Ends that are not linked.
 

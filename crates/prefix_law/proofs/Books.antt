@@ -25,7 +25,7 @@ use Rattle.net_base.specs.ActorStep.{Step}
 use Rattle.net_base.specs.Conversation.{Il, Stage, Unused, Listening, Connected, Conv}
 use Rattle.prefix_law.proofs.Trace.{Owner, Trace, empty_side, conv_trace}
 use Rattle.net_base.specs.Stamped.{same_actor}
-use Rattle.net_base.specs.Written.{Conversation, written_in, read_in, written_by, read_by, joined}
+use Rattle.net_base.specs.Written.{Conversation, written_in, read_in, written_by, read_by, joined_texts}
 use Rattle.prefix_law.proofs.Begins.{Begins}
 use Rattle.prefix_law.proofs.Deeds.{both_ways}
 use Rattle.prefix_law.proofs.ConvMoves.{is_connected, Stays, Move, Stay, Begin, Join, Come, Listen, Elsewhere, of_end}
@@ -64,12 +64,12 @@ pub record NoEntry (o : Owner) (a : ActorName) (ev : Event) (r : Reply) : Type 0
 -- the end's part in the entry
 pub record EntryAccount (o : Owner) (a : ActorName) (ev : Event) (r : Reply) (e e' : End) : Type 0 where
   pub sent_is : e'.sent ≡ e.sent ++ written_here o a ev r
-  pub read_is : Reading e → given_by e' ≡ given_by e ++ joined (read_here o a ev r)
+  pub read_is : Reading e → given_by e' ≡ given_by e ++ joined_texts (read_here o a ev r)
   pub reading : Reading e → Reading e'
   pub sized : AllSized e.sent → AllSized e'.sent
   pub ends : Reading e → AllSized e.got → HasEmpty (read_here o a ev r) → AtEnd e × AtEnd e'
   pub whole : (is_at o a ≡ true → ReadsAll o.generation ev r) → Reading e → AllSized e.got → e.read_offset ≡ 0 → (e'.read_offset ≡ 0) × (take e'.read_count e'.got ≡ take e.read_count e.got ++ filter is_filled (read_here o a ev r))
-  pub quiet : AtEnd e → joined (read_here o a ev r) ≡ []
+  pub quiet : AtEnd e → joined_texts (read_here o a ev r) ≡ []
   pub stays : AtEnd e → AtEnd e'
 
 no_entry_account : (o : Owner) (a : ActorName) (ev : Event) (r : Reply) (e : End) → NoEntry o a ev r → EntryAccount o a ev r e e
@@ -80,7 +80,7 @@ no_entry_account o a ev r e n = record {
   sized = λ x. x;
   ends = λ _ _ h. absurd (no_empty (read_here o a ev r) n.read_none h);
   whole = λ _ _ _ none. (none, rw n.read_none (sym (append-nil (take e.read_count e.got))));
-  quiet = λ _. ap joined n.read_none;
+  quiet = λ _. ap joined_texts n.read_none;
   stays = λ x. x;
 }
 
@@ -101,7 +101,7 @@ booked_quiet t a ev r none = record {
 
 pub record Books (t : Trace) (h : List Entry) : Type 0 where
   pub sent_is : (p : Pair) (o : Owner) → t.owner p ≡ Some o → (t.side p).end.sent ≡ writes o h
-  pub given_is : (p : Pair) (o : Owner) → t.owner p ≡ Some o → given_by (t.side p).end ≡ joined (reads o h)
+  pub given_is : (p : Pair) (o : Owner) → t.owner p ≡ Some o → given_by (t.side p).end ≡ joined_texts (reads o h)
   pub reading : (p : Pair) (o : Owner) → t.owner p ≡ Some o → Reading (t.side p).end
   pub sized : (p : Pair) (o : Owner) → t.owner p ≡ Some o → AllSized (t.side p).end.sent
   pub ended : (p : Pair) (o : Owner) → t.owner p ≡ Some o → HasEmpty (reads o h) → AtEnd (t.side p).end
@@ -153,10 +153,10 @@ books_next t u h x all b k = record {
 
     given : (p : Pair) (o : Owner)
         → ((t.owner p ≡ Some o) × EntryAccount o x.actor x.event x.reply (t.side p).end (u.side p).end) ⊎ (((q : Pair) → t.owner q ≡ Some o → ⊥) × (u.side p ≡ empty_side) × NoEntry o x.actor x.event x.reply)
-        → given_by (u.side p).end ≡ joined (reads o (h ++ x ∷ []))
+        → given_by (u.side p).end ≡ joined_texts (reads o (h ++ x ∷ []))
     given p o (inl y) =
-        y.1.read_is (b.reading p o y.0) ∙ (ap (λ (zs : List ℕ). zs ++ joined (read_here o x.actor x.event x.reply)) (b.given_is p o y.0)
-        ∙ (sym (joined-append (reads o h) (read_here o x.actor x.event x.reply)) ∙ ap joined (sym (reads_push o h x))))
+        y.1.read_is (b.reading p o y.0) ∙ (ap (λ (zs : List ℕ). zs ++ joined_texts (read_here o x.actor x.event x.reply)) (b.given_is p o y.0)
+        ∙ (sym (joined-append (reads o h) (read_here o x.actor x.event x.reply)) ∙ ap joined_texts (sym (reads_push o h x))))
     given p o (inr y) = rw (reads_push o h x) (ap (λ (s : Side). given_by s.end) y.1 ∙ rw ((b.none o y.0).1, y.2.read_none) refl)
 
     reading : (p : Pair) (o : Owner)

@@ -25,7 +25,7 @@ use Rattle.net_base.specs.Timer as timer
 use Rattle.net_base.specs.ControlWords as control
 use Rattle.net_base.specs.Paths.{file_names}
 use Rattle.net_base.specs.ActorStep.{Step}
-use Rattle.net_base.specs.Conversation.{Il, Stage, Unused, Listening, Connected, Conv, born_to, answers, leaves, packet_of, turned, in_generation, raises, may_bear, may_connect, has_protocol, joined, brought_forth, listens, binds, taken_in, il_read, read_at, core_name, il_written, write_at, left_or_ok, closed, il_awaited, awaited, opened, listed, file_text, refused_control, bad_control, tick_reply, conv_step}
+use Rattle.net_base.specs.Conversation.{Il, Stage, Unused, Listening, Connected, Conv, born_to, only_replies, leaves, packet_of, turned, in_generation, raises, may_bear, may_connect, has_protocol, joined, brought_forth, listens, binds, taken_in, il_read, read_at, core_name, il_written, write_at, left_or_ok, closed, il_awaited, awaited, opened, listed, file_text, refused_control, bad_control, tick_reply, conv_step}
 use Rattle.prefix_law.proofs.Untouched.{leaves_itself, arrives_leaves, hangs_leaves, ticks_leaves}
 use Rattle.prefix_law.proofs.Accounts.{IsSized, Account, Silent, left_account, write_account, read_account, end_account}
 
@@ -127,7 +127,7 @@ rests : (now : ℕ) (c k : Conv) (e : End) (ev : Event) (gift : With) (answer : 
 rests now c k e ev gift answer gen pair stage limit account =
     Stay (silent e) (Rest refl) (record { generation_is = gen; pair_is = λ _. pair; stage_is = stage; limit_is = limit; core_is = refl; emits = record { by = c; pair_is = refl; emit_is = refl }; account = account })
 
-same : (now : ℕ) (c : Conv) (e : End) (ev : Event) (gift : With) (answer : Reply) → Silent c.generation ev answer → Move now c e ev gift (answers (of_end c e) answer)
+same : (now : ℕ) (c : Conv) (e : End) (ev : Event) (gift : With) (answer : Reply) → Silent c.generation ev answer → Move now c e ev gift (only_replies (of_end c e) answer)
 same now c e ev gift answer silent = rests now c c e ev gift answer refl refl refl refl (left_account c.generation ev answer e e (leaves_itself e) silent)
 
 quiet_account : (g : ℕ) (ev : Event) (r : Reply) (e : End) → Silent g ev r → Account g ev r e e
@@ -297,7 +297,7 @@ moves slot (event.Close g) gift now c e small = own now g c e _ _ _ (λ _. close
 moves slot (event.ArriveAt g) (given.Packet p) now c e small =
     moves_if now c e _ _ (has_protocol (Il e) p.body) _ _ (λ _. own now g c e _ _ _ (λ is. takes_in now g p p.body c e refl is)) (λ _. tt)
 moves slot (event.Tick g) gift now c e small =
-    own now g c e _ _ _ (λ _. turns now c (of_end c e) e _ _ (tick_reply (timer.ticks now e.timer).says) (ticks now e) refl refl refl refl (Ticking refl) (left_account c.generation (event.Tick g) _ e (ticks now e).end (ticks_leaves (timer.ticks now e.timer).says (timer.ticks now e.timer).timer e).leaves (refl, refl)))
+    own now g c e _ _ _ (λ _. turns now c (of_end c e) e _ _ (tick_reply (timer.timer_ticks now e.timer).says) (ticks now e) refl refl refl refl (Ticking refl) (left_account c.generation (event.Tick g) _ e (ticks now e).end (ticks_leaves (timer.timer_ticks now e.timer).says (timer.timer_ticks now e.timer).timer e).leaves (refl, refl)))
 moves slot event.Ls gift now c e small = lists c.opens now gift c e
 moves slot _ _ now c e small = tt
 

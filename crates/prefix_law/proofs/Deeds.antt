@@ -216,7 +216,7 @@ steps s o (Arrives now which) few h back =
     comes_steps now (slice_get o.out which) s o few h back (λ m is. each_at o.end o.out which m back.out is)
 steps s o (Hangs_up now) few h back =
     stepped s o (hangs_up now s.end) h (good_hangs_up_at s.end.state now s.end o.end h.link h.knows h.knows.0)
-steps s o (Ticks now) few h back = stepped s o (ticks now s.end) h (good_ticks (timer.ticks now s.end.timer).says (timer.ticks now s.end.timer).timer s.end o.end h.link h.knows)
+steps s o (Ticks now) few h back = stepped s o (ticks now s.end) h (good_ticks (timer.timer_ticks now s.end.timer).says (timer.timer_ticks now s.end.timer).timer s.end o.end h.link h.knows)
 
 -- the other side's own part stays
 pub other_holds : (s o after : Side) → Holds o s → Grows s.end after.end → Holds o after

@@ -20,7 +20,7 @@ use Rattle.net_base.specs.Same.{same_addr}
 use Rattle.net_base.specs.declared.world.World.{World}
 use Rattle.net_base.specs.Routes.{Way, way, has_address}
 use Rattle.net_base.specs.ActorStep.{Step}
-use Rattle.net_base.specs.Directory.{dir_answers, pair_of, Slot, Dir, free_slot, is_free, is_reserved, Taker, home_at, first_slot, pair_place, reserves, grants_pair, bears, is_live_with, dir_step}
+use Rattle.net_base.specs.Directory.{dir_answers, packet_pair, Slot, Dir, free_slot, is_free, is_reserved, Taker, home_at, first_slot, pair_place, reserves, grants_pair, bears, is_live_with, dir_step}
 use Rattle.net_base.specs.Duties.{close_calls}
 use Rattle.prefix_law.proofs.Trace.{Owner, Trace, dir_trace, HasPlaces}
 use Rattle.prefix_law.proofs.Deeds.{both_ways}
@@ -117,8 +117,8 @@ module _ (w : World) (world : HasPlaces w) (k h stamp : ℕ) (t : Trace) (owned 
   not_reserved n s kind not f = record { has = f.has; past = f.past; unused = λ r. absurd (both_ways r not) }
 
   -- a packet that brings a conversation forth
-  bears_after : (packet : Packet) (taker : Taker) → Emitted t packet → has_address w h packet.dst.ip ≡ true → TakerFound (pair_of packet) packet d taker
-      → After event.Arrive (given.Packet packet) (bears (home_at w h proto.Il) (pair_of packet) taker d)
+  bears_after : (packet : Packet) (taker : Taker) → Emitted t packet → has_address w h packet.dst.ip ≡ true → TakerFound (packet_pair packet) packet d taker
+      → After event.Arrive (given.Packet packet) (bears (home_at w h proto.Il) (packet_pair packet) taker d)
   bears_after packet taker emitted here found =
       let pair : Pair = record { local = packet.dst; remote = packet.src } in
       let n = taker.free.0 in
@@ -157,12 +157,12 @@ module _ (w : World) (world : HasPlaces w) (k h stamp : ℕ) (t : Trace) (owned 
       }
 
   -- a packet of a pair that a slot has
-  to_after : (packet : Packet) (n : ℕ) (s : Slot) → Emitted t packet → first_slot (is_live_with (pair_of packet)) 0 d.slots ≡ Some (n, s)
+  to_after : (packet : Packet) (n : ℕ) (s : Slot) → Emitted t packet → first_slot (is_live_with (packet_pair packet)) 0 d.slots ≡ Some (n, s)
       → After event.Arrive (given.Packet packet) (dir_answers (reply.To n s.generation) d)
   to_after packet n s emitted is =
-      let there = slot_found (is_live_with (pair_of packet)) d.slots (n, s) is in
-      let has : s.pair ≡ Some (pair_of packet) = has_pair_is (pair_of packet) s.pair (and_parts (not (is_free s)) _ there.1).1 in
-      dir_keeps w k h stamp event.Arrive (given.Packet packet) t _ owned addressed f tt (((f.slots_fine n s there.0).has (pair_of packet) has, emitted), tt)
+      let there = slot_found (is_live_with (packet_pair packet)) d.slots (n, s) is in
+      let has : s.pair ≡ Some (packet_pair packet) = has_pair_is (packet_pair packet) s.pair (and_parts (not (is_free s)) _ there.1).1 in
+      dir_keeps w k h stamp event.Arrive (given.Packet packet) t _ owned addressed f tt (((f.slots_fine n s there.0).has (packet_pair packet) has, emitted), tt)
 
   row_after : (ev : Event) (gift : With) (s : Step Dir) → WithFine w t (actor.Dir h proto.Il) ev gift → DirRow w h proto.Il d ev gift s → After ev gift s
   row_after ev gift s fine (row.Stale {n = n} {g = g} names at other) = stale_after ev gift n g names
@@ -179,7 +179,7 @@ module _ (w : World) (world : HasPlaces w) (k h stamp : ℕ) (t : Trace) (owned 
       dir_keeps w k h stamp ev gift t _ owned addressed
       (set_fine t h d n _ f (empty_fine t h n x name.Free x.generation (f.slots_fine n x at) (omega arith) (λ r. absurd (both_ways r refl)))) tt (closes_fine x.calls)
   row_after ev gift s fine (row.To {packet = packet} {n = n} {s = x} of found) = to_after packet n x fine.0 found
-  row_after ev gift s fine (row.Bears {packet = packet} {t = taker} of takes) = bears_after packet taker fine.0 fine.1 (taker_found (pair_of packet) packet d taker takes)
+  row_after ev gift s fine (row.Bears {packet = packet} {t = taker} of takes) = bears_after packet taker fine.0 fine.1 (taker_found (packet_pair packet) packet d taker takes)
   row_after ev gift s fine (row.Refuses said sync) = dir_keeps w k h stamp ev gift t _ owned addressed f (inr (refl, refl)) tt
   row_after ev gift s fine _ = dir_keeps w k h stamp ev gift t _ owned addressed f tt tt
 

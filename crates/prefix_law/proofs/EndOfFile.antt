@@ -17,7 +17,7 @@ use Rattle.net_base.specs.Mirror.{mirror}
 use Rattle.net_base.specs.Net.{after, work_of}
 use Rattle.net_base.specs.Tasks.{Tasks}
 use Rattle.net_base.specs.World.{IsWorld}
-use Rattle.net_base.specs.Written.{read_by, joined, IsRead, HasClosed}
+use Rattle.net_base.specs.Written.{read_by, joined_texts, IsRead, HasClosed}
 use Rattle.prefix_law.proofs.Accounts.{AtEnd, HasEmpty, no_empty, joined-append}
 use Rattle.prefix_law.proofs.Books.{conv_of, reads, read_here, reads_push, got_sized, Booked, EntryAccount, NoEntry}
 use Rattle.prefix_law.proofs.Said.{closed_by}
@@ -100,13 +100,13 @@ module _ (w : World) (world : IsWorld w) where
   -- Nothing is read after a read of nothing.
 
   abbrev NothingMore : List Entry → Type 0
-  NothingMore h = (k : ℕ) (p : Pair) (o : Owner) → (trace w h).owner p ≡ Some o → HasEmpty (reads o (take k h)) → joined (reads o (take k h)) ≡ joined (reads o h)
+  NothingMore h = (k : ℕ) (p : Pair) (o : Owner) → (trace w h).owner p ≡ Some o → HasEmpty (reads o (take k h)) → joined_texts (reads o (take k h)) ≡ joined_texts (reads o h)
 
   nothing_next : {ts : Tasks} (h : List Entry) (x : Entry) → IsLegalBy ts w h → MayFollowBy ts w h x → NothingMore h → NothingMore (h ++ x ∷ [])
   nothing_next h x legal may before k p o owns some =
       elim (cases_lt (length h) k) [
-        | inl more ↦ ap (λ (xs : List Entry). joined (reads o xs)) (take_all k (h ++ x ∷ []) (omega (arith, more, length_push h x)))
-        | inr less ↦ subst (λ (xs : List Entry). joined (reads o xs) ≡ joined (reads o (h ++ x ∷ []))) (sym (take_before h x k less))
+        | inl more ↦ ap (λ (xs : List Entry). joined_texts (reads o xs)) (take_all k (h ++ x ∷ []) (omega (arith, more, length_push h x)))
+        | inr less ↦ subst (λ (xs : List Entry). joined_texts (reads o xs) ≡ joined_texts (reads o (h ++ x ∷ []))) (sym (take_before h x k less))
             (quiet (subst (λ (xs : List Entry). HasEmpty (reads o xs)) (take_before h x k less) some) ((booked_at h x (happened w world h x legal may)).had p o owns))
       ]
     where
@@ -115,12 +115,12 @@ module _ (w : World) (world : IsWorld w) where
 
       quiet : HasEmpty (reads o (take k h))
           → ((t.owner p ≡ Some o) × EntryAccount o x.actor x.event x.reply (t.side p).end ((trace w (h ++ x ∷ [])).side p).end) ⊎ (((q : Pair) → t.owner q ≡ Some o → ⊥) × ((trace w (h ++ x ∷ [])).side p ≡ empty_side) × NoEntry o x.actor x.event x.reply)
-          → joined (reads o (take k h)) ≡ joined (reads o (h ++ x ∷ []))
+          → joined_texts (reads o (take k h)) ≡ joined_texts (reads o (h ++ x ∷ []))
       quiet was (inl old) =
           let here = read_here o x.actor x.event x.reply in
           let at : AtEnd (t.side p).end = (kept_at w world h legal).books.ended p o old.0 (empty_before o h k was) in
-          let now : joined (reads o (h ++ x ∷ [])) ≡ joined (reads o h) =
-          ap joined (reads_push o h x) ∙ (joined-append (reads o h) here ∙ (ap (λ (xs : List ℕ). joined (reads o h) ++ xs) (old.1.quiet at) ∙ append-nil (joined (reads o h)))) in
+          let now : joined_texts (reads o (h ++ x ∷ [])) ≡ joined_texts (reads o h) =
+          ap joined_texts (reads_push o h x) ∙ (joined-append (reads o h) here ∙ (ap (λ (xs : List ℕ). joined_texts (reads o h) ++ xs) (old.1.quiet at) ∙ append-nil (joined_texts (reads o h)))) in
           before k p o old.0 was ∙ sym now
       quiet was (inr new) = absurd (no_empty (reads o h) ((kept_at w world h legal).books.none o new.0).1 (empty_before o h k was))
 
@@ -134,13 +134,13 @@ module _ (w : World) (world : IsWorld w) where
     empty_read = empty_before o h (suc k) (empty_here h o k r)
 
     -- all was read before
-    pub read_before : joined (reads o (take k h)) ≡ joined (reads o h)
+    pub read_before : joined_texts (reads o (take k h)) ≡ joined_texts (reads o h)
     read_before =
         let before = reads o (take k h) in
-        let now : joined (reads o (take (suc k) h)) ≡ joined before =
-        ap (λ (xs : List Entry). joined (reads o xs)) r.stands
-        ∙ (ap joined (reads_push o (take k h) r.entry ∙ ap (λ (xs : List (List ℕ)). before ++ xs) r.here)
-        ∙ (joined-append before ([] ∷ []) ∙ append-nil (joined before))) in
+        let now : joined_texts (reads o (take (suc k) h)) ≡ joined_texts before =
+        ap (λ (xs : List Entry). joined_texts (reads o xs)) r.stands
+        ∙ (ap joined_texts (reads_push o (take k h) r.entry ∙ ap (λ (xs : List (List ℕ)). before ++ xs) r.here)
+        ∙ (joined-append before ([] ∷ []) ∙ append-nil (joined_texts before))) in
         sym now ∙ nothing_more h legal (suc k) p o owns (empty_here h o k r)
 
     abbrev before : List Entry

@@ -166,4 +166,4 @@ act_marked now c e ev gift t (Writing text stage state_is is) h = turned_marked 
 act_marked now c e ev gift t (Reading count stage is) h = turned_marked c e ev gift t (silent (reads count e)) is (reads_marked count e) h
 act_marked now c e ev gift t (Hanging is) h = turned_marked c e ev gift t (hangs_up_at e.state now e) is (hangs_marked e.state now e) h
 act_marked now c e ev gift t (Ticking is) h =
-    turned_marked c e ev gift t (ticks_to (timer.ticks now e.timer).says (timer.ticks now e.timer).timer e) is (ticks_marked (timer.ticks now e.timer).says (timer.ticks now e.timer).timer e) h
+    turned_marked c e ev gift t (ticks_to (timer.timer_ticks now e.timer).says (timer.timer_ticks now e.timer).timer e) is (ticks_marked (timer.timer_ticks now e.timer).says (timer.timer_ticks now e.timer).timer e) h

@@ -14,7 +14,7 @@ use Rattle.net_base.specs.Mirror.{mirror}
 use Rattle.net_base.specs.Net.{after}
 use Rattle.net_base.specs.Tasks.{Tasks}
 use Rattle.net_base.specs.World.{IsWorld}
-use Rattle.net_base.specs.Written.{Conversation, given_in, holder, pair_of, peer, joined, stood}
+use Rattle.net_base.specs.Written.{Conversation, given_in, holder, pair_of, peer, joined_texts, stood}
 use Rattle.prefix_law.specs.PrefixLaw.{Alone}
 use Rattle.prefix_law.proofs.Accounts.{HasEmpty, given_out}
 use Rattle.prefix_law.proofs.Begins.{begins_length}
@@ -34,7 +34,7 @@ no_length [] less = refl
 no_length (x ∷ xs) less = absurd (omega arith)
 
 -- texts that are none of them empty, and have no bytes together, are none
-no_texts : (xs : List (List ℕ)) → joined xs ≡ [] → (HasEmpty xs → ⊥) → xs ≡ []
+no_texts : (xs : List (List ℕ)) → joined_texts xs ≡ [] → (HasEmpty xs → ⊥) → xs ≡ []
 no_texts [] bytes filled = refl
 no_texts ([] ∷ xs) bytes filled = absurd (filled (inl refl))
 no_texts ((b ∷ bs) ∷ xs) bytes filled = absurd (cc bytes)

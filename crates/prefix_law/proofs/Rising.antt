@@ -25,7 +25,7 @@ use Rattle.net_base.specs.Actors.{Actor, IsDesk, IsDir, IsConv, IsMedium, actor_
 use Rattle.net_base.specs.Callers.{Caller, IsScript, caller_of, caller_count, other_caller, clock_number}
 use Rattle.net_base.specs.Calm.{owes as owes_some, is_ready, can_go_on, callers, nothing_owed, nothing_pending, scripts_wait, calm, unfinished, movable, awaited_moment, least, target}
 use Rattle.net_base.specs.Desk.{Desk, opening_desk, desk_step}
-use Rattle.net_base.specs.Duties.{Duty, duties, due_of, generation_of, has_come, slots_of, conversations, tick_at, ticks, emitted_put, follow_up, courier_duty, release}
+use Rattle.net_base.specs.Duties.{Duty, duties, due_of, generation_of, has_come, slots_of, conversations, tick_at, owed_ticks, emitted_put, follow_up, courier_duty, release}
 use Rattle.net_base.specs.Legal.{IsLegal, MayFollow, IsInTime, IsTimed, IsAsked}
 use Rattle.net_base.specs.Medium.{medium_step}
 use Rattle.net_base.specs.Net.{Net, opening_net, net_after, after, step_of, work_of, with_of, moment_after}
@@ -233,11 +233,11 @@ module _ (w : World) (net : Net) (x : Entry) (s : Step Actor) (rests : Rests w n
             let n = length net.past in
             let duty : Duty = record { actor = a; event = event.Tick (generation_of (net.actors a)); with = given.Nothing; cites = n } in
             let listed : In duty (flat_map (tick_at net.actors n m) (conversations w)) = in_flat (tick_at net.actors n m) (conversations w) a duty there (tick_at_due net.actors n m a come) in
-            let here : In duty (ticks w net.actors x.actor n x.event) =
-            subst (λ (b : ActorName). In duty (ticks w net.actors b n x.event)) (sym clock) (subst (λ (e : Event). In duty (ticks w net.actors name.Clock n e)) (sym move) listed) in
+            let here : In duty (owed_ticks w net.actors x.actor n x.event) =
+            subst (λ (b : ActorName). In duty (owed_ticks w net.actors b n x.event)) (sym clock) (subst (λ (e : Event). In duty (owed_ticks w net.actors name.Clock n e)) (sym move) listed) in
             let front : List Duty = (emitted_put w x.actor n s.outcome.emit ++ follow_up x.actor n x.event (with_of (net.owed x.caller)) s.outcome.reply) ++ courier_duty w x.actor n s.outcome.taken in
             let fresh : In duty (new w net x s) =
-            in_front duty (front ++ ticks w net.actors x.actor n x.event) (release x.actor n s.state s.outcome.ended) (in_back duty front (ticks w net.actors x.actor n x.event) here) in
+            in_front duty (front ++ owed_ticks w net.actors x.actor n x.event) (release x.actor n s.state s.outcome.ended) (in_back duty front (owed_ticks w net.actors x.actor n x.event) here) in
             inr (owed_tick a (generation_of (net.actors a)) 0 x.caller below (record { duty = duty; there = owed_new w net x s duty fresh; actor_is = refl; event_is = refl }) (ap generation_of (sym stays)))
       ]
 

@@ -9,7 +9,7 @@ use Rattle.net_base.specs.declared.il.IlState.{IlState}
 use Rattle.net_base.specs.declared.il.IlState.TheVariants.{Syncer, Syncee, Established, Closing}
 use Rattle.net_base.specs.declared.il.Cause.{Cause}
 use Rattle.net_base.specs.Number.{id_of, number}
-use Rattle.net_base.specs.IlEnd.{Early, End, Turn, rstart_of, next, recvd, backlog, message, silent, emitting, syncs, retransmits, has_unacked, hears, acked_to, hears_ack, early_at, without, becomes_early, comes_in_turn, come_in_turn, accepts}
+use Rattle.net_base.specs.IlEnd.{Early, End, Turn, rstart_of, next, recvd, backlog, message, silent, emitting, syncs, retransmits, has_unacked, hears, acked_to, hears_ack, early_at, without_early, becomes_early, comes_in_turn, come_in_turn, accepts}
 use Rattle.prefix_law.proofs.Ids.{number_meant}
 use Rattle.prefix_law.proofs.Begins.{Begins, begins_itself, begins_more, pushed_begins, begins_length}
 
@@ -235,7 +235,7 @@ early_at_written sent k (e ∷ es) text all found = at_first (e.number == k) ref
         (all.0.0, sym same ∙ all.0.1, all.0.2 ∙ here)
     at_first false is here later = later here
 
-early_in_without : (sent : List (List ℕ)) (k : ℕ) (es : List Early) → EarlyIn sent es → EarlyIn sent (without k es)
+early_in_without : (sent : List (List ℕ)) (k : ℕ) (es : List Early) → EarlyIn sent es → EarlyIn sent (without_early k es)
 early_in_without sent k [] all = tt
 early_in_without sent k (e ∷ es) all = cond_both (e.number == k) _ _ (λ xs. EarlyIn sent xs) (λ _. all.1) (λ _. (all.0, early_in_without sent k es all.1))
 

@@ -19,7 +19,7 @@ use Rattle.net_base.specs.declared.packet.Packet.{Packet}
 use Rattle.net_base.specs.declared.world.World.{World}
 use Rattle.net_base.specs.ActorStep.{Step}
 use Rattle.net_base.specs.declared.reply.Reply.TheVariants as reply
-use Rattle.net_base.specs.Directory.{dir_answers, Slot, Dir, free_slot, is_free, is_reserved, Taker, home_at, first_slot, reserves, grants_pair, bears, is_live_with, pair_of, dir_step}
+use Rattle.net_base.specs.Directory.{dir_answers, Slot, Dir, free_slot, is_free, is_reserved, Taker, home_at, first_slot, reserves, grants_pair, bears, is_live_with, packet_pair, dir_step}
 use Rattle.net_base.specs.Duties.{close_calls, follow_up}
 use Rattle.net_base.specs.Routes.{Way, way, has_address}
 use Rattle.net_base.specs.Written.{Given, gave}
@@ -145,10 +145,10 @@ module _ (w : World) (world : HasPlaces w) (K : Given → Type 0) (W : Pair → 
   closes_fine (c ∷ calls) = (tt, closes_fine calls)
 
   -- a packet that brings a conversation forth
-  bears_after : (packet : Packet) (t : Taker) → Emitted W packet → has_address w h packet.dst.ip ≡ true → TakerFound (pair_of packet) packet d t
-      → After event.Arrive (given.Packet packet) (bears (home_at w h p) (pair_of packet) t d)
+  bears_after : (packet : Packet) (t : Taker) → Emitted W packet → has_address w h packet.dst.ip ≡ true → TakerFound (packet_pair packet) packet d t
+      → After event.Arrive (given.Packet packet) (bears (home_at w h p) (packet_pair packet) t d)
   bears_after packet t emitted here found =
-      let pair : Pair = pair_of packet in
+      let pair : Pair = packet_pair packet in
       let n = t.free.0 in
       let g = t.free.1.generation + 1 in
       let slot = f n t.free.1 found.at_free in
@@ -173,12 +173,12 @@ module _ (w : World) (world : HasPlaces w) (K : Given → Type 0) (W : Pair → 
       }
 
   -- a packet of a pair that a slot has
-  to_after : (packet : Packet) (n : ℕ) (s : Slot) → Emitted W packet → first_slot (is_live_with (pair_of packet)) 0 d.slots ≡ Some (n, s)
+  to_after : (packet : Packet) (n : ℕ) (s : Slot) → Emitted W packet → first_slot (is_live_with (packet_pair packet)) 0 d.slots ≡ Some (n, s)
       → After event.Arrive (given.Packet packet) (dir_answers (reply.To n s.generation) d)
   to_after packet n s emitted is =
-      let there = slot_found (is_live_with (pair_of packet)) d.slots (n, s) is in
-      let has : s.pair ≡ Some (pair_of packet) = has_pair_is (pair_of packet) s.pair (and_parts (not (is_free s)) _ there.1).1 in
-      record { fine = f; new = tt; sent = tt; follow = (((f n s there.0).has (pair_of packet) has, emitted), tt) }
+      let there = slot_found (is_live_with (packet_pair packet)) d.slots (n, s) is in
+      let has : s.pair ≡ Some (packet_pair packet) = has_pair_is (packet_pair packet) s.pair (and_parts (not (is_free s)) _ there.1).1 in
+      record { fine = f; new = tt; sent = tt; follow = (((f n s there.0).has (packet_pair packet) has, emitted), tt) }
 
   row_after : (ev : Event) (gift : With) (s : Step Dir) → WithFine w K W (actor.Dir h p) ev gift → DirRow w h p d ev gift s → After ev gift s
   row_after ev gift s fine (row.Stale {n = n} {g = g} names at other) = stale_after ev gift n g names
@@ -206,7 +206,7 @@ module _ (w : World) (world : HasPlaces w) (K : Given → Type 0) (W : Pair → 
     follow = closes_fine x.calls;
   }
   row_after ev gift s fine (row.To {packet = packet} {n = n} {s = x} of found) = to_after packet n x fine.0 found
-  row_after ev gift s fine (row.Bears {packet = packet} {t = t} of takes) = bears_after packet t fine.0 fine.1 (taker_found (pair_of packet) packet d t takes)
+  row_after ev gift s fine (row.Bears {packet = packet} {t = t} of takes) = bears_after packet t fine.0 fine.1 (taker_found (packet_pair packet) packet d t takes)
   row_after ev gift s fine _ = record { fine = f; new = tt; sent = tt; follow = tt }
 
 -- the table of a directory

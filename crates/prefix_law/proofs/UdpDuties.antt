@@ -23,7 +23,7 @@ use Rattle.net_base.specs.ActorStep.{Step}
 use Rattle.net_base.specs.Actors.{Actor, IsConv}
 use Rattle.net_base.specs.Callers.{Caller}
 use Rattle.net_base.specs.Directory as directory
-use Rattle.net_base.specs.Duties.{Duty, put_by, emitted_put, follow_up, courier_duty, has_come, due_of, generation_of, conversations, tick_at, ticks, release, duties}
+use Rattle.net_base.specs.Duties.{Duty, put_by, emitted_put, follow_up, courier_duty, has_come, due_of, generation_of, conversations, tick_at, owed_ticks, release, duties}
 use Rattle.net_base.specs.Legal.{IsAsked}
 use Rattle.net_base.specs.Net.{with_of}
 use Rattle.net_base.specs.Routes.{Way, way, has_address}
@@ -63,8 +63,8 @@ emitted_more W V more p e = emitted_as_more W V (record { local = p.src; remote 
 -- what is given to a conversation
 abbrev pub GiftFine : (Given → Type 0) → (Pair → List ℕ → Type 0) → ℕ → Proto → ℕ → Event → With → Type 0
 GiftFine K W h p n (event.Connect g) (given.Grant pair start limit) = K (given_to h p n g pair)
-GiftFine K W h p n (event.Born g) (given.Birth q start limit) = K (given_to h p n g (directory.pair_of q)) × Emitted W q
-GiftFine K W h p n (event.ArriveAt g) (given.Packet q) = K (given_to h p n g (directory.pair_of q)) × Emitted W q
+GiftFine K W h p n (event.Born g) (given.Birth q start limit) = K (given_to h p n g (directory.packet_pair q)) × Emitted W q
+GiftFine K W h p n (event.ArriveAt g) (given.Packet q) = K (given_to h p n g (directory.packet_pair q)) × Emitted W q
 GiftFine K W h p n _ _ = Unit {0}
 
 -- what duties carry
@@ -149,7 +149,7 @@ module _ (w : World) (K : Given → Type 0) (W : Pair → List ℕ → Type 0) w
   each_tick_fine actors s now [] = tt
   each_tick_fine actors s now (a ∷ names) = each_duty_append (tick_at actors s now a) (flat_map (tick_at actors s now) names) (tick_fine actors s now a) (each_tick_fine actors s now names)
 
-  ticks_fine : (actors : ActorName → Actor) (a : ActorName) (s : ℕ) (ev : Event) → EachDuty w K W (ticks w actors a s ev)
+  ticks_fine : (actors : ActorName → Actor) (a : ActorName) (s : ℕ) (ev : Event) → EachDuty w K W (owed_ticks w actors a s ev)
   ticks_fine actors actor.Clock s (event.Move now) = each_tick_fine actors s now (conversations w)
   ticks_fine actors _ s _ = tt
 

@@ -8,7 +8,7 @@ use Rattle.net_base.specs.declared.reply.Reply.{Reply}
 use Rattle.net_base.specs.declared.world.Step.{Step}
 use Rattle.net_base.specs.declared.world.Step.TheVariants as step
 use Rattle.net_base.specs.Scripts.{at_first, position}
-use Rattle.net_base.specs.Steps.{call_names, clone_path, lines_in, Ask}
+use Rattle.net_base.specs.Steps.{call_names, clone_path, reply_lines, Ask}
 use Rattle.net_base.specs.Versions.{Tuples}
 use Rattle.history_laws.proofs.Shared.{each_any, next_event, IsOther, own_other, IsNamed, IsOpened, Fits, Says, IsNextEvent}
 
@@ -27,7 +27,7 @@ other_until h a _ other = tt
 fits_until : (h : ℕ) → Fits (UntilAt h) (λ (r : Reply). Unit {0})
 fits_until h = record {
   other = λ a e own. other_until h a e (own_other e own);
-  dialled = λ r fine. each_any (λ (line : List ℕ). IsOpened (UntilAt h) (clone_path line)) (λ line a m. tt) (lines_in r);
+  dialled = λ r fine. each_any (λ (line : List ℕ). IsOpened (UntilAt h) (clone_path line)) (λ line a m. tt) (reply_lines r);
 }
 
 says_until : (h : ℕ) (s : Step) → Says h (UntilAt h) s

@@ -78,16 +78,16 @@ end_kept now e = kept now e.timer e.timer refl refl
 turn_if : (now : ℕ) (e : End) (b : Bool) (x y : Turn) → EndLater now e x.end → EndLater now e y.end → EndLater now e (cond b x y).end
 turn_if now e b x y f g = cond_both b x y (λ (t : Turn). EndLater now e t.end) (λ _. f) (λ _. g)
 
-starts_later : (now : ℕ) (t : Timer) → Later now t (timer.starts now t)
-starts_later now t = restarts now t (timer.starts now t) (some_base t.timers t.measured t.mean t.dev) refl
+starts_later : (now : ℕ) (t : Timer) → Later now t (timer.timer_starts now t)
+starts_later now t = restarts now t (timer.timer_starts now t) (some_base t.timers t.measured t.mean t.dev) refl
 
 -- a message is sent, and the timer starts before
-sent_later : (now k : ℕ) (t : Timer) → Later now t (timer.sends now k (timer.starts now t))
+sent_later : (now k : ℕ) (t : Timer) → Later now t (timer.timer_sends now k (timer.timer_starts now t))
 sent_later now k t = restarts now t _ (some_base t.timers t.measured t.mean t.dev) refl
 
-moves_later : (now : ℕ) (b : Bool) (t : Timer) → Later now t (timer.moves now b t)
-moves_later now true t = restarts now t (timer.moves now true t) (some_base t.timers t.measured t.mean t.dev) refl
-moves_later now false t = halts now t (timer.moves now false t) refl
+moves_later : (now : ℕ) (b : Bool) (t : Timer) → Later now t (timer.timer_moves now b t)
+moves_later now true t = restarts now t (timer.timer_moves now true t) (some_base t.timers t.measured t.mean t.dev) refl
+moves_later now false t = halts now t (timer.timer_moves now false t) refl
 
 -- a round trip that is measured changes nothing of what is due
 measured_later : (now s : ℕ) (b : Bool) (t : Timer) → Later now t (timer.measures s (record t { measured = b }))
@@ -104,8 +104,8 @@ acked_later now None e f l = l
 acked_later now (Some k) e f l =
     cond_both (nat_le k (length f.sent)) _ _ (λ (x : End). EndLater now e x)
     (λ _. both_later now e.timer f.timer _ l
-    (both_later now f.timer (timer.acks now k f.timer) _ (acks_later now k f.timer.probe f.timer)
-    (moves_later now (has_unacked (record f { acked = k }) || is_closing f.state) (timer.acks now k f.timer))))
+    (both_later now f.timer (timer.timer_acks now k f.timer) _ (acks_later now k f.timer.probe f.timer)
+    (moves_later now (has_unacked (record f { acked = k }) || is_closing f.state) (timer.timer_acks now k f.timer))))
     (λ _. l)
 
 heard : (now : ℕ) (m : IlMsg) (e : End) → EndLater now e (hears_ack now m e)

@@ -34,7 +34,7 @@ use Rattle.net_base.specs.Actors.{Actor, IsDesk, IsConv, IsDir, IsMedium, IsPlai
 use Rattle.net_base.specs.Desk.{Desk, desk_replies, desk_reply, desk_step, clock_reply}
 use Rattle.net_base.specs.Callers.{Caller, caller_of}
 use Rattle.net_base.specs.Steps.{Ask}
-use Rattle.net_base.specs.Duties.{Duty, put_by, emitted_put, follow_up, proto_of, courier_duty, has_come, due_of, generation_of, conversations, tick_at, ticks, release, duties}
+use Rattle.net_base.specs.Duties.{Duty, put_by, emitted_put, follow_up, proto_of, courier_duty, has_come, due_of, generation_of, conversations, tick_at, owed_ticks, release, duties}
 use Rattle.net_base.specs.Net.{Net, opening_net, with_of, work_of, step_of, actors_after, owed_after, net_after, next_net, net_of, after}
 use Rattle.net_base.specs.Legal.{IsLegalBy, Shows, Shown, IsAsked}
 use Rattle.prefix_law.proofs.Trace.{Owner, Trace, opening_trace, conv_trace, dir_trace, actor_trace, trace_after, next_trace, trace_of, trace, HasPlaces}
@@ -500,7 +500,7 @@ each_tick_fine : (w : World) (t : Trace) (actors : ActorName → Actor) (s now :
 each_tick_fine w t actors s now [] = tt
 each_tick_fine w t actors s now (a ∷ as') = each_duty_append w t (tick_at actors s now a) (flat_map (tick_at actors s now) as') (tick_fine w t actors s now a) (each_tick_fine w t actors s now as')
 
-ticks_fine : (w : World) (t : Trace) (actors : ActorName → Actor) (a : ActorName) (s : ℕ) (ev : Event) → EachDuty w t (ticks w actors a s ev)
+ticks_fine : (w : World) (t : Trace) (actors : ActorName → Actor) (a : ActorName) (s : ℕ) (ev : Event) → EachDuty w t (owed_ticks w actors a s ev)
 ticks_fine w t actors actor.Clock s (event.Move now) = each_tick_fine w t actors s now (conversations w)
 ticks_fine w t actors _ s _ = tt
 

@@ -4,7 +4,7 @@ use Rattle.net_base.specs.declared.address.Proto.TheVariants.{Il, Udp}
 use Rattle.net_base.specs.declared.history.Entry.{Entry}
 use Rattle.net_base.specs.declared.world.World.{World}
 use Rattle.net_base.specs.Networks.{is_filled}
-use Rattle.net_base.specs.Written.{Conversation, HasClosed, IsRead, IsWrite, peer, writes, reads, joined, stood}
+use Rattle.net_base.specs.Written.{Conversation, HasClosed, IsRead, IsWrite, peer, written_texts, read_texts, joined_texts, stood}
 
 abbrev pub IsPrefix : {A : Type 0} → List A → List A → Type 0
 IsPrefix {A} xs ys = (rest : List A) × (xs ++ rest ≡ ys)
@@ -20,12 +20,12 @@ IsEndOfFile h e k = (count : ℕ) × IsRead h e k count []
 -- what holds of an IL conversation e and its peer f
 pub record InOrder (w : World) (h : List Entry) (e f : Conversation) : Type 0 where
   -- the bytes that were read begin those that were written
-  pub bytes : IsPrefix (joined (reads h e)) (joined (writes h f))
+  pub bytes : IsPrefix (joined_texts (read_texts h e)) (joined_texts (written_texts h f))
   -- where the reads had room, the messages that were read begin those that were written, one by one
-  pub messages : HaveRoom h e → IsPrefix (filter is_filled (reads h e)) (writes h f)
+  pub messages : HaveRoom h e → IsPrefix (filter is_filled (read_texts h e)) (written_texts h f)
   -- an end of file comes after a close of the peer, and what was read before it is all that the peer writes, later too
   pub closed : (k : ℕ) → IsEndOfFile h e k → HasClosed w (take k h) f
-  pub all_read : (k : ℕ) → IsEndOfFile h e k → joined (reads (take k h) e) ≡ joined (writes h f)
+  pub all_read : (k : ℕ) → IsEndOfFile h e k → joined_texts (read_texts (take k h) e) ≡ joined_texts (written_texts h f)
   -- the end has got what its peer sent, and counts as acknowledged what its peer has got
   pub got : IsPrefix (stood w h e).got (stood w h f).sent
   pub acked : (stood w h e).acked ≤ length (stood w h f).got
@@ -34,7 +34,7 @@ pub record InOrder (w : World) (h : List Entry) (e f : Conversation) : Type 0 wh
 pub record Alone (w : World) (h : List Entry) (e : Conversation) : Type 0 where
   -- it has got nothing, no read replies bytes, and nothing counts as acknowledged
   pub got : (stood w h e).got ≡ []
-  pub unread : reads h e ≡ []
+  pub unread : read_texts h e ≡ []
   pub unacked : (stood w h e).acked ≡ 0
 
 -- the text is the first bytes, so many at most, of a datagram that the conversation's peer wrote before the entry k

@@ -23,9 +23,9 @@ use Rattle.net_base.specs.Directory.{Slot, free_slot}
 use Rattle.net_base.specs.Duties.{Duty}
 use Rattle.net_base.specs.Legal.{IsAsked, IsLegal, IsNext, MayFollow, asked_by}
 use Rattle.net_base.specs.Net.{after, net_after, opening_net, owed, step_of, with_of}
-use Rattle.net_base.specs.Next.{next, next_of, own_replies, zone_of}
+use Rattle.net_base.specs.Next.{next_recorded, next_of, own_replies, zone_of}
 use Rattle.net_base.specs.Scripts.{at_first, position}
-use Rattle.net_base.specs.Steps.{Ask, call_names, clone_path, lines_in}
+use Rattle.net_base.specs.Steps.{Ask, call_names, clone_path, reply_lines}
 use Rattle.net_base.specs.Versions.{Tuples}
 use Rattle.net_base.specs.World.{IsWorld}
 use Rattle.history_laws.proofs.Shared.{after_push, by_entries, Each, each_any, next_event, Fits, IsNextEvent, IsNamed, IsOpened, IsOwn, Says}
@@ -47,7 +47,7 @@ own_silent a _ own = refl
 fits_silent : Fits Silent (λ (r : Reply). Unit {0})
 fits_silent = record {
   other = own_silent;
-  dialled = λ r fine. each_any (λ (line : List ℕ). IsOpened Silent (clone_path line)) (λ line a m. refl) (lines_in r);
+  dialled = λ r fine. each_any (λ (line : List ℕ). IsOpened Silent (clone_path line)) (λ line a m. refl) (reply_lines r);
 }
 
 says_silent : (h : ℕ) (s : ScriptStep) → Says h Silent s
@@ -134,8 +134,8 @@ some_step (Some t) is = (t, refl)
 push : (w : World) → IsWorld w → (h : List Entry) (x : Entry) → IsLegal w h → MayFollow w h x → Steady w (after w h) → Steady w (after w (h ++ x ∷ []))
 push w world h x legal may steady =
     let some = some_step (step_of w (after w h) x) may.is_ready in
-    let next : after w (h ++ x ∷ []) ≡ net_after w (after w h) x (Some some.0) = after_push w h x ∙ ap (net_after w (after w h) x) some.1 in
-    subst (Steady w) (sym next) (steady_on w (after w h) (net_after w (after w h) x (Some some.0)) x.caller _ steady
+    let next_recorded : after w (h ++ x ∷ []) ≡ net_after w (after w h) x (Some some.0) = after_push w h x ∙ ap (net_after w (after w h) x) some.1 in
+    subst (Steady w) (sym next_recorded) (steady_on w (after w h) (net_after w (after w h) x (Some some.0)) x.caller _ steady
     (changes w (after w h) (net_after w (after w h) x (Some some.0)) x.caller x.actor x.event (with_of ((after w h).owed x.caller)) some.0 record {
       world = world;
       steady = steady;
@@ -152,12 +152,12 @@ push w world h x legal may steady =
       actors = λ b. refl;
     }))
   where
-    own : (ds : List Duty) → ds ≡ [] → IsAsked ds (caller_of w x.caller) (next w h x.caller) x → IsNext (caller_of w x.caller) (next w h x.caller) x
+    own : (ds : List Duty) → ds ≡ [] → IsAsked ds (caller_of w x.caller) (next_recorded w h x.caller) x → IsNext (caller_of w x.caller) (next_recorded w h x.caller) x
     own [] is asked = asked
     own (d ∷ ds) is asked = absurd (omega (arith, ap length is))
 
-    owing : (es : List Duty) (d : Duty) (ds : List Duty) → es ≡ d ∷ ds → IsAsked es (caller_of w x.caller) (next w h x.caller) x → record { actor = d.actor; event = d.event } ≡ asked_by x
-    owing es d ds is asked = subst (λ (fs : List Duty). IsAsked fs (caller_of w x.caller) (next w h x.caller) x) is asked
+    owing : (es : List Duty) (d : Duty) (ds : List Duty) → es ≡ d ∷ ds → IsAsked es (caller_of w x.caller) (next_recorded w h x.caller) x → record { actor = d.actor; event = d.event } ≡ asked_by x
+    owing es d ds is asked = subst (λ (fs : List Duty). IsAsked fs (caller_of w x.caller) (next_recorded w h x.caller) x) is asked
 
 pub steady_after : (w : World) (h : List Entry) → IsWorld w → IsLegal w h → Steady w (after w h)
 steady_after w h world legal = by_entries w (λ (k : List Entry). Steady w (after w k)) (steady_first w) (push w world) h legal

@@ -26,7 +26,7 @@ use Rattle.net_base.specs.ActorStep.{Step}
 use Rattle.net_base.specs.Actors.{slot_count, opening_core}
 use Rattle.net_base.specs.Conversation.{is_sync, has_protocol, may_bear, may_connect}
 use Rattle.net_base.specs.Directory as directory
-use Rattle.net_base.specs.Directory.{Dir, Slot, dir_step, pair_of, is_free, reserves, withdraws, frees, bears as brings, Taker, home_at, is_live_with, is_of, start_of, limit_of, limit_to}
+use Rattle.net_base.specs.Directory.{Dir, Slot, dir_step, packet_pair, is_free, reserves, withdraws, frees, bears as brings, Taker, home_at, is_live_with, is_of, start_of, limit_of, limit_to}
 use Rattle.net_base.specs.Duties.{Duty, follow_up, close_calls}
 use Rattle.net_base.specs.Routes.{Way, way}
 use Rattle.history_laws.proofs.Shared.{Each, each_append, TakerFound, slot_found, taker_found}
@@ -207,7 +207,7 @@ release_moves h p n s d with are is =
 
 -- Arrive.
 
-same_bears : (p : Proto) (b : Body) → is_of p b ≡ true → directory.may_bear b ≡ true → may_bear (opening_core Fixed p) b ≡ true
+same_bears : (p : Proto) (b : Body) → is_of p b ≡ true → directory.is_first_packet b ≡ true → may_bear (opening_core Fixed p) b ≡ true
 same_bears proto.Il (body.Il m) of may = (and_parts (is_sync m.kind) (m.ack == 0) may).0
 same_bears proto.Udp (body.Udp t) of may = refl
 same_bears proto.Il (body.Udp t) of may = absurd (true≢false (sym of))
@@ -227,10 +227,10 @@ not_announced s free announces = by s.kind free announces
     by kind.Announced free announces = true≢false (sym free)
     by _ free announces = true≢false (sym announces)
 
-bear_moves : (w : World) (h : ℕ) (p : Proto) (packet : Packet) (d : Dir) (t : Taker) → MayGive w h p d → AreSlots d.slots → is_of p packet.body ≡ true → TakerFound (pair_of packet) packet d t
-    → Moves h p event.Arrive (given.Packet packet) d (brings (home_at w h p) (pair_of packet) t d)
+bear_moves : (w : World) (h : ℕ) (p : Proto) (packet : Packet) (d : Dir) (t : Taker) → MayGive w h p d → AreSlots d.slots → is_of p packet.body ≡ true → TakerFound (packet_pair packet) packet d t
+    → Moves h p event.Arrive (given.Packet packet) d (brings (home_at w h p) (packet_pair packet) t d)
 bear_moves w h p packet d t may are of found =
-    let pair : Pair = pair_of packet in
+    let pair : Pair = packet_pair packet in
     let one : List Slot = slice_set d.slots t.free.0 (borne pair t.free.1) in
     let two : List Slot = slice_set one t.listener.0 (heard t) in
     let apart : t.free.0 ≡ t.listener.0 → ⊥ = λ same.
@@ -313,8 +313,8 @@ row_moves w h p d e with t may are (row.Listens {n = n} {s = s} {c = c} {calls =
     listen_moves h p n s d with c calls are at (subst (λ (cs : List Call). Each (IsCallIn d.slots) cs) wait (are.calls n s at))
 row_moves w h p d e with t may are (row.Withdraws {n = n} {s = s} at) = withdraw_moves h p n s d with are at
 row_moves w h p d e with t may are (row.Frees {n = n} {s = s} at) = release_moves h p n s d with are at
-row_moves w h p d e with t may are (row.To {packet = packet} {n = n} {s = s} of found) = to_moves h p packet d n s are of (slot_found (is_live_with (pair_of packet)) d.slots (n, s) found).0
-row_moves w h p d e with t may are (row.Bears {packet = packet} {t = taker} of takes) = bear_moves w h p packet d taker may are of (taker_found (pair_of packet) packet d taker takes)
+row_moves w h p d e with t may are (row.To {packet = packet} {n = n} {s = s} of found) = to_moves h p packet d n s are of (slot_found (is_live_with (packet_pair packet)) d.slots (n, s) found).0
+row_moves w h p d e with t may are (row.Bears {packet = packet} {t = taker} of takes) = bear_moves w h p packet d taker may are of (taker_found (packet_pair packet) packet d taker takes)
 row_moves w h p d e with t may are (row.Refuses {packet = packet} said sync) =
     still h p d.slots (λ s. follow_up (name.Dir h p) s event.Arrive (given.Packet packet) reply.Refused) are (λ s. refl)
 row_moves w h p d e with t may are _ = refuses h p e with d t.outcome.reply are (λ s. refl)

@@ -21,7 +21,7 @@ use Rattle.net_base.specs.declared.reply.Reply.TheVariants as reply
 use Rattle.net_base.specs.declared.world.World.{World}
 use Rattle.net_base.specs.Actors.{Actor, IsConv, slot_count}
 use Rattle.net_base.specs.Directory.{is_of}
-use Rattle.net_base.specs.Duties.{Duty, put_by, emitted_put, close_calls, follow_up, proto_of, forwarded, courier_duty, slots_of, conversations, tick_at, ticks, has_come, due_of, generation_of, release}
+use Rattle.net_base.specs.Duties.{Duty, put_by, emitted_put, close_calls, follow_up, proto_of, forwarded, courier_duty, slots_of, conversations, tick_at, owed_ticks, has_come, due_of, generation_of, release}
 use Rattle.net_base.specs.Net.{Net}
 use Rattle.net_base.specs.Routes.{Way, way, has_address}
 use Rattle.net_base.specs.World.{IsWorld}
@@ -133,7 +133,7 @@ tick_new w net after now (name.Desk h) behind of = absurd of
 tick_new w net after now (name.Medium m) behind of = absurd of
 tick_new w net after now name.Clock behind of = absurd of
 
-pub ticks_new : (w : World) (net after : Net) (e : Event) → ((h : ℕ) (p : Proto) (n : ℕ) → reached net h p n ≤ given_last after h p n) → Each (λ (d : Duty). IsNew w net after d × (bears d.event ≡ false)) (ticks w net.actors name.Clock (length net.past) e)
+pub ticks_new : (w : World) (net after : Net) (e : Event) → ((h : ℕ) (p : Proto) (n : ℕ) → reached net h p n ≤ given_last after h p n) → Each (λ (d : Duty). IsNew w net after d × (bears d.event ≡ false)) (owed_ticks w net.actors name.Clock (length net.past) e)
 ticks_new w net after (event.Move now) behind =
     each_flat (λ (d : Duty). IsNew w net after d × (bears d.event ≡ false)) (tick_at net.actors (length net.past) now) (conversations w)
     (each_weaker (IsConvOf w) _ (λ a of. tick_new w net after now a behind of) (conversations w) (all_conversations w))

@@ -10,7 +10,7 @@ use Rattle.net_base.specs.declared.world.Script.{Script}
 use Rattle.net_base.specs.declared.world.Step.{Step}
 use Rattle.net_base.specs.Next.{finished_by}
 use Rattle.net_base.specs.Remotes.{nothing_left}
-use Rattle.net_base.specs.Scripts.{heard as first_replies, left_after, position, step_play}
+use Rattle.net_base.specs.Scripts.{heard_replies as first_replies, left_after, position, step_play}
 use Rattle.net_base.specs.Steps.{Ask, Names, Play, Asks, Ends, Position, no_names, position_by, stands}
 use Rattle.net_base.specs.Versions.{Tuples}
 use Rattle.script_task.specs.Holdings.{Holdings, holdings}

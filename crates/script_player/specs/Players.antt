@@ -6,7 +6,7 @@ use Rattle.net_base.specs.declared.left.Left.{Left}
 use Rattle.net_base.specs.declared.reply.Reply.{Reply}
 use Rattle.net_base.specs.declared.world.Script.{Script}
 use Rattle.net_base.specs.declared.world.Step.{Step}
-use Rattle.net_base.specs.Scripts.{Kept, at_first, heard as heard_in, left_after, position}
+use Rattle.net_base.specs.Scripts.{Kept, at_first, heard_replies as heard_in, left_after, position}
 use Rattle.net_base.specs.Steps.{Ask, Names, Play, Position, position_by, stands}
 use Rattle.net_base.specs.Versions.{Tuples}
 use Rattle.script_task.specs.Holdings.{Holdings, holdings}

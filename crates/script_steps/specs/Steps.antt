@@ -13,7 +13,7 @@ use Rattle.net_base.specs.declared.world.World.{World}
 use Rattle.net_base.specs.Calm.{owes}
 use Rattle.net_base.specs.Imports.{is_open}
 use Rattle.net_base.specs.Net.{after}
-use Rattle.net_base.specs.Next.{next}
+use Rattle.net_base.specs.Next.{next_recorded}
 use Rattle.net_base.specs.Numeral.{numeral}
 use Rattle.net_base.specs.Steps.{Ask, bytes_in, is_accepted}
 use Rattle.net_base.specs.Summary.{answered_by}
@@ -100,7 +100,7 @@ abbrev pub state_by : ℕ → World → List Entry → ℕ × Script → ℕ →
 state_by answered w h cs n =
     if nat_lt n answered
     then answered_text (is_ropen (slice_get cs.1.steps n)) h (latest_of (stamps_of w h cs.0 cs.1 n))
-    else (if n == answered then waiting_text (owes (after w h) cs.0) (next w h cs.0) else codes "ahead")
+    else (if n == answered then waiting_text (owes (after w h) cs.0) (next_recorded w h cs.0) else codes "ahead")
 
 abbrev pub state_text : World → List Entry → ℕ × Script → ℕ → List ℕ
 state_text w h cs n = state_by (answered_by w h cs) w h cs n

@@ -22,7 +22,7 @@ use Rattle.net_base.specs.Conversation.{Conv}
 use Rattle.net_base.specs.Desk.{Desk}
 use Rattle.net_base.specs.Legal.{IsLegal, MayFollow, Shows}
 use Rattle.net_base.specs.Medium.{Medium}
-use Rattle.net_base.specs.Net.{Net, after, works, played, stepped_to, Play, work_of, outcome_in}
+use Rattle.net_base.specs.Net.{Net, after, works, played, stepped_to, WorkAt, work_of, outcome_in}
 use Rattle.history_laws.proofs.Shared.{state_is_fold}
 use Rattle.script_task.specs.Fitting.{fits}
 use Rattle.script_task.proofs.DirReplies.{Fine, dir_fits, opening_fine}
@@ -77,7 +77,7 @@ stays_fine : (s : Actor) (e : Event) (o : Option (Step Actor)) → IsFine s → 
 stays_fine s e None fine goes = fine
 stays_fine s e (Some t) fine goes = goes.0
 
-played_fine : (w : World) (a : ActorName) (s : Actor) (ps : List Play) → IsFine s → IsFine (played w a s ps)
+played_fine : (w : World) (a : ActorName) (s : Actor) (ps : List WorkAt) → IsFine s → IsFine (played w a s ps)
 played_fine w a s [] fine = fine
 played_fine w a s (p ∷ ps) fine = played_fine w a (stepped_to s (actor_step w a s p.moment p.work)) ps (stays_fine s p.work.event (actor_step w a s p.moment p.work) fine (actor_goes w a s p.moment p.work fine))
 
@@ -99,7 +99,7 @@ pub step_fits : (w : World) (h : List Entry) (a : ActorName) (now : ℕ) (work :
 step_fits w h a now work t is = goes_fits work.event (actor_step w a ((after w h).actors a) now work) t is (actor_goes w a ((after w h).actors a) now work (fine_after w h a))
 
 -- a step of an actor after any works
-pub played_fits : (w : World) (a : ActorName) (ps : List Play) (now : ℕ) (work : Work) (t : Step Actor) → actor_step w a (played w a (opening_actor w.timers a) ps) now work ≡ Some t → fits work.event t.outcome.reply ≡ true
+pub played_fits : (w : World) (a : ActorName) (ps : List WorkAt) (now : ℕ) (work : Work) (t : Step Actor) → actor_step w a (played w a (opening_actor w.timers a) ps) now work ≡ Some t → fits work.event t.outcome.reply ≡ true
 played_fits w a ps now work t is =
     goes_fits work.event (actor_step w a (played w a (opening_actor w.timers a) ps) now work) t is
     (actor_goes w a (played w a (opening_actor w.timers a) ps) now work (played_fine w a (opening_actor w.timers a) ps (opening_is_fine w.timers a)))

@@ -7,7 +7,7 @@ ghost use Rattle.net_base.specs.declared.world.World.{World};
 ghost use Rattle.net_base.specs.ActorStep.{Step};
 ghost use Rattle.net_base.specs.Actors.{Actor, actor_step, opening_actor};
 ghost use Rattle.net_base.specs.Legal.{IsLegal};
-ghost use Rattle.net_base.specs.Net.{Play, after, played};
+ghost use Rattle.net_base.specs.Net.{WorkAt, after, played};
 ghost use Rattle.net_base.specs.declared.reply.Reply.{Reply};
 ghost use Rattle.script_task.specs.Holdings.{Holdings};
 ghost use Rattle.net_base.specs.declared.request.Request.{Request};
@@ -22,7 +22,7 @@ pub fn replies_fit()
         → IsLegal w h → slice_get h k ≡ Some x → fits x.event x.reply ≡ true }
     ensures steps { (w : World) (h : List Entry) (a : ActorName) (now : ℕ) (work : Work) (t : Step Actor)
         → actor_step w a ((after w h).actors a) now work ≡ Some t → fits work.event t.outcome.reply ≡ true }
-    ensures works { (w : World) (a : ActorName) (ps : List Play) (now : ℕ) (work : Work) (t : Step Actor)
+    ensures works { (w : World) (a : ActorName) (ps : List WorkAt) (now : ℕ) (work : Work) (t : Step Actor)
         → actor_step w a (played w a (opening_actor w.timers a) ps) now work ≡ Some t
         → fits work.event t.outcome.reply ≡ true }
 {}

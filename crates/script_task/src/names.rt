@@ -120,7 +120,7 @@ impl Names {
 
     /// Whether the headers are of the datagram that was heard last. The interface isn't compared.
     pub fn is_answered_by(&self, headers: Headers) -> bool
-        ensures { result ≡ steps.answers_to headers self.now.names.heard }
+        ensures { result ≡ steps.are_of_heard headers self.now.names.heard }
     {
         match &self.heard {
             Some(heard) => headers.remote == heard.remote && headers.local == heard.local,

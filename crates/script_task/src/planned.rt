@@ -141,7 +141,7 @@ fn wait(host: u32, fids: &Names, name: Octets) -> Planned
 }
 
 fn read(host: u32, fids: &Names, name: Octets, count: u32) -> Planned
-    ensures { result ≡ spec.keeping (asked.read host name count (steps.fid_of name fids.now.names)) }
+    ensures { result ≡ spec.keeping (asked.read_ask host name count (steps.fid_of name fids.now.names)) }
 {
     match fids.get(name.as_slice()) {
         Some(fid) => {
@@ -157,7 +157,7 @@ fn read(host: u32, fids: &Names, name: Octets, count: u32) -> Planned
 
 // Plans a read behind an `hread`, which was told this.
 fn hear(host: u32, fids: &Names, name: Octets, count: u32, heard: Heard) -> Planned
-    ensures event { spec.ask_of result ≡ asked.read host name count (steps.fid_of name fids.now.names) }
+    ensures event { spec.ask_of result ≡ asked.read_ask host name count (steps.fid_of name fids.now.names) }
     ensures effect { result.effect ≡ effects.hears heard }
 {
     let Planned { actor, event, .. } = read(host, fids, name, count);
@@ -169,7 +169,7 @@ fn hear(host: u32, fids: &Names, name: Octets, count: u32, heard: Heard) -> Plan
 }
 
 fn reads(mode: Mode) -> bool
-    ensures { result ≡ paths.reads mode }
+    ensures { result ≡ paths.mode_reads mode }
 {
     match mode {
         Mode::Read | Mode::Both => true,
@@ -178,7 +178,7 @@ fn reads(mode: Mode) -> bool
 }
 
 fn writes(mode: Mode) -> bool
-    ensures { result ≡ paths.writes mode }
+    ensures { result ≡ paths.mode_writes mode }
 {
     match mode {
         Mode::Write | Mode::Both => true,
@@ -219,7 +219,7 @@ fn write(host: u32, fids: &Names, name: Octets, text: Octets) -> Planned
 
 // A text is written to a data file, or to a ctl file.
 fn put(host: u32, fid: Fid, text: Octets) -> Planned
-    ensures { result ≡ spec.keeping (asked.put host (file_of fid) text fid.file) }
+    ensures { result ≡ spec.keeping (asked.put_ask host (file_of fid) text fid.file) }
 {
     match fid.file {
         FileName::Data => at_file(
@@ -236,7 +236,7 @@ fn put(host: u32, fid: Fid, text: Octets) -> Planned
 
 // The event of a control word.
 fn control(host: u32, fid: Fid, text: Octets) -> Planned
-    ensures { result ≡ spec.keeping (asked.controls host (file_of fid) text) }
+    ensures { result ≡ spec.keeping (asked.control_ask host (file_of fid) text) }
 {
     match read_ctl(text.as_slice()) {
         Ok(word) => controlled(host, fid, word),

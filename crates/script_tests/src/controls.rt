@@ -1,6 +1,6 @@
 //! Texts that are controls, and texts that are none.
 ghost use Rattle.std.specs.Prelude.{◌≡◌, true};
-ghost use Rattle.net_base.specs.ControlWords.{in_range};
+ghost use Rattle.net_base.specs.ControlWords.{control_in_range};
 
 use ctl_words::{CtlError, read_ctl, write_ctl};
 use net_base::{Addr, Ctl};
@@ -111,7 +111,7 @@ fn other_texts_are_refused(rt: HostRuntime) {
 
 // Whether what is written of a control reads so.
 fn is_read_back(control: Ctl) -> bool
-    requires { in_range control ≡ true }
+    requires { control_in_range control ≡ true }
 {
     let mut out = [b'!'; 48];
     let len = write_ctl(&control, &mut out);

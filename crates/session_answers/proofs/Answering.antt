@@ -3,8 +3,8 @@ use Rattle.std.proofs.Common.{◌≡◌, ◌<◌, ℕ, List, Option, None, [], �
 use Rattle.std.proofs.lemmas.List.{nil_from_length}
 use Rattle.net_base.specs.declared.reply.Reply.{Reply}
 use Rattle.net_base.specs.declared.ninep.Tmsg.{Tmsg}
-use Rattle.net_base.specs.SessionScript.{AreMessages, Begins, IsStream, after}
-use Rattle.net_base.specs.Server.{Answered, Outcome, answers_by, answers_to, outcome}
+use Rattle.net_base.specs.SessionScript.{AreMessages, Begins, IsStream, table_next}
+use Rattle.net_base.specs.Server.{Answered, Outcome, answers_by, answers_to, outcome_by}
 use Rattle.net_base.specs.Session.{State, first}
 use Rattle.net_base.specs.SessionTable.{IsSound, Table}
 use Rattle.sessions.proofs.Shared.{after_sound}
@@ -12,14 +12,14 @@ use Rattle.session_script.proofs.Shared.{none_begins, one_beginning}
 use Rattle.session_answers.specs.Served.{Goes, IsLast, IsServedFirst, served}
 use Rattle.session_answers.specs.Told.{session}
 
-pub still_sound : (old now : Table) (m : Tmsg) → IsSound old → now ≡ after old m → IsSound now
+pub still_sound : (old now : Table) (m : Tmsg) → IsSound old → now ≡ table_next old m → IsSound now
 still_sound old now m sound heard = subst IsSound (sym heard) (after_sound old m sound)
 
 -- the message that the bytes begin with waits, and no other one begins them
 pub first_waits : (h : ℕ) (s now : State) (m : Tmsg) (bytes behind : List ℕ) (rs left : List Reply) (answer : Option (List ℕ)) → Begins s.table.msize m bytes behind
-    → outcome ((session h).serves s m) rs ≡ served answer now left → answer ≡ None → IsLast h s bytes rs
+    → outcome_by ((session h).serves s m) rs ≡ served answer now left → answer ≡ None → IsLast h s bytes rs
 first_waits h s now m bytes behind rs left answer begins told none =
-    λ n after starts. ap (λ (x : Tmsg). outcome ((session h).serves s x) rs) (one_beginning s.table.msize n m bytes after behind starts begins).0
+    λ n table_next starts. ap (λ (x : Tmsg). outcome_by ((session h).serves s x) rs) (one_beginning s.table.msize n m bytes table_next behind starts begins).0
     ∙ told
     ∙ ap (λ (o : Option (List ℕ)). served o now left) none
 
@@ -48,8 +48,8 @@ answered_one h bytes all answers now s t rest behind answer rs left some k more 
     by [] g = absurd (omega (arith, some, ap (λ (xs : List ℕ). length xs) g.stream))
     by (m ∷ ms) g =
         let one = one_beginning s.table.msize m k.message rest g.stream.0 behind g.stream.1 k.begins in
-        let table : after s.table m ≡ t.table = ap (after s.table) one.0 ∙ sym k.heard in
-        let served : outcome ((session h).serves s m) rs ≡ Answered answer t left = ap (λ (x : Tmsg). outcome ((session h).serves s x) rs) one.0 ∙ k.answered in (
+        let table : table_next s.table m ≡ t.table = ap (table_next s.table) one.0 ∙ sym k.heard in
+        let served : outcome_by ((session h).serves s m) rs ≡ Answered answer t left = ap (λ (x : Tmsg). outcome_by ((session h).serves s x) rs) one.0 ∙ k.answered in (
           ms,
           record {
             stream = subst (λ (xs : List ℕ). IsStream t.table ms xs) one.1 (subst (λ (x : Table). IsStream x ms g.stream.0) table g.stream.2);

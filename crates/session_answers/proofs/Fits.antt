@@ -13,11 +13,11 @@ use Rattle.net_base.specs.declared.ninep.Tmsg.{Tmsg}
 use Rattle.net_base.specs.declared.ninep.Tmsg.TheVariants as t
 use Rattle.net_base.specs.NinepFields.{qid}
 use Rattle.net_base.specs.NinepMessages.{IsTmsg, longest, r_bytes, r_fields, r_qids, t_tag}
-use Rattle.net_base.specs.SessionAnswers.{Found, attach_answer, bad_fid, bad_mode, bad_use, found_answer, granted, is_granting, node_at, not_served, of_known, of_used, open_answer, piece, longest_text, read_answer, said, skipped, spoken, version_answer, walk_answer}
+use Rattle.net_base.specs.SessionAnswers.{Found, attach_answer, bad_fid, bad_mode, bad_use, found_answer, granted, is_granting, node_at, not_served, of_known, of_used, open_answer, piece, longest_error, read_answer, said_at_once, skipped, spoken, version_answer, walk_answer}
 use Rattle.net_base.specs.Steps.{bytes_in}
 use Rattle.net_base.specs.declared.ninep.Target.{Target}
 use Rattle.net_base.specs.SessionFiles.{can_open, is_cs, qid_of, step_to, walked}
-use Rattle.net_base.specs.SessionScript.{begins, gives_nothing, nofid, room}
+use Rattle.net_base.specs.SessionScript.{begins_session, gives_nothing, nofid, room}
 use Rattle.net_base.specs.SessionTable.{Table, is_taken}
 use Rattle.session_answers.specs.Told.{told_by, told_text}
 
@@ -103,7 +103,7 @@ spoken_few version = by (bytes_eq version (codes "9P2000"))
 
 version_fits : (table : Table) (tag msize : ℕ) (version : List ℕ) → Fits (version_answer table tag msize version)
 version_fits table tag msize version =
-    either (begins table msize) (r.Version tag (min msize table.msize) (spoken version)) (r.Error tag bad_use)
+    either (begins_session table msize) (r.Version tag (min msize table.msize) (spoken version)) (r.Error tag bad_use)
     (omega (arith, spoken_few version), omega arith)
     (error_fits tag bad_use (omega arith))
 
@@ -116,7 +116,7 @@ attach_fits table tag fid afid =
 open_fits : (tag mode : ℕ) (f : Target) → Fits (open_answer tag mode f)
 open_fits tag mode f = either (can_open f.node mode) (r.Open tag (qid_of f.node) 0) (r.Error tag bad_mode) (omega arith, omega arith) (error_fits tag bad_mode (omega arith))
 
-said_short : (table : Table) (found : Found) (m : Tmsg) → table.msize ≤ longest → IsTmsg m → Fits (said table found m)
+said_short : (table : Table) (found : Found) (m : Tmsg) → table.msize ≤ longest → IsTmsg m → Fits (said_at_once table found m)
 said_short table found (t.Version tag msize version) short is = version_fits table tag msize version
 said_short table found (t.Auth tag afid uname aname) short is = error_fits tag not_served (omega arith)
 said_short table found (t.Attach tag fid afid uname aname) short is = attach_fits table tag fid afid
@@ -149,10 +149,10 @@ granted_short table (t.Remove tag fid) x short = error_fits tag not_served (omeg
 granted_short table (t.Stat tag fid) x short = error_fits tag not_served (omega arith)
 granted_short table (t.Wstat tag fid stat) x short = error_fits tag not_served (omega arith)
 
-told_short : (table : Table) (m : Tmsg) (x : Reply) → table.msize ≤ longest → (is_granting x ≡ false → length (told_text x) ≤ longest_text) → Fits (told_by table m x)
+told_short : (table : Table) (m : Tmsg) (x : Reply) → table.msize ≤ longest → (is_granting x ≡ false → length (told_text x) ≤ longest_error) → Fits (told_by table m x)
 told_short table m x short few = by (is_granting x) few
   where
-    by : (v : Bool) → (v ≡ false → length (told_text x) ≤ longest_text) → Fits (cond v (granted table m x) (r.Error (t_tag m) (told_text x)))
+    by : (v : Bool) → (v ≡ false → length (told_text x) ≤ longest_error) → Fits (cond v (granted table m x) (r.Error (t_tag m) (told_text x)))
     by true few = granted_short table m x short
     by false few = error_fits (t_tag m) (told_text x) (few refl)
 
@@ -160,14 +160,14 @@ whole_short : (m : Rmsg) → length (r_fields m) ≤ 8209 → length (r_bytes m)
 unfolding r_bytes
 whole_short m short = omega (arith, short)
 
-pub said_fits : (table : Table) (found : Found) (m : Tmsg) (answer : Rmsg) → table.msize ≤ longest → IsTmsg m → answer ≡ said table found m
+pub said_fits : (table : Table) (found : Found) (m : Tmsg) (answer : Rmsg) → table.msize ≤ longest → IsTmsg m → answer ≡ said_at_once table found m
     → (length (r_bytes answer) ≤ longest) × (length (r_qids answer) < 17)
 said_fits table found m answer short is same =
     let fits : Fits answer = subst Fits (sym same) (said_short table found m short is) in
     (whole_short answer fits.0, fits.1)
 
 pub replied_fits : (table : Table) (m : Tmsg) (x : Reply) (answer : Rmsg) → table.msize ≤ longest → answer ≡ told_by table m x
-    → (is_granting x ≡ false → length (told_text x) ≤ longest_text) → (length (r_bytes answer) ≤ longest) × (length (r_qids answer) < 17)
+    → (is_granting x ≡ false → length (told_text x) ≤ longest_error) → (length (r_bytes answer) ≤ longest) × (length (r_qids answer) < 17)
 replied_fits table m x answer short same few =
     let fits : Fits answer = subst Fits (sym same) (told_short table m x short few) in
     (whole_short answer fits.0, fits.1)

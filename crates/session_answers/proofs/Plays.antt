@@ -14,9 +14,9 @@ use Rattle.net_base.specs.declared.reply.Reply.{Reply}
 use Rattle.net_base.specs.declared.world.Step.{Step}
 use Rattle.net_base.specs.declared.world.Step.TheVariants as step
 use Rattle.net_base.specs.ControlWords as control
-use Rattle.net_base.specs.Paths.{reads, walk, writes}
-use Rattle.net_base.specs.Steps.{uses, misuses, ends_with, read_event, opens, Ask, Asks, Ends, Fid, Names, Play, bind, controls, conversation_of, fid_of, if_accepted, is_accepted, is_bound, on_fid, open_event, openable, opened_fid, play_of, puts, unbind}
-use Rattle.net_base.specs.Server.{Doing, Waits, doing_of, outcome}
+use Rattle.net_base.specs.Paths.{mode_reads, walk, mode_writes}
+use Rattle.net_base.specs.Steps.{uses, misuses, ends_with, read_event, opens, Ask, Asks, Ends, Fid, Names, Play, bind, controls, conversation_of, fid_of, if_accepted, is_accepted, is_bound, on_fid, open_event, openable, opened_fid, play_of, puts_text, unbind}
+use Rattle.net_base.specs.Server.{Doing, Waits, doing_of, outcome_by}
 use Rattle.net_base.specs.Session.{State}
 use Rattle.net_base.specs.declared.request.Request.{Request}
 use Rattle.script_task.specs.declared.effect.Effect.{Effect}
@@ -59,7 +59,7 @@ controlled_ahead h names f text (Ok (ctl.Ttl n)) = One _ _ _ refl (λ x. same_en
 controlled_ahead h names f text (Ok (ctl.Tos n)) = One _ _ _ refl (λ x. same_ends x names)
 controlled_ahead h names f text (Err fault) = One _ _ _ refl (λ x. same_ends x names)
 
-put_ahead : (h : ℕ) (names : Names) (f : Fid) (text : List ℕ) (g : FileName) → Ahead (λ (x : Reply). names) (puts h f g text (Ends names) (Ends names))
+put_ahead : (h : ℕ) (names : Names) (f : Fid) (text : List ℕ) (g : FileName) → Ahead (λ (x : Reply). names) (puts_text h f g text (Ends names) (Ends names))
 put_ahead h names f text file.Ctl = controlled_ahead h names f text (control.read text)
 put_ahead h names f text file.Data = One _ _ _ refl (λ x. same_ends x names)
 put_ahead h names f text file.Err = controlled_ahead h names f text (control.read text)
@@ -72,10 +72,10 @@ write_ahead : (h : ℕ) (names : Names) (called text : List ℕ) → Ahead (sett
 write_ahead h names called text = by (fid_of called names)
   where
     by : (o : Option Fid) → Ahead (λ (x : Reply). names)
-        (on_fid o (uses h called names) (λ (f : Fid). cond (writes f.mode) (puts h f f.file text (Ends names) (Ends names)) (misuses h called names)))
+        (on_fid o (uses h called names) (λ (f : Fid). cond (mode_writes f.mode) (puts_text h f f.file text (Ends names) (Ends names)) (misuses h called names)))
     by None = One _ _ _ refl (λ x. refl)
     by (Some f) =
-        either_ahead (λ (x : Reply). names) (writes f.mode) (puts h f f.file text (Ends names) (Ends names)) (misuses h called names)
+        either_ahead (λ (x : Reply). names) (mode_writes f.mode) (puts_text h f f.file text (Ends names) (Ends names)) (misuses h called names)
         (put_ahead h names f text f.file) (One _ _ _ refl (λ x. refl))
 
 read_ahead : (h : ℕ) (names : Names) (called : List ℕ) (count : ℕ) → Ahead (settled names (asked (step.Read called count))) (request_play h names (asked (step.Read called count)))
@@ -92,10 +92,10 @@ read_ahead h names called count = by (fid_of called names)
 
     by : (o : Option Fid) → Ahead (λ (x : Reply). names)
         (on_fid o (uses h called names)
-        (λ (f : Fid). cond (reads f.mode) (ends_with (conversation_of h f) (read_event f count f.file) names) (misuses h called names)))
+        (λ (f : Fid). cond (mode_reads f.mode) (ends_with (conversation_of h f) (read_event f count f.file) names) (misuses h called names)))
     by None = One _ _ _ refl (λ x. refl)
     by (Some f) =
-        either_ahead (λ (x : Reply). names) (reads f.mode) (ends_with (conversation_of h f) (read_event f count f.file) names)
+        either_ahead (λ (x : Reply). names) (mode_reads f.mode) (ends_with (conversation_of h f) (read_event f count f.file) names)
         (misuses h called names)
         (One _ _ _ (event_no f f.file) (λ x. refl)) (One _ _ _ refl (λ x. refl))
 
@@ -154,14 +154,14 @@ plays_as h names _ is = absurd is
 
 -- ---- replies
 
-none_waits : (after : Reply → Names) (p : Play) → Ahead after p → (go_on : Names → Option Reply → Doing State) → outcome (doing_of p None go_on) [] ≡ Waits
+none_waits : (after : Reply → Names) (p : Play) → Ahead after p → (go_on : Names → Option Reply → Doing State) → outcome_by (doing_of p None go_on) [] ≡ Waits
 none_waits after p (One a e next other ends) go_on = refl
 none_waits after p (Two a e b f next last goes ends grants) go_on = refl
 
 -- without a reply the step waits
 pub waits : (h : ℕ) (names after : Names) (s : Step) → IsServed s → (rs left : List Reply) → rs ≡ [] → Plays h names s rs after None left
 waits h names after s is rs left none =
-    λ go_on. ap (λ (xs : List Reply). outcome (doing_of (play_of h names s) None go_on) xs) none
+    λ go_on. ap (λ (xs : List Reply). outcome_by (doing_of (play_of h names s) None go_on) xs) none
     ∙ none_waits (settled names (asked s)) (play_of h names s) (ahead h names s is) go_on
 
 -- the event of an ask, where there is one
@@ -174,11 +174,11 @@ event_is a b e f next is = ap (event_in e) is
 
 one_reply : (after : Reply → Names) (p : Play) → Ahead after p → (a : ActorName) (e : Event) → head p ≡ Some (record { actor = a; event = e })
     → (x : Reply) (left : List Reply) → (is_grant e && is_accepted x) ≡ false
-    → (go_on : Names → Option Reply → Doing State) → outcome (doing_of p None go_on) (x ∷ left) ≡ outcome (go_on (after x) (Some x)) left
-one_reply after p (One a e next other ends) b f is x left through go_on = ap (λ (q : Play). outcome (doing_of q (Some x) go_on) left) (ends x)
+    → (go_on : Names → Option Reply → Doing State) → outcome_by (doing_of p None go_on) (x ∷ left) ≡ outcome_by (go_on (after x) (Some x)) left
+one_reply after p (One a e next other ends) b f is x left through go_on = ap (λ (q : Play). outcome_by (doing_of q (Some x) go_on) left) (ends x)
 one_reply after p (Two a e b' f' next last goes ends grants) b f is x left through go_on =
     let refused : is_accepted x ≡ false = accepted (is_grant f) (is_accepted x) (ap is_grant (sym (event_is a b e f next is)) ∙ grants) through in
-    ap (λ (q : Play). outcome (doing_of q (Some x) go_on) left) (goes x ∙ ap (λ (v : Bool). cond v (Asks b' f' last) (Ends (after x))) refused)
+    ap (λ (q : Play). outcome_by (doing_of q (Some x) go_on) left) (goes x ∙ ap (λ (v : Bool). cond v (Asks b' f' last) (Ends (after x))) refused)
   where
     accepted : (u v : Bool) → u ≡ true → (u && v) ≡ false → v ≡ false
     accepted true v t n = n
@@ -189,14 +189,14 @@ pub one_played : (h : ℕ) (names now : Names) (s : Step) → IsServed s → (a 
     → head (play_of h names s) ≡ Some (record { actor = a; event = e }) → (x : Reply) (rs left : List Reply) → rs ≡ x ∷ left → (is_grant e && is_accepted x) ≡ false
     → now ≡ settled names (asked s) x → Plays h names s rs now (Some x) left
 one_played h names now s is a e asks x rs left first through settles =
-    λ go_on. ap (λ (xs : List Reply). outcome (doing_of (play_of h names s) None go_on) xs) first
+    λ go_on. ap (λ (xs : List Reply). outcome_by (doing_of (play_of h names s) None go_on) xs) first
     ∙ one_reply (settled names (asked s)) (play_of h names s) (ahead h names s is) a e asks x left through go_on
-    ∙ ap (λ (ns : Names). outcome (go_on ns (Some x)) left) (sym settles)
+    ∙ ap (λ (ns : Names). outcome_by (go_on ns (Some x)) left) (sym settles)
 
 two_replies : (after : Reply → Names) (p : Play) → Ahead after p → (a : ActorName) (e : Event) → head p ≡ Some (record { actor = a; event = e })
     → (x : Reply) → (is_grant e && is_accepted x) ≡ true
     → (go_on : Names → Option Reply → Doing State)
-    → ((outcome (doing_of p None go_on) (x ∷ []) ≡ Waits) × ((y : Reply) (left : List Reply) → outcome (doing_of p None go_on) (x ∷ y ∷ left) ≡ outcome (go_on (after x) (Some y)) left))
+    → ((outcome_by (doing_of p None go_on) (x ∷ []) ≡ Waits) × ((y : Reply) (left : List Reply) → outcome_by (doing_of p None go_on) (x ∷ y ∷ left) ≡ outcome_by (go_on (after x) (Some y)) left))
 two_replies after p (One a e next other ends) b f is x more go_on = absurd (never (is_grant f) (is_accepted x) (ap is_grant (sym (event_is a b e f next is)) ∙ other) more)
   where
     never : (u v : Bool) → u ≡ false → (u && v) ≡ true → ⊥
@@ -205,8 +205,8 @@ two_replies after p (One a e next other ends) b f is x more go_on = absurd (neve
 two_replies after p (Two a e b' f' next last goes ends grants) b f is x more go_on =
     let accepted : is_accepted x ≡ true = second (is_grant f) (is_accepted x) more in
     let next_is : next x ≡ Asks b' f' last = goes x ∙ ap (λ (v : Bool). cond v (Asks b' f' last) (Ends (after x))) accepted in (
-      ap (λ (q : Play). outcome (doing_of q (Some x) go_on) []) next_is,
-      λ y left. ap (λ (q : Play). outcome (doing_of q (Some x) go_on) (y ∷ left)) next_is ∙ ap (λ (q : Play). outcome (doing_of q (Some y) go_on) left) (ends x y),
+      ap (λ (q : Play). outcome_by (doing_of q (Some x) go_on) []) next_is,
+      λ y left. ap (λ (q : Play). outcome_by (doing_of q (Some x) go_on) (y ∷ left)) next_is ∙ ap (λ (q : Play). outcome_by (doing_of q (Some y) go_on) left) (ends x y),
     )
   where
     second : (u v : Bool) → (u && v) ≡ true → v ≡ true
@@ -218,15 +218,15 @@ pub two_played : (h : ℕ) (names now : Names) (s : Step) → IsServed s → (a 
     → head (play_of h names s) ≡ Some (record { actor = a; event = e }) → (x : Reply) (rs left : List Reply) → rs ≡ x ∷ left → (is_grant e && is_accepted x) ≡ true
     → now ≡ settled names (asked s) x → (y : Reply) (behind : List Reply) → left ≡ y ∷ behind → Plays h names s rs now (Some y) behind
 two_played h names now s is a e asks x rs left first more settles y behind next =
-    λ go_on. ap (λ (xs : List Reply). outcome (doing_of (play_of h names s) None go_on) xs) (first ∙ ap (λ (xs : List Reply). x ∷ xs) next)
+    λ go_on. ap (λ (xs : List Reply). outcome_by (doing_of (play_of h names s) None go_on) xs) (first ∙ ap (λ (xs : List Reply). x ∷ xs) next)
     ∙ (two_replies (settled names (asked s)) (play_of h names s) (ahead h names s is) a e asks x more go_on).1 y behind
-    ∙ ap (λ (ns : Names). outcome (go_on ns (Some y)) behind) (sym settles)
+    ∙ ap (λ (ns : Names). outcome_by (go_on ns (Some y)) behind) (sym settles)
 
 pub two_wait : (h : ℕ) (names now : Names) (s : Step) → IsServed s → (a : ActorName) (e : Event)
     → head (play_of h names s) ≡ Some (record { actor = a; event = e }) → (x : Reply) (rs left : List Reply) → rs ≡ x ∷ left → (is_grant e && is_accepted x) ≡ true
     → left ≡ [] → (behind : List Reply) → Plays h names s rs now None behind
 two_wait h names now s is a e asks x rs left first more none behind =
-    λ go_on. ap (λ (xs : List Reply). outcome (doing_of (play_of h names s) None go_on) xs) (first ∙ ap (λ (xs : List Reply). x ∷ xs) none)
+    λ go_on. ap (λ (xs : List Reply). outcome_by (doing_of (play_of h names s) None go_on) xs) (first ∙ ap (λ (xs : List Reply). x ∷ xs) none)
     ∙ (two_replies (settled names (asked s)) (play_of h names s) (ahead h names s is) a e asks x more go_on).0
 
 -- ---- by what the code planned

@@ -9,7 +9,7 @@ use Rattle.net_base.specs.declared.ninep.Tmsg.{Tmsg}
 use Rattle.net_base.specs.declared.ninep.Tmsg.TheVariants as t
 use Rattle.net_base.specs.SessionAnswers.{Found}
 use Rattle.net_base.specs.SessionFiles.{access, is_cs, is_plain}
-use Rattle.net_base.specs.SessionScript.{close_step, cs_step, fid_name, gives_nothing, is_query, open_step, opens, read_count, read_step, reads, room, step_of, write_step}
+use Rattle.net_base.specs.SessionScript.{close_step, cs_step, fid_name, gives_nothing, is_query, open_step, opening_step, read_count, read_step, reading_step, room, message_step, write_step}
 use Rattle.net_base.specs.Session.{State}
 use Rattle.net_base.specs.declared.ninep.Target.{Target}
 use Rattle.net_base.specs.SessionTable.{Table, used}
@@ -30,17 +30,17 @@ known None g each = tt
 known (Some f) g each = each f
 
 open_serves : (fid mode : ℕ) (f : Target) → Serves (open_step fid mode f)
-open_serves fid mode f = either (is_plain f.node) (option_map (opens fid f.node) (access mode)) None (by (access mode)) tt
+open_serves fid mode f = either (is_plain f.node) (option_map (opening_step fid f.node) (access mode)) None (by (access mode)) tt
   where
-    by : (o : Option Mode) → Serves (option_map (opens fid f.node) o)
+    by : (o : Option Mode) → Serves (option_map (opening_step fid f.node) o)
     by None = tt
     by (Some m) = tt
 
 read_serves : (table : Table) (fid offset count : ℕ) (f : Target) → Serves (read_step table fid offset count f)
 read_serves table fid offset count f =
-    either (gives_nothing f.node offset count) None (option_map (reads fid) (read_count offset (room table count) f.node)) tt (by (read_count offset (room table count) f.node))
+    either (gives_nothing f.node offset count) None (option_map (reading_step fid) (read_count offset (room table count) f.node)) tt (by (read_count offset (room table count) f.node))
   where
-    by : (o : Option ℕ) → Serves (option_map (reads fid) o)
+    by : (o : Option ℕ) → Serves (option_map (reading_step fid) o)
     by None = tt
     by (Some n) = tt
 
@@ -51,7 +51,7 @@ write_serves fid bytes f =
 close_serves : (fid : ℕ) (f : Target) → Serves (close_step fid f)
 close_serves fid f = either (is_plain f.node) (Some (step.Close (fid_name fid))) None tt tt
 
-all_serve : (table : Table) (m : Tmsg) → Serves (step_of table m)
+all_serve : (table : Table) (m : Tmsg) → Serves (message_step table m)
 all_serve table (t.Version tag msize version) = tt
 all_serve table (t.Auth tag afid uname aname) = tt
 all_serve table (t.Attach tag fid afid uname aname) = tt
@@ -66,7 +66,7 @@ all_serve table (t.Remove tag fid) = known (used table fid) (close_step fid) (cl
 all_serve table (t.Stat tag fid) = tt
 all_serve table (t.Wstat tag fid stat) = tt
 
-pub step_served : (table : Table) (m : Tmsg) (s : Step) → step_of table m ≡ Some s → IsServed s
+pub step_served : (table : Table) (m : Tmsg) (s : Step) → message_step table m ≡ Some s → IsServed s
 step_served table m s is = subst Serves is (all_serve table m)
 
 -- ---- states

@@ -14,7 +14,7 @@ use Rattle.net_base.specs.declared.reply.Reply.{Reply}
 use Rattle.net_base.specs.declared.reply.Reply.TheVariants as reply
 use Rattle.net_base.specs.Numeral.{numeral}
 use Rattle.net_base.specs.Transcript.{addr_word, cause_number, ip_word, reply_words}
-use Rattle.net_base.specs.SessionAnswers.{longest_text, printed}
+use Rattle.net_base.specs.SessionAnswers.{longest_error, printed}
 use Rattle.sessions.proofs.Shared.{has_room, is_short}
 use Rattle.transcript.proofs.Told.{address_is}
 use Rattle.sessions.proofs.Sayable.{length_shown}
@@ -64,14 +64,14 @@ addr_short a ip port =
 -- ---- replies
 
 -- one number behind a word
-pub one_number : (x : Reply) (n : ℕ) (word : List ℕ) → reply_words x ≡ word ∷ numeral n ∷ [] → is_short word ≡ true → n < 2 ^ 64 → length (printed x) ≤ longest_text
+pub one_number : (x : Reply) (n : ℕ) (word : List ℕ) → reply_words x ≡ word ∷ numeral n ∷ [] → is_short word ≡ true → n < 2 ^ 64 → length (printed x) ≤ longest_error
 one_number x n word is short lt =
     has_room x
     (ap (λ (ws : List (List ℕ)). list_all is_short ws) is ∙ and_from (is_short word) _ short (and_from (is_short (numeral n)) true (number_short n lt) refl))
     (omega (arith, ap (λ (ws : List (List ℕ)). length ws) is))
 
 pub two_numbers : (x : Reply) (n m : ℕ) (word : List ℕ) → reply_words x ≡ word ∷ numeral n ∷ numeral m ∷ [] → is_short word ≡ true → n < 2 ^ 64 → m < 2 ^ 64
-    → length (printed x) ≤ longest_text
+    → length (printed x) ≤ longest_error
 two_numbers x n m word is short one two =
     has_room x
     (ap (λ (ws : List (List ℕ)). list_all is_short ws) is
@@ -79,7 +79,7 @@ two_numbers x n m word is short one two =
     (omega (arith, ap (λ (ws : List (List ℕ)). length ws) is))
 
 pub grant_short : (pair : Pair) (start limit : ℕ) → pair.local.ip < 2 ^ 32 → pair.local.port < 2 ^ 16 → pair.remote.ip < 2 ^ 32 → pair.remote.port < 2 ^ 16
-    → start < 2 ^ 64 → limit < 2 ^ 64 → length (printed (reply.Granted pair start limit)) ≤ longest_text
+    → start < 2 ^ 64 → limit < 2 ^ 64 → length (printed (reply.Granted pair start limit)) ≤ longest_error
 grant_short pair start limit a b c d e f =
     has_room (reply.Granted pair start limit)
     (and_from (is_short (addr_word pair.local)) _ (addr_short pair.local a b)
@@ -87,7 +87,7 @@ grant_short pair start limit a b c d e f =
     (and_from (is_short (numeral start)) _ (number_short start e) (and_from (is_short (numeral limit)) true (number_short limit f) refl))))
     (omega arith)
 
-pub hungup_short : (c : Cause) → length (printed (reply.Hungup c)) ≤ longest_text
+pub hungup_short : (c : Cause) → length (printed (reply.Hungup c)) ≤ longest_error
 hungup_short c = one_number (reply.Hungup c) (cause_number c) (codes "hungup") refl refl (few c)
   where
     few : (k : Cause) → cause_number k < 2 ^ 64

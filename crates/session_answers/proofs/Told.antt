@@ -12,8 +12,8 @@ use Rattle.net_base.specs.declared.ninep.Rmsg.TheVariants as r
 use Rattle.net_base.specs.declared.ninep.Tmsg.{Tmsg}
 use Rattle.net_base.specs.NinepMessages.{r_bytes, t_tag}
 use Rattle.net_base.specs.SessionAnswers.{found_by, granted, is_granting, printed, replied}
-use Rattle.net_base.specs.SessionScript.{AreMessages, after, step_of}
-use Rattle.net_base.specs.Server.{Answered, Doing, Does, Gives, Outcome, Waits, answers_by, answers_to, doing_of, outcome}
+use Rattle.net_base.specs.SessionScript.{AreMessages, table_next, message_step}
+use Rattle.net_base.specs.Server.{Answered, Doing, Does, Gives, Outcome, Waits, answers_by, answers_to, doing_of, outcome_by}
 use Rattle.net_base.specs.Session as spec
 use Rattle.net_base.specs.Session.{State, first}
 use Rattle.net_base.specs.SessionTable.{Table}
@@ -40,16 +40,16 @@ LastTold (Some x) = is_told x ≡ true
 same_end : (s : State) (m : Tmsg) (names : Names) (last : Option Reply) → LastTold last → by_last s m names last ≡ spec.by_last s m names last
 same_end s m names None told = refl
 same_end s m names (Some x) told =
-    ap (λ (answer : Rmsg). Gives (r_bytes answer) (record { table = after s.table m; found = found_by s.table s.found m x; names = names })) (same_reply s.table m x told)
+    ap (λ (answer : Rmsg). Gives (r_bytes answer) (record { table = table_next s.table m; found = found_by s.table s.found m x; names = names })) (same_reply s.table m x told)
 
 same_play : (s : State) (m : Tmsg) (p : Play) (last : Option Reply) (rs : List Reply) → LastTold last → AreTold rs
-    → outcome (doing_of p last (by_last s m)) rs ≡ outcome (doing_of p last (spec.by_last s m)) rs
-same_play s m (Ends names) last rs one told = ap (λ (d : Doing State). outcome d rs) (same_end s m names last one)
+    → outcome_by (doing_of p last (by_last s m)) rs ≡ outcome_by (doing_of p last (spec.by_last s m)) rs
+same_play s m (Ends names) last rs one told = ap (λ (d : Doing State). outcome_by d rs) (same_end s m names last one)
 same_play s m (Asks a e next) last [] one told = refl
 same_play s m (Asks a e next) last (x ∷ rs) one told = let t = parts x rs told in same_play s m (next x) (Some x) rs t.0 t.1
 
 -- one message is served the same
-same_serve : (h : ℕ) (s : State) (m : Tmsg) (o : Option Step) (rs : List Reply) → AreTold rs → outcome (serves_by h s m o) rs ≡ outcome (spec.serves_by h s m o) rs
+same_serve : (h : ℕ) (s : State) (m : Tmsg) (o : Option Step) (rs : List Reply) → AreTold rs → outcome_by (serves_by h s m o) rs ≡ outcome_by (spec.serves_by h s m o) rs
 same_serve h s m None rs told = refl
 same_serve h s m (Some step) rs told = same_play s m (play_of h s.names step) None rs tt told
 
@@ -58,7 +58,7 @@ abbrev LeavesTold : Outcome State → Type 0
 LeavesTold Waits = Unit {0}
 LeavesTold (Answered answer s left) = AreTold left
 
-leaves : (d : Doing State) (rs : List Reply) → AreTold rs → LeavesTold (outcome d rs)
+leaves : (d : Doing State) (rs : List Reply) → AreTold rs → LeavesTold (outcome_by d rs)
 leaves (Gives answer s) rs told = told
 leaves (Does ask next) [] told = tt
 leaves (Does ask next) (x ∷ rs) told = leaves (next x) rs (parts x rs told).1
@@ -70,11 +70,11 @@ same_after (Answered answer s left) f g told each = ap (λ (xs : List (List ℕ)
 same_answers : (h : ℕ) (ms : List Tmsg) (s : State) (rs : List Reply) → AreTold rs → answers_to (session h) s ms rs ≡ answers_to (spec.session h) s ms rs
 same_answers h [] s rs told = refl
 same_answers h (m ∷ ms) s rs told =
-    ap (λ (o : Outcome State). answers_by o (λ (next : State) (later : List Reply). answers_to (session h) next ms later)) (same_serve h s m (step_of s.table m) rs told)
-    ∙ same_after (outcome (spec.serves_by h s m (step_of s.table m)) rs)
+    ap (λ (o : Outcome State). answers_by o (λ (next : State) (later : List Reply). answers_to (session h) next ms later)) (same_serve h s m (message_step s.table m) rs told)
+    ∙ same_after (outcome_by (spec.serves_by h s m (message_step s.table m)) rs)
     (λ (next : State) (later : List Reply). answers_to (session h) next ms later)
     (λ (next : State) (later : List Reply). answers_to (spec.session h) next ms later)
-    (leaves (spec.serves_by h s m (step_of s.table m)) rs told)
+    (leaves (spec.serves_by h s m (message_step s.table m)) rs told)
     (λ next later. same_answers h ms next later)
 
 -- ---- the replies of a caller

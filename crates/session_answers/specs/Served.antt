@@ -12,8 +12,8 @@ use Rattle.net_base.specs.declared.ninep.Tmsg.{Tmsg}
 use Rattle.net_base.specs.declared.request.Request.{Request}
 use Rattle.net_base.specs.declared.request.Request.TheVariants as request
 use Rattle.session_script.specs.Seen.{seen}
-use Rattle.net_base.specs.SessionScript.{Begins, IsStream, after}
-use Rattle.net_base.specs.Server.{Answered, Doing, Outcome, Waits, answers_to, doing_of, outcome}
+use Rattle.net_base.specs.SessionScript.{Begins, IsStream, table_next}
+use Rattle.net_base.specs.Server.{Answered, Doing, Outcome, Waits, answers_to, doing_of, outcome_by}
 use Rattle.net_base.specs.Session.{State}
 use Rattle.session_answers.specs.declared.session.Session.{Session}
 use Rattle.session_answers.specs.Found.{lines_by}
@@ -35,12 +35,12 @@ served (Some answer) s rs = Answered answer s rs
 -- what goes on with the names and the last reply of a step, where it has one
 abbrev pub went : (Names → Option Reply → Doing State) → Names → Option Reply → List Reply → Outcome State
 went go_on names None rs = Waits
-went go_on names (Some x) rs = outcome (go_on names (Some x)) rs
+went go_on names (Some x) rs = outcome_by (go_on names (Some x)) rs
 
 -- the step was played as far as its last reply, after which these names are bound and these replies are left
 abbrev pub Plays : ℕ → Names → Step → List Reply → Names → Option Reply → List Reply → Type 0
 Plays h names s rs now last left =
-    (go_on : Names → Option Reply → Doing State) → outcome (doing_of (play_of h names s) None go_on) rs ≡ went go_on now last left
+    (go_on : Names → Option Reply → Doing State) → outcome_by (doing_of (play_of h names s) None go_on) rs ≡ went go_on now last left
 
 -- the step is of a kind that sessions have
 abbrev pub IsServed : Step → Type 0
@@ -69,12 +69,12 @@ is_grant _ = false
 pub record IsServedFirst (h : ℕ) (old new : State) (bytes behind answer : List ℕ) (rs left : List Reply) : Type 0 where
   pub message : Tmsg
   pub begins : Begins old.table.msize message bytes behind
-  pub heard : new.table ≡ after old.table message
-  pub answered : outcome ((session h).serves old message) rs ≡ Answered answer new left
+  pub heard : new.table ≡ table_next old.table message
+  pub answered : outcome_by ((session h).serves old message) rs ≡ Answered answer new left
 
 -- no message begins the bytes, or the first one waits
 abbrev pub IsLast : ℕ → State → List ℕ → List Reply → Type 0
-IsLast h s bytes rs = (m : Tmsg) (behind : List ℕ) → Begins s.table.msize m bytes behind → outcome ((session h).serves s m) rs ≡ Waits
+IsLast h s bytes rs = (m : Tmsg) (behind : List ℕ) → Begins s.table.msize m bytes behind → outcome_by ((session h).serves s m) rs ≡ Waits
 
 -- so many answers stand before those to what is left
 pub record Goes (h : ℕ) (all : List (List ℕ)) (answers : List (List ℕ)) (s : State) (ms : List Tmsg) (rest : List ℕ) (rs : List Reply) : Type 0 where

@@ -10,7 +10,7 @@ use Rattle.net_base.specs.declared.ninep.Rmsg.TheVariants as r
 use Rattle.net_base.specs.declared.ninep.Tmsg.{Tmsg}
 use Rattle.net_base.specs.NinepMessages.{r_bytes, t_tag}
 use Rattle.net_base.specs.SessionAnswers.{found_by, granted, is_granting, printed}
-use Rattle.net_base.specs.SessionScript.{after, step_of}
+use Rattle.net_base.specs.SessionScript.{table_next, message_step}
 use Rattle.net_base.specs.Server.{Doing, Gives, Server, doing_of}
 use Rattle.net_base.specs.Session.{State, first, told}
 use Rattle.net_base.specs.SessionTable.{Table}
@@ -55,7 +55,7 @@ told_by table m x = if is_granting x then granted table m x else r.Error (t_tag 
 
 abbrev pub by_last : State → Tmsg → Names → Option Reply → Doing State
 by_last s m names None = told s m
-by_last s m names (Some x) = Gives (r_bytes (told_by s.table m x)) (record { table = after s.table m; found = found_by s.table s.found m x; names = names })
+by_last s m names (Some x) = Gives (r_bytes (told_by s.table m x)) (record { table = table_next s.table m; found = found_by s.table s.found m x; names = names })
 
 abbrev pub serves_by : ℕ → State → Tmsg → Option Step → Doing State
 serves_by h s m None = told s m
@@ -66,6 +66,6 @@ session h =
     record {
       opening = first;
       names = λ (s : State). s.names;
-      serves = λ (s : State) (m : Tmsg). serves_by h s m (step_of s.table m);
+      serves = λ (s : State) (m : Tmsg). serves_by h s m (message_step s.table m);
       closes = λ (s : State). Ends s.names;
     }

@@ -3,7 +3,7 @@ ghost use Rattle.std.specs.Prelude.{◌≡◌, ◌++◌, ◌∷◌, ℕ, List, [
 ghost use Rattle.net_base.specs.declared.ninep.Tmsg.TheVariants as t;
 ghost use Rattle.net_base.specs.SessionAnswers as spec;
 ghost use Rattle.net_base.specs.Steps as steps;
-ghost use Rattle.net_base.specs.Transcript.{lines_of};
+ghost use Rattle.net_base.specs.Transcript.{as_lines};
 ghost use Rattle.session_answers.specs.Found.{lines_by};
 ghost use Rattle.session_script.specs.Seen.{seen};
 
@@ -88,7 +88,7 @@ impl Found {
 
 // The lines of a reply, with a newline after each.
 fn lines_in(alloc: Global, reply: &Reply) -> Result<Octets, AllocError>
-    ensures { IfOk result (λ text. text ≡ lines_of (steps.lines_in reply.now)) }
+    ensures { IfOk result (λ text. text ≡ as_lines (steps.reply_lines reply.now)) }
 {
     match reply {
         Reply::Lines { lines } => text_of(alloc, lines),
@@ -97,7 +97,7 @@ fn lines_in(alloc: Global, reply: &Reply) -> Result<Octets, AllocError>
 }
 
 fn text_of(alloc: Global, lines: &Lines) -> Result<Octets, AllocError>
-    ensures { IfOk result (λ text. text ≡ lines_of lines.now) }
+    ensures { IfOk result (λ text. text ≡ as_lines lines.now) }
 {
     let mut text = Octets::new(alloc);
     for line in lines.as_slice() {

@@ -2,7 +2,7 @@
 ghost use Rattle.std.specs.Prelude.{◌≡◌, ◌<◌, ◌≤◌, ◌^◌, true, drop, length, IfOk, OnOk};
 ghost use Rattle.net_base.specs.declared.reply.Reply.TheVariants as reply;
 ghost use Rattle.session_answers.specs.Told as spec;
-ghost use Rattle.net_base.specs.SessionAnswers.{longest_text, printed as whole};
+ghost use Rattle.net_base.specs.SessionAnswers.{longest_error, printed as whole};
 
 use net_base::{Octets, Pair, Reply};
 use std::alloc::{AllocError, Global};
@@ -11,7 +11,7 @@ use transcript::put_reply;
 /// A brief reply as a history prints it, without the blank before it.
 pub fn printed(alloc: Global, reply: &Reply) -> Result<Octets, AllocError>
     ensures text { IfOk result (λ text. text ≡ spec.told_text reply.now) }
-    ensures short { OnOk result (length (spec.told_text reply.now) ≤ longest_text) }
+    ensures short { OnOk result (length (spec.told_text reply.now) ≤ longest_error) }
 {
     let mut words = Octets::new(alloc);
     if is_brief(reply) {
@@ -23,7 +23,7 @@ pub fn printed(alloc: Global, reply: &Reply) -> Result<Octets, AllocError>
 /// Whether the reply is brief.
 pub fn is_brief(reply: &Reply) -> bool
     ensures is { result ≡ spec.is_brief reply.now }
-    ensures short { length (spec.told_text reply.now) ≤ longest_text }
+    ensures short { length (spec.told_text reply.now) ≤ longest_error }
 {
     match reply {
         Reply::CsRefused { number } => is_number(*number),
@@ -80,7 +80,7 @@ fn is_address(ip: u32, port: u16) -> bool
 // A grant has two addresses and two numbers.
 fn is_grant(pair: &Pair, start: u32, limit: u32) -> bool
     ensures is { result ≡ true }
-    ensures short { length (whole (reply.Granted pair.now start limit)) ≤ longest_text }
+    ensures short { length (whole (reply.Granted pair.now start limit)) ≤ longest_error }
 {
     let local = is_address(pair.local.ip, pair.local.port);
     let remote = is_address(pair.remote.ip, pair.remote.port);

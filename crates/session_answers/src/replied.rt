@@ -41,7 +41,7 @@ pub fn is_told(reply: &Reply) -> bool
 fn replied(alloc: Global, table: &Table, message: &Tmsg, reply: &Reply) -> Result<Rmsg, AllocError>
     requires { IsTmsg message.now }
     ensures told { IfOk result (λ m. m ≡ told_by (seen table.now) message.now reply.now) }
-    ensures short { OnOk result (spec.is_granting reply.now ≡ false → length (told_text reply.now) ≤ spec.longest_text) }
+    ensures short { OnOk result (spec.is_granting reply.now ≡ false → length (told_text reply.now) ≤ spec.longest_error) }
 {
     if is_granting(reply) {
         return granted(alloc, table, message, reply);

@@ -25,7 +25,7 @@ pub fn said_bytes(
 ) -> Result<Octets, AllocError>
     requires message { IsTmsg message.now }
     requires short { table.now.msize ≤ longest }
-    ensures { IfOk result (λ bytes. bytes ≡ r_bytes (spec.said (seen table.now) (lines_by found.now) message.now)) }
+    ensures { IfOk result (λ bytes. bytes ≡ r_bytes (spec.said_at_once (seen table.now) (lines_by found.now) message.now)) }
 {
     let answer = said(alloc, table, found, message)?;
     encode_r(alloc, &answer)
@@ -33,7 +33,7 @@ pub fn said_bytes(
 
 // The answer to a message without a step.
 fn said(alloc: Global, table: &Table, found: &Found, message: &Tmsg) -> Result<Rmsg, AllocError>
-    ensures { IfOk result (λ m. m ≡ spec.said (seen table.now) (lines_by found.now) message.now) }
+    ensures { IfOk result (λ m. m ≡ spec.said_at_once (seen table.now) (lines_by found.now) message.now) }
 {
     match message {
         Tmsg::Version {

@@ -9,8 +9,8 @@ ghost use Rattle.session_answers.specs.Served.{IsServed, Plays, asked, is_grant,
 ghost use Rattle.session_answers.specs.Told as told;
 ghost use Rattle.session_script.specs.Seen.{seen};
 ghost use Rattle.net_base.specs.SessionAnswers.{found_after, found_by};
-ghost use Rattle.net_base.specs.SessionScript.{after};
-ghost use Rattle.net_base.specs.Server.{Gives, outcome};
+ghost use Rattle.net_base.specs.SessionScript.{table_next};
+ghost use Rattle.net_base.specs.Server.{Gives, outcome_by};
 ghost use Rattle.net_base.specs.Session as spec;
 
 use crate::found::Found;
@@ -60,8 +60,8 @@ impl Session {
         requires message { IsTmsg message.now }
         requires short { self.old.table.msize ≤ longest }
         ensures served { IfOk result (λ answer.
-            outcome ((told.session self.old.host).serves (state_of self.old) message.now) replies.old ≡ served answer (state_of self.new) replies.new) }
-        ensures heard { IfOk result (λ answer. IfSome answer (λ bytes. seen self.new.table ≡ after (seen self.old.table) message.now)) }
+            outcome_by ((told.session self.old.host).serves (state_of self.old) message.now) replies.old ≡ served answer (state_of self.new) replies.new) }
+        ensures heard { IfOk result (λ answer. IfSome answer (λ bytes. seen self.new.table ≡ table_next (seen self.old.table) message.now)) }
         ensures host { self.new.host ≡ self.old.host }
     {
         match step_of(self.alloc, &self.table, message)? {
@@ -75,7 +75,7 @@ impl Session {
         requires message { IsTmsg message.now }
         requires short { self.old.table.msize ≤ longest }
         ensures told { IfOk result (λ answer. spec.told (state_of self.old) message.now ≡ Gives answer (state_of self.new)) }
-        ensures heard { OnOk result (seen self.new.table ≡ after (seen self.old.table) message.now) }
+        ensures heard { OnOk result (seen self.new.table ≡ table_next (seen self.old.table) message.now) }
         ensures host { self.new.host ≡ self.old.host }
     {
         let bytes = said_bytes(self.alloc, &self.table, &self.found, message)?;
@@ -94,8 +94,8 @@ impl Session {
         requires short { self.old.table.msize ≤ longest }
         requires step { IsServed step }
         ensures served { IfOk result (λ answer.
-            outcome (told.serves_by self.old.host (state_of self.old) message.now (Some step)) replies.old ≡ served answer (state_of self.new) replies.new) }
-        ensures heard { IfOk result (λ answer. IfSome answer (λ bytes. seen self.new.table ≡ after (seen self.old.table) message.now)) }
+            outcome_by (told.serves_by self.old.host (state_of self.old) message.now (Some step)) replies.old ≡ served answer (state_of self.new) replies.new) }
+        ensures heard { IfOk result (λ answer. IfSome answer (λ bytes. seen self.new.table ≡ table_next (seen self.old.table) message.now)) }
         ensures host { self.new.host ≡ self.old.host }
     {
         match self.play(step, replies)? {
@@ -110,7 +110,7 @@ impl Session {
         requires short { self.old.table.msize ≤ longest }
         ensures told { IfOk result (λ answer.
             told.by_last (state_of self.old) message.now self.old.names.names (Some reply.now) ≡ Gives answer (state_of self.new)) }
-        ensures heard { OnOk result (seen self.new.table ≡ after (seen self.old.table) message.now) }
+        ensures heard { OnOk result (seen self.new.table ≡ table_next (seen self.old.table) message.now) }
         ensures host { self.new.host ≡ self.old.host }
     {
         let bytes = replied_bytes(self.alloc, &self.table, message, reply)?;
@@ -121,7 +121,7 @@ impl Session {
 
     // Takes a message that had no step.
     fn hear(&mut self, message: &Tmsg) -> Result<(), AllocError>
-        ensures table { OnOk result (seen self.new.table ≡ after (seen self.old.table) message.now) }
+        ensures table { OnOk result (seen self.new.table ≡ table_next (seen self.old.table) message.now) }
         ensures found { OnOk result (lines_by self.new.found ≡ found_after (lines_by self.old.found) message.now) }
         ensures names { self.new.names ≡ self.old.names }
         ensures host { self.new.host ≡ self.old.host }

@@ -8,10 +8,10 @@ use Rattle.byteorder.specs.Endian.{little_number}
 use Rattle.byteorder.specs.Numbers.{little_number-reads_back}
 use Rattle.net_base.specs.declared.world.Step.{Step}
 use Rattle.net_base.specs.declared.ninep.Tmsg.{Tmsg}
-use Rattle.net_base.specs.NinepFields.{number}
+use Rattle.net_base.specs.NinepFields.{number_bytes}
 use Rattle.net_base.specs.NinepMessages.{SpellsT, longest, t_bytes, t_fields, t_tag, t_type}
 use Rattle.ninep_wire.proofs.Shared.{t_only}
-use Rattle.net_base.specs.SessionScript.{AreMessages, Begins, IsBadStream, IsScript, IsStream, after, script, step_of, steps_of}
+use Rattle.net_base.specs.SessionScript.{AreMessages, Begins, IsBadStream, IsScript, IsStream, table_next, script, message_step, steps_of}
 use Rattle.net_base.specs.SessionTable.{Table, opening}
 use Rattle.session_script.specs.Streams.{Takes}
 
@@ -27,8 +27,8 @@ size_told : (m : Tmsg) (rest : List ℕ) → length (t_bytes m) ≤ longest → 
 unfolding t_bytes
 size_told m rest short =
     let n : ℕ = 7 + length (t_fields m) in
-    let behind : List ℕ = number 1 (t_type m) ++ (number 2 (t_tag m) ++ t_fields m) in
-    ap (little_number 4) (append_assoc (number 4 n) behind rest)
+    let behind : List ℕ = number_bytes 1 (t_type m) ++ (number_bytes 2 (t_tag m) ++ t_fields m) in
+    ap (little_number 4) (append_assoc (number_bytes 4 n) behind rest)
     ∙ little_number-reads_back 4 n (behind ++ rest) (omega (arith, short))
     ∙ omega arith
 
@@ -104,9 +104,9 @@ same_messages t [] (n ∷ ns) bytes a b = absurd (none_begins t.msize n bytes b.
 same_messages t (m ∷ ms) [] bytes a b = absurd (none_begins t.msize m bytes a.0 b a.1)
 same_messages t (m ∷ ms) (n ∷ ns) bytes a b =
     let one = one_beginning t.msize m n bytes a.0 b.0 a.1 b.1 in
-    let more : IsStream (after t n) ms b.0 =
-    subst (λ (rest : List ℕ). IsStream (after t n) ms rest) one.1 (subst (λ (x : Tmsg). IsStream (after t x) ms a.0) one.0 a.2) in
-    ap (λ (x : Tmsg). x ∷ ms) one.0 ∙ ap (λ (xs : List Tmsg). n ∷ xs) (same_messages (after t n) ms ns b.0 more b.2)
+    let more : IsStream (table_next t n) ms b.0 =
+    subst (λ (rest : List ℕ). IsStream (table_next t n) ms rest) one.1 (subst (λ (x : Tmsg). IsStream (table_next t x) ms a.0) one.0 a.2) in
+    ap (λ (x : Tmsg). x ∷ ms) one.0 ∙ ap (λ (xs : List Tmsg). n ∷ xs) (same_messages (table_next t n) ms ns b.0 more b.2)
 
 pub one_script : (bytes : List ℕ) (steps : List Step) (ms : List Tmsg) → IsScript bytes steps → AreMessages bytes ms → steps ≡ script ms
 one_script bytes steps ms s are = s.2 ∙ ap script (same_messages opening s.0 ms bytes s.1 are)
@@ -127,17 +127,17 @@ further : (t u : Table) (before steps : List Step) (rest behind : List ℕ) (mor
 further t u before steps rest behind [] k s = absurd (none_begins t.msize k.message rest behind s k.begins)
 further t u before steps rest behind (m ∷ more) k s =
     let one = one_beginning t.msize m k.message rest s.0 behind s.1 k.begins in
-    let table : after t m ≡ u = ap (after t) one.0 ∙ sym k.table in
+    let table : table_next t m ≡ u = ap (table_next t) one.0 ∙ sym k.table in
     (more, subst (λ (xs : List ℕ). IsStream u more xs) one.1 (subst (λ (x : Table). IsStream x more s.0) table s.2))
 
 pub goes_on : (bytes : List ℕ) (t u : Table) (before steps : List Step) (rest behind : List ℕ) → Reads bytes t before rest → Takes t u before steps rest behind
     → Reads bytes u steps behind
 goes_on bytes t u before steps rest behind r k = record {
   sound = λ more s.
-      let stream : IsStream (after t k.message) more behind = subst (λ (x : Table). IsStream x more behind) k.table s in
-      let same : before ++ (option_to_list (step_of t k.message) ++ steps_of (after t k.message) more) ≡ steps ++ steps_of u more =
-      sym (append_assoc before (option_to_list (step_of t k.message)) (steps_of (after t k.message) more))
-      ∙ ap (λ (xs : List Step). xs ++ steps_of (after t k.message) more) (sym k.adds)
+      let stream : IsStream (table_next t k.message) more behind = subst (λ (x : Table). IsStream x more behind) k.table s in
+      let same : before ++ (option_to_list (message_step t k.message) ++ steps_of (table_next t k.message) more) ≡ steps ++ steps_of u more =
+      sym (append_assoc before (option_to_list (message_step t k.message)) (steps_of (table_next t k.message) more))
+      ∙ ap (λ (xs : List Step). xs ++ steps_of (table_next t k.message) more) (sym k.adds)
       ∙ ap (λ (x : Table). steps ++ steps_of x more) (sym k.table) in
       subst (IsScript bytes) same (r.sound (k.message ∷ more) (behind, k.begins, stream));
   full = λ ms are.

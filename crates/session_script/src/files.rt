@@ -19,7 +19,7 @@ pub fn is_directory(node: Node) -> bool
 
 /// Whether it is a data file.
 pub fn is_data(node: Node) -> bool
-    ensures { result ≡ spec.is_data node }
+    ensures { result ≡ spec.is_data_node node }
 {
     matches!(node, Node::File(_, _, FileName::Data))
 }

@@ -19,7 +19,7 @@ const TEXT_END: u64 = 65536;
 
 /// The step of a message, if it has one.
 pub fn step_of(alloc: Global, table: &Table, message: &Tmsg) -> Result<Option<Step>, AllocError>
-    ensures { IfOk result (λ step. step ≡ spec.step_of (seen table.now) message.now) }
+    ensures { IfOk result (λ step. step ≡ spec.message_step (seen table.now) message.now) }
 {
     match message {
         Tmsg::Open { fid, mode, .. } => open_step(alloc, table, *fid, *mode),

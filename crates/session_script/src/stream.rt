@@ -68,8 +68,8 @@ fn hear_first(
     steps: &mut StepList,
     message: &Tmsg,
 ) -> Result<(), AllocError>
-    ensures table { OnOk result (seen table.new ≡ spec.after (seen table.old) message.now) }
-    ensures steps { OnOk result (steps.new ≡ steps.old ++ option_to_list (spec.step_of (seen table.old) message.now)) }
+    ensures table { OnOk result (seen table.new ≡ spec.table_next (seen table.old) message.now) }
+    ensures steps { OnOk result (steps.new ≡ steps.old ++ option_to_list (spec.message_step (seen table.old) message.now)) }
 {
     let step = step_of(alloc, table, message)?;
     add(steps, step)?;

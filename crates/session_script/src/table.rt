@@ -63,7 +63,7 @@ impl Table {
 
     /// Takes a message. Without memory it is as before.
     pub fn hear(&mut self, alloc: Global, message: &Tmsg) -> Result<(), AllocError>
-        ensures ok { OnOk result (seen self.new ≡ spec.after (seen self.old) message.now) }
+        ensures ok { OnOk result (seen self.new ≡ spec.table_next (seen self.old) message.now) }
         ensures err { OnErr result (kept self.new ≡ kept self.old) }
     {
         self.change(alloc, message)?;
@@ -74,7 +74,7 @@ impl Table {
     /// Takes a message that brings no fid. It takes no memory.
     pub fn hear_known(&mut self, message: &Tmsg)
         requires { brings_fid message.now ≡ false }
-        ensures { seen self.new ≡ spec.after (seen self.old) message.now }
+        ensures { seen self.new ≡ spec.table_next (seen self.old) message.now }
     {
         self.change_known(message);
         self.is_first = false;

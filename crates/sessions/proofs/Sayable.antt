@@ -18,17 +18,17 @@ use Rattle.net_base.specs.declared.names.Node.TheVariants as node
 use Rattle.net_base.specs.declared.world.Step.{Step}
 use Rattle.net_base.specs.declared.world.Step.TheVariants as step
 use Rattle.net_base.specs.Numeral.{numeral}
-use Rattle.net_base.specs.Paths.{checked, file_name, in_range, is_named, node_of, path_of, walk}
+use Rattle.net_base.specs.Paths.{checked_node, file_name, node_in_range, is_named, node_of, path_of, walk}
 use Rattle.net_base.specs.World.{is_byte, is_name, is_name_byte, is_step, is_text, is_within, is_word}
 use Rattle.words.proofs.Shared.{numeral_by_steps}
 use Rattle.net_base.specs.declared.ninep.Tmsg.{Tmsg}
 use Rattle.net_base.specs.declared.ninep.Tmsg.TheVariants as t
-use Rattle.net_base.specs.NinepFields.{Holds, number}
+use Rattle.net_base.specs.NinepFields.{Holds, number_bytes}
 use Rattle.net_base.specs.NinepMessages.{IsTmsg, t_bytes}
 use Rattle.net_base.specs.SessionFiles.{access, can_open, child, is_cs, is_plain, parent, reached, step_to}
-use Rattle.net_base.specs.SessionScript.{Begins, IsScript, IsStream, after, attaches, begins, bound_by, changed, close_step, cs_step, fid_name, gives_nothing, is_query, open_step, opened, opens, read_count, read_step, reads, room, source, step_of, steps_of, text_end, walks_from, write_step}
+use Rattle.net_base.specs.SessionScript.{Begins, IsScript, IsStream, table_next, attaches, begins_session, bound_by, changed, close_step, cs_step, fid_name, gives_nothing, is_query, open_step, opened_target, opening_step, read_count, read_step, reading_step, room, source, message_step, steps_of, text_end, walks_from, write_step}
 use Rattle.net_base.specs.declared.ninep.Target.{Target}
-use Rattle.net_base.specs.SessionTable.{IsSound, Table, fresh, is_taken, opening, put, set, used}
+use Rattle.net_base.specs.SessionTable.{IsSound, Table, fresh, is_taken, opening, with_target, set, used}
 
 within : (n : ℕ) → 1 ≤ n → n ≤ 65536 → is_within 1 65536 n ≡ true
 within n some few = and_from (nat_le 1 n) (nat_le n 65536) (grind (arith, nat_tests)) (grind (arith, nat_tests))
@@ -104,7 +104,7 @@ last_word : (n : ℕ) (f : FileName) → n < 2 ^ 64 → list_all is_word_byte ((
 last_word n f small =
     all_both is_word_byte (decimal n ++ codes "/") (file_name f) (all_both is_word_byte (decimal n) (codes "/") (word_digits n small) refl) (file_word f)
 
-path_word : (at : Node) → in_range at ≡ true → is_word (path_of at) ≡ true
+path_word : (at : Node) → node_in_range at ≡ true → is_word (path_of at) ≡ true
 path_word node.Root is = refl
 path_word node.Cs is = refl
 path_word (node.Proto proto.Il) is = refl
@@ -120,15 +120,15 @@ path_word (node.File proto.Udp n f) is = last_word n f (slot_small n is)
 
 -- it stands for a node whose slot is one
 abbrev Stands : Option Target → Type 0
-Stands o = (f : Target) → o ≡ Some f → in_range f.node ≡ true
+Stands o = (f : Target) → o ≡ Some f → node_in_range f.node ≡ true
 
 -- .. and this is such a node, if there is one
 abbrev IsIn : Option Node → Type 0
 IsIn None = Unit {0}
-IsIn (Some at) = in_range at ≡ true
+IsIn (Some at) = node_in_range at ≡ true
 
-stands_for : (f : Target) → in_range f.node ≡ true → Stands (Some f)
-stands_for f is g same = subst (λ (x : Target). in_range x.node ≡ true) (some_is f g same) is
+stands_for : (f : Target) → node_in_range f.node ≡ true → Stands (Some f)
+stands_for f is g same = subst (λ (x : Target). node_in_range x.node ≡ true) (some_is f g same) is
   where
     some_is : (x y : Target) → Some x ≡ Some y → x ≡ y
     some_is x y e = cc
@@ -147,11 +147,11 @@ set_sound n o table is s = record {
   nodes = λ fid. either_stands (n == fid) o (table.fids fid) is (s.nodes fid);
 }
 
-put_sound : (n : ℕ) (o : Option Target) (table : Table) → Stands o → IsSound table → IsSound (put n o table)
+put_sound : (n : ℕ) (o : Option Target) (table : Table) → Stands o → IsSound table → IsSound (with_target n o table)
 put_sound n None table is s = s
 put_sound n (Some f) table is s = set_sound n (Some f) table is s
 
-parent_in : (at : Node) → in_range at ≡ true → in_range (parent at) ≡ true
+parent_in : (at : Node) → node_in_range at ≡ true → node_in_range (parent at) ≡ true
 parent_in node.Root is = refl
 parent_in node.Cs is = refl
 parent_in (node.Proto p) is = refl
@@ -163,12 +163,12 @@ either_in : (b : Bool) (x y : Option Node) → IsIn x → IsIn y → IsIn (cond 
 either_in true x y a c = a
 either_in false x y a c = c
 
-checked_in : (path : List ℕ) (o : Option Node) → IsIn (checked path o)
+checked_in : (path : List ℕ) (o : Option Node) → IsIn (checked_node path o)
 checked_in path None = tt
 checked_in path (Some at) = by (is_named path at) refl
   where
     by : (b : Bool) → is_named path at ≡ b → IsIn (cond b (Some at) None)
-    by true is = (and_parts (in_range at) _ is).0
+    by true is = (and_parts (node_in_range at) _ is).0
     by false is = tt
 
 child_in : (at : Node) (name : List ℕ) → IsIn (child at name)
@@ -176,14 +176,14 @@ child_in at name =
     let path : List ℕ = path_of at ++ codes "/" ++ name in
     either_in (list_any (λ (b : ℕ). b == 47) name) None (walk path) tt (checked_in path (node_of (slice_split (λ b. b == 47) path)))
 
-step_in : (at : Node) (name : List ℕ) → in_range at ≡ true → IsIn (step_to at name)
+step_in : (at : Node) (name : List ℕ) → node_in_range at ≡ true → IsIn (step_to at name)
 step_in at name is = either_in _ (Some (parent at)) (child at name) (parent_in at is) (child_in at name)
 
-on_in : (o : Option Node) (go_on : Node → Option Node) → ((at : Node) → in_range at ≡ true → IsIn (go_on at)) → IsIn o → IsIn (option_and_then go_on o)
+on_in : (o : Option Node) (go_on : Node → Option Node) → ((at : Node) → node_in_range at ≡ true → IsIn (go_on at)) → IsIn o → IsIn (option_and_then go_on o)
 on_in None go_on each is = tt
 on_in (Some at) go_on each is = each at is
 
-reached_in : (at : Node) (names : List (List ℕ)) → in_range at ≡ true → IsIn (reached at names)
+reached_in : (at : Node) (names : List (List ℕ)) → node_in_range at ≡ true → IsIn (reached at names)
 reached_in at [] is = is
 reached_in at (name ∷ names) is = on_in (step_to at name) (λ (next : Node). reached next names) (λ next. reached_in next names) (step_in at name is)
 
@@ -191,7 +191,7 @@ fresh_stands : (o : Option Node) → IsIn o → Stands (option_map fresh o)
 fresh_stands None is = for_none
 fresh_stands (Some at) is = stands_for (fresh at) is
 
-opened_stands : (mode : ℕ) (o : Option Target) → Stands o → Stands (option_and_then (opened mode) o)
+opened_stands : (mode : ℕ) (o : Option Target) → Stands o → Stands (option_and_then (opened_target mode) o)
 opened_stands mode None is = for_none
 opened_stands mode (Some f) is =
     either_stands (can_open f.node mode) (Some (record f { is_used = true })) None (stands_for (record f { is_used = true }) (is f refl)) for_none
@@ -209,7 +209,7 @@ either_sound : (b : Bool) (x y : Table) → (b ≡ true → IsSound x) → IsSou
 either_sound true x y a c = a refl
 either_sound false x y a c = c
 
-heard_sound : (table : Table) (msize : ℕ) → IsSound table → begins table msize ≡ true → IsSound (record table { msize = min msize table.msize })
+heard_sound : (table : Table) (msize : ℕ) → IsSound table → begins_session table msize ≡ true → IsSound (record table { msize = min msize table.msize })
 heard_sound table msize s is = record {
   least = omega (arith, enough, s.least);
   most = omega (arith, s.most);
@@ -224,7 +224,7 @@ heard_sound table msize s is = record {
 
 changed_sound : (table : Table) (m : Tmsg) → IsSound table → IsSound (changed table m)
 changed_sound table (t.Version tag msize version) s =
-    either_sound (begins table msize) (record table { msize = min msize table.msize }) table (heard_sound table msize s) s
+    either_sound (begins_session table msize) (record table { msize = min msize table.msize }) table (heard_sound table msize s) s
 changed_sound table (t.Auth tag afid uname aname) s = s
 changed_sound table (t.Attach tag fid afid uname aname) s =
     either_sound (attaches table fid afid) (set fid (Some (fresh node.Root)) table) table
@@ -233,7 +233,7 @@ changed_sound table (t.Attach tag fid afid uname aname) s =
 changed_sound table (t.Flush tag oldtag) s = s
 changed_sound table (t.Walk tag fid newfid names) s = put_sound newfid (bound_by table fid newfid names) table (walked_stands table fid newfid names s) s
 changed_sound table (t.Open tag fid mode) s =
-    put_sound fid (option_and_then (opened mode) (table.fids fid)) table (opened_stands mode (table.fids fid) (s.nodes fid)) s
+    put_sound fid (option_and_then (opened_target mode) (table.fids fid)) table (opened_stands mode (table.fids fid) (s.nodes fid)) s
 changed_sound table (t.Create tag fid name perm mode) s = s
 changed_sound table (t.Read tag fid offset count) s = s
 changed_sound table (t.Write tag fid offset bytes) s = s
@@ -242,7 +242,7 @@ changed_sound table (t.Remove tag fid) s = set_sound fid None table for_none s
 changed_sound table (t.Stat tag fid) s = s
 changed_sound table (t.Wstat tag fid stat) s = s
 
-pub after_sound : (table : Table) (m : Tmsg) → IsSound table → IsSound (after table m)
+pub after_sound : (table : Table) (m : Tmsg) → IsSound table → IsSound (table_next table m)
 after_sound table m s = let c = changed_sound table m s in record { least = c.least; most = c.most; nodes = c.nodes }
 
 pub opening_sound : IsSound opening
@@ -263,17 +263,17 @@ known_says : (o : Option Target) (g : Target → Option Step) → ((f : Target) 
 known_says None g each = tt
 known_says (Some f) g each = each f refl
 
-open_says : (fid mode : ℕ) (f : Target) → Holds 4 fid → in_range f.node ≡ true → Says (open_step fid mode f)
-open_says fid mode f holds is = either_says (is_plain f.node) (option_map (opens fid f.node) (access mode)) None (by (access mode)) tt
+open_says : (fid mode : ℕ) (f : Target) → Holds 4 fid → node_in_range f.node ≡ true → Says (open_step fid mode f)
+open_says fid mode f holds is = either_says (is_plain f.node) (option_map (opening_step fid f.node) (access mode)) None (by (access mode)) tt
   where
-    by : (o : Option Mode) → Says (option_map (opens fid f.node) o)
+    by : (o : Option Mode) → Says (option_map (opening_step fid f.node) o)
     by None = tt
     by (Some m) = and_from (is_name (fid_name fid)) (is_word (path_of f.node)) (named fid holds) (path_word f.node is)
 
-reads_says : (fid n : ℕ) → Holds 4 fid → 1 ≤ n → n ≤ 65536 → Says (Some (reads fid n))
+reads_says : (fid n : ℕ) → Holds 4 fid → 1 ≤ n → n ≤ 65536 → Says (Some (reading_step fid n))
 reads_says fid n holds some few = and_from (is_name (fid_name fid)) (is_within 1 65536 n) (named fid holds) (within n some few)
 
-count_says : (fid offset most : ℕ) (at : Node) → Holds 4 fid → 1 ≤ most → most ≤ 65536 → Says (option_map (reads fid) (read_count offset most at))
+count_says : (fid offset most : ℕ) (at : Node) → Holds 4 fid → 1 ≤ most → most ≤ 65536 → Says (option_map (reading_step fid) (read_count offset most at))
 count_says fid offset most node.Root holds some few = tt
 count_says fid offset most node.Cs holds some few = tt
 count_says fid offset most (node.Proto p) holds some few = tt
@@ -290,7 +290,7 @@ count_says fid offset most (node.File p n file.Status) holds some few = reads_sa
 read_says : (table : Table) (fid offset count : ℕ) (f : Target) → Holds 4 fid → IsSound table → Says (read_step table fid offset count f)
 read_says table fid offset zero f holds s = tt
 read_says table fid offset (suc n) f holds s =
-    either_says (gives_nothing f.node offset (suc n)) None (option_map (reads fid) (read_count offset (room table (suc n)) f.node)) tt
+    either_says (gives_nothing f.node offset (suc n)) None (option_map (reading_step fid) (read_count offset (room table (suc n)) f.node)) tt
     (count_says fid offset (room table (suc n)) f.node holds (omega (arith, s.least)) (omega (arith, s.most)))
 
 text_said : (bytes : List ℕ) → list_all is_byte bytes ≡ true → list_any (λ (b : ℕ). b == 10) bytes ≡ false → is_text bytes ≡ true
@@ -327,7 +327,7 @@ abbrev data_of : Tmsg → List ℕ
 data_of (t.Write tag fid offset bytes) = bytes
 data_of _ = []
 
-step_says : (table : Table) (m : Tmsg) → IsSound table → IsTmsg m → list_all is_byte (data_of m) ≡ true → Says (step_of table m)
+step_says : (table : Table) (m : Tmsg) → IsSound table → IsTmsg m → list_all is_byte (data_of m) ≡ true → Says (message_step table m)
 step_says table (t.Version tag msize version) s is all = tt
 step_says table (t.Auth tag afid uname aname) s is all = tt
 step_says table (t.Attach tag fid afid uname aname) s is all = tt
@@ -353,13 +353,13 @@ data_bytes (t.Open tag fid mode) all = refl
 data_bytes (t.Create tag fid name perm mode) all = refl
 data_bytes (t.Read tag fid offset count) all = refl
 data_bytes (t.Write tag fid offset bytes) all =
-    behind is_byte (number 4 (length bytes)) bytes
-    (behind is_byte (number 8 offset) (number 4 (length bytes) ++ bytes)
-    (behind is_byte (number 4 fid) (number 8 offset ++ (number 4 (length bytes) ++ bytes))
-    (behind is_byte (number 2 tag) (number 4 fid ++ (number 8 offset ++ (number 4 (length bytes) ++ bytes)))
-    (behind is_byte (number 1 118) (number 2 tag ++ (number 4 fid ++ (number 8 offset ++ (number 4 (length bytes) ++ bytes))))
-    (behind is_byte (number 4 (7 + length (number 4 fid ++ (number 8 offset ++ (number 4 (length bytes) ++ bytes)))))
-    (number 1 118 ++ (number 2 tag ++ (number 4 fid ++ (number 8 offset ++ (number 4 (length bytes) ++ bytes))))) all)))))
+    behind is_byte (number_bytes 4 (length bytes)) bytes
+    (behind is_byte (number_bytes 8 offset) (number_bytes 4 (length bytes) ++ bytes)
+    (behind is_byte (number_bytes 4 fid) (number_bytes 8 offset ++ (number_bytes 4 (length bytes) ++ bytes))
+    (behind is_byte (number_bytes 2 tag) (number_bytes 4 fid ++ (number_bytes 8 offset ++ (number_bytes 4 (length bytes) ++ bytes)))
+    (behind is_byte (number_bytes 1 118) (number_bytes 2 tag ++ (number_bytes 4 fid ++ (number_bytes 8 offset ++ (number_bytes 4 (length bytes) ++ bytes))))
+    (behind is_byte (number_bytes 4 (7 + length (number_bytes 4 fid ++ (number_bytes 8 offset ++ (number_bytes 4 (length bytes) ++ bytes)))))
+    (number_bytes 1 118 ++ (number_bytes 2 tag ++ (number_bytes 4 fid ++ (number_bytes 8 offset ++ (number_bytes 4 (length bytes) ++ bytes))))) all)))))
 data_bytes (t.Clunk tag fid) all = refl
 data_bytes (t.Remove tag fid) all = refl
 data_bytes (t.Stat tag fid) all = refl
@@ -376,9 +376,9 @@ all_said table [] bytes s all is = refl
 all_said table (m ∷ ms) bytes s all is =
     let begun : Begins table.msize m bytes is.0 = is.1 in
     let whole : list_all is_byte (t_bytes m ++ is.0) ≡ true = subst (λ (xs : List ℕ). list_all is_byte xs ≡ true) begun.whole all in
-    held (step_of table m) (steps_of (after table m) ms)
+    held (message_step table m) (steps_of (table_next table m) ms)
     (step_says table m s begun.spells.fields (data_bytes m (front is_byte (t_bytes m) is.0 whole)))
-    (all_said (after table m) ms is.0 (after_sound table m s) (behind is_byte (t_bytes m) is.0 whole) is.2)
+    (all_said (table_next table m) ms is.0 (after_sound table m s) (behind is_byte (t_bytes m) is.0 whole) is.2)
 
 -- each step of a session's script is one that a world file can say
 pub script_said : (bytes : List ℕ) (steps : List Step) → list_all is_byte bytes ≡ true → IsScript bytes steps → list_all is_step steps ≡ true

@@ -8,10 +8,10 @@ use Rattle.net_base.specs.declared.ninep.Rmsg.TheVariants as r
 use Rattle.net_base.specs.declared.ninep.Tmsg.{Tmsg}
 use Rattle.net_base.specs.declared.ninep.Tmsg.TheVariants as t
 use Rattle.net_base.specs.NinepMessages.{r_tag, t_tag}
-use Rattle.net_base.specs.SessionAnswers.{Found, attach_answer, bad_fid, bad_mode, bad_use, found_answer, granted, is_granting, not_served, of_known, of_used, open_answer, piece, printed, read_answer, replied, said, spoken, version_answer, walk_answer}
+use Rattle.net_base.specs.SessionAnswers.{Found, attach_answer, bad_fid, bad_mode, bad_use, found_answer, granted, is_granting, not_served, of_known, of_used, open_answer, piece, printed, read_answer, replied, said_at_once, spoken, version_answer, walk_answer}
 use Rattle.net_base.specs.declared.ninep.Target.{Target}
 use Rattle.net_base.specs.SessionFiles.{can_open, is_cs, qid_of, walked}
-use Rattle.net_base.specs.SessionScript.{begins, gives_nothing, nofid, room}
+use Rattle.net_base.specs.SessionScript.{begins_session, gives_nothing, nofid, room}
 use Rattle.net_base.specs.SessionTable.{Table, is_taken}
 
 -- of two answers with a tag either has it
@@ -30,7 +30,7 @@ found_tag tag (name ∷ names) [] = refl
 found_tag tag (name ∷ names) (at ∷ more) = refl
 
 version_tag : (table : Table) (tag msize : ℕ) (version : List ℕ) → r_tag (version_answer table tag msize version) ≡ tag
-version_tag table tag msize version = either (begins table msize) (r.Version tag (min msize table.msize) (spoken version)) (r.Error tag bad_use) tag refl refl
+version_tag table tag msize version = either (begins_session table msize) (r.Version tag (min msize table.msize) (spoken version)) (r.Error tag bad_use) tag refl refl
 
 attach_tag : (table : Table) (tag fid afid : ℕ) → r_tag (attach_answer table tag fid afid) ≡ tag
 attach_tag table tag fid afid =
@@ -57,7 +57,7 @@ used_tag : (tag : ℕ) (o : Option Target) (answer : Target → Rmsg) → ((f : 
 used_tag tag o answer each =
     known tag o (λ (f : Target). cond f.is_used (answer f) (r.Error tag bad_use)) (λ f. either f.is_used (answer f) (r.Error tag bad_use) tag (each f) refl)
 
-pub said_tag : (table : Table) (found : Found) (m : Tmsg) → r_tag (said table found m) ≡ t_tag m
+pub said_tag : (table : Table) (found : Found) (m : Tmsg) → r_tag (said_at_once table found m) ≡ t_tag m
 said_tag table found (t.Version tag msize version) = version_tag table tag msize version
 said_tag table found (t.Auth tag afid uname aname) = refl
 said_tag table found (t.Attach tag fid afid uname aname) = attach_tag table tag fid afid

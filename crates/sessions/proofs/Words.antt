@@ -5,7 +5,7 @@ use Rattle.std.proofs.lemmas.List.{length-drop}
 use Rattle.std.specs.List.{list_all}
 use Rattle.net_base.specs.declared.reply.Reply.{Reply}
 use Rattle.net_base.specs.Transcript.{reply_words, spaced}
-use Rattle.net_base.specs.SessionAnswers.{longest_text, printed}
+use Rattle.net_base.specs.SessionAnswers.{longest_error, printed}
 
 abbrev pub is_short : List ℕ → Bool
 is_short word = nat_le (length word) 100
@@ -23,5 +23,5 @@ spaced_few (word ∷ words) all = by (is_short word) refl all (λ rest. spaced_f
     by true is rest few = omega (arith, short (length word) is, few rest, length-append (32 ∷ word) (spaced words))
     by false is rest few = absurd (cc)
 
-pub has_room : (x : Reply) → list_all is_short (reply_words x) ≡ true → length (reply_words x) ≤ 80 → length (printed x) ≤ longest_text
+pub has_room : (x : Reply) → list_all is_short (reply_words x) ≡ true → length (reply_words x) ≤ 80 → length (printed x) ≤ longest_error
 has_room x all few = omega (arith, few, spaced_few (reply_words x) all, length-drop 1 (spaced (reply_words x)))

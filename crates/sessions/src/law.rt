@@ -8,7 +8,7 @@ ghost use Rattle.net_base.specs.declared.reply.Reply.{Reply};
 ghost use Rattle.net_base.specs.declared.world.Step.{Step};
 ghost use Rattle.net_base.specs.declared.ninep.Tmsg.{Tmsg};
 ghost use Rattle.net_base.specs.NinepMessages.{r_tag, t_bytes, t_tag};
-ghost use Rattle.net_base.specs.SessionAnswers.{Found, longest_text, printed, replied, said};
+ghost use Rattle.net_base.specs.SessionAnswers.{Found, longest_error, printed, replied, said_at_once};
 ghost use Rattle.net_base.specs.SessionScript.{AreMessages, IsScript, script};
 ghost use Rattle.net_base.specs.Server.{answers_to};
 ghost use Rattle.net_base.specs.Session.{first, session};
@@ -17,14 +17,14 @@ ghost use Rattle.sessions.specs.Worked as worked;
 
 /// An answer has the tag of its message.
 pub fn answers_have_the_tag()
-    ensures said { (table : Table) (found : Found) (m : Tmsg) → r_tag (said table found m) ≡ t_tag m }
+    ensures said { (table : Table) (found : Found) (m : Tmsg) → r_tag (said_at_once table found m) ≡ t_tag m }
     ensures replied { (table : Table) (m : Tmsg) (x : Reply) → r_tag (replied table m x) ≡ t_tag m }
 {}
 
 /// A reply of at most 80 words of at most 100 bytes has room in the text of an error.
 pub fn short_replies_have_room()
     ensures { (x : Reply) → list_all (λ (word : List ℕ). nat_le (length word) 100) (reply_words x) ≡ true
-        → length (reply_words x) ≤ 80 → length (printed x) ≤ longest_text }
+        → length (reply_words x) ≤ 80 → length (printed x) ≤ longest_error }
 {}
 
 /// A session that opens the clone file of UDP and reads its number has two steps, and five answers.

@@ -10,7 +10,7 @@ use Rattle.net_base.specs.declared.names.Mode.{Mode}
 use Rattle.net_base.specs.declared.reply.Reply.{Reply}
 use Rattle.net_base.specs.declared.world.Step.{Step}
 use Rattle.net_base.specs.declared.world.Step.TheVariants as step
-use Rattle.net_base.specs.Paths.{walk, reads}
+use Rattle.net_base.specs.Paths.{walk, mode_reads}
 use Rattle.net_base.specs.Steps.{Names, Fid, Play, Ends, fid_of, is_bound, bind, on_fid, opened_fid, openable, default_mode, no_names}
 use Rattle.net_base.specs.Exports.{export_play, is_dotted}
 use Rattle.net_base.specs.Imports.{clunk_message, longest_text, read_message, ropen_play, rwrite_play, write_message}
@@ -74,13 +74,13 @@ open_single : (h : ℕ) (names : Names) (called path : List ℕ) (m : Mode) (b :
 open_single h names called path m true is = rw is (_, refl, λ r. refl)
 open_single h names called path m false is = rw is (_, refl, λ r. ends_bound called names (opened_fid m (openable (walk path) m) r))
 
-read_mode : (h : ℕ) (names : Names) (called : List ℕ) (count : ℕ) (f : Fid) → fid_of called names ≡ Some f → (b : Bool) → reads f.mode ≡ b → IsSingle h names (request.Read called count)
+read_mode : (h : ℕ) (names : Names) (called : List ℕ) (count : ℕ) (f : Fid) → fid_of called names ≡ Some f → (b : Bool) → mode_reads f.mode ≡ b → IsSingle h names (request.Read called count)
 read_mode h names called count f is true may = rw (is, may) (_, refl, λ r. refl)
 read_mode h names called count f is false may = rw (is, may) (_, refl, λ r. refl)
 
 read_single : (h : ℕ) (names : Names) (called : List ℕ) (count : ℕ) (o : Option Fid) → fid_of called names ≡ o → IsSingle h names (request.Read called count)
 read_single h names called count None is = rw is (_, refl, λ r. refl)
-read_single h names called count (Some f) is = read_mode h names called count f is (reads f.mode) refl
+read_single h names called count (Some f) is = read_mode h names called count f is (mode_reads f.mode) refl
 
 close_single : (h : ℕ) (names : Names) (called : List ℕ) (o : Option Fid) → fid_of called names ≡ o → IsSingle h names (request.Close called)
 close_single h names called None is = rw is (_, refl, λ r. ap Ends (sym (unbind_free called names (none_bound called names is))))

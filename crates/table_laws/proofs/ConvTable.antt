@@ -54,14 +54,14 @@ module _ (slot now : ℕ) (c : Conv) where
   own e gift g o names is =
       either (e g) gift (g == c.generation) o _
       (λ same. subst (λ (n : ℕ). Are (e n) gift o) (sym (eqb-true g c.generation same)) is)
-      (λ other. either (e g) gift (nat_lt g c.generation) (Some (conv.answers c reply.Stale)) None (λ old. row.Stale names old) (λ new. tt))
+      (λ other. either (e g) gift (nat_lt g c.generation) (Some (conv.only_replies c reply.Stale)) None (λ old. row.Stale names old) (λ new. tt))
 
   raised : (e : ℕ → Event) (gift : With) (g : ℕ) (o : ℕ → Option (Step Conv)) → generation_in (e g) ≡ Some g
       → Are (e (c.generation + 1)) gift (o (c.generation + 1)) → Are (e g) gift (conv.raises g c (o g))
   raised e gift g o names is =
       either (e g) gift (g == c.generation + 1) (o g) _
       (λ same. subst (λ (n : ℕ). Are (e n) gift (o n)) (sym (eqb-true g (c.generation + 1) same)) is)
-      (λ other. either (e g) gift (nat_lt g c.generation) (Some (conv.answers c reply.Stale)) None (λ old. row.Stale names old) (λ new. tt))
+      (λ other. either (e g) gift (nat_lt g c.generation) (Some (conv.only_replies c reply.Stale)) None (λ old. row.Stale names old) (λ new. tt))
 
   -- Rows that look at more than the generation.
 
@@ -89,12 +89,12 @@ module _ (slot now : ℕ) (c : Conv) where
   binds Listening at ip port = row.BindsNot
   binds Connected at ip port = row.BindsNot
 
-  hungup_or_ok : (gift : With) (o : Option Cause) → Is (event.Await c.generation) gift (conv.answers c (conv.hungup_or_ok o))
+  hungup_or_ok : (gift : With) (o : Option Cause) → Is (event.Await c.generation) gift (conv.only_replies c (conv.hungup_or_ok o))
   hungup_or_ok gift None = row.Awaited
   hungup_or_ok gift (Some why) = row.AwaitsNone
 
   il_awaited : (gift : With) (b : Bool) (o : Option Cause)
-      → Is (event.Await c.generation) gift (conv.answers c (cond b (conv.hungup_or_ok o) reply.Ok))
+      → Is (event.Await c.generation) gift (conv.only_replies c (cond b (conv.hungup_or_ok o) reply.Ok))
   il_awaited gift true o = hungup_or_ok gift o
   il_awaited gift false o = row.Awaited
 
@@ -128,8 +128,8 @@ module _ (slot now : ℕ) (c : Conv) where
       → Are (event.Read c.generation count) gift (conv.read_at s k count c)
   read gift count some Connected at (Il e) is = il_read gift count e some at is
   read gift count some Connected at (Udp e) is = udp_read gift count e e.unread some refl at is
-  read gift count some Unused at k is = subst (λ (x : Core). Is (event.Read c.generation count) gift (conv.answers c (reply.WrongState (conv.core_name x)))) is row.ReadsWrong
-  read gift count some Listening at k is = subst (λ (x : Core). Is (event.Read c.generation count) gift (conv.answers c (reply.WrongState (conv.core_name x)))) is row.ReadsWrong
+  read gift count some Unused at k is = subst (λ (x : Core). Is (event.Read c.generation count) gift (conv.only_replies c (reply.WrongState (conv.core_name x)))) is row.ReadsWrong
+  read gift count some Listening at k is = subst (λ (x : Core). Is (event.Read c.generation count) gift (conv.only_replies c (reply.WrongState (conv.core_name x)))) is row.ReadsWrong
 
   il_written : (gift : With) (text : List ℕ) (e : End) → (length text == 0) ≡ false → nat_lt c.limit (length text) ≡ false → c.stage ≡ Connected → c.core ≡ Il e → (s : IlState) → e.state ≡ s
       → Is (event.Write c.generation text) gift (conv.il_written s now text e c)
@@ -138,7 +138,7 @@ module _ (slot now : ℕ) (c : Conv) where
 
   udp_written : (gift : With) (text : List ℕ) (e : UdpEnd) (b : Bool) → (length text == 0) ≡ false → nat_lt c.limit (length text) ≡ false → c.stage ≡ Connected → c.core ≡ Udp e
       → Is (event.Write c.generation text) gift
-      (cond b (conv.answers c (reply.Hungup cause.Hungup)) (conv.leaves c (reply.Count (length text)) c (Some (conv.packet_of c (body.Udp text)))))
+      (cond b (conv.only_replies c (reply.Hungup cause.Hungup)) (conv.leaves c (reply.Count (length text)) c (Some (conv.packet_of c (body.Udp text)))))
   udp_written gift text e true some fits at is = row.WritesNone
   udp_written gift text e false some fits at is = row.WritesUdp some fits at is
 
@@ -154,8 +154,8 @@ module _ (slot now : ℕ) (c : Conv) where
       let ev : Event = event.Write c.generation text in
       either ev gift (length text == 0) (Some _) _ (λ none. row.WritesZero)
       (λ some. either ev gift (nat_lt c.limit (length text)) (Some _) _ (λ long. row.WritesLong) (λ fits. core_written gift text k some fits at is))
-  written gift text Unused at k is = subst (λ (x : Core). Is (event.Write c.generation text) gift (conv.answers c (reply.WrongState (conv.core_name x)))) is row.WritesWrong
-  written gift text Listening at k is = subst (λ (x : Core). Is (event.Write c.generation text) gift (conv.answers c (reply.WrongState (conv.core_name x)))) is row.WritesWrong
+  written gift text Unused at k is = subst (λ (x : Core). Is (event.Write c.generation text) gift (conv.only_replies c (reply.WrongState (conv.core_name x)))) is row.WritesWrong
+  written gift text Listening at k is = subst (λ (x : Core). Is (event.Write c.generation text) gift (conv.only_replies c (reply.WrongState (conv.core_name x)))) is row.WritesWrong
 
   hung_up : (gift : With) (k : Core) → c.core ≡ k → (s : StateName) → Is (event.Hangup c.generation) gift (conv.hung_up k now (conv.left_or_ok s) c c)
   hung_up gift (Il e) is state_name.Listening = row.LeavesIl is
@@ -175,7 +175,7 @@ module _ (slot now : ℕ) (c : Conv) where
 
   misread : (gift : With) (g : ℕ) (text : List ℕ) (o : Option ℕ) → Are (event.Ctl g text) gift (conv.bad_control o g c)
   misread gift g text None = own (λ (n : ℕ). event.Ctl n text) gift g None refl tt
-  misread gift g text (Some n) = own (λ (n : ℕ). event.Ctl n text) gift g (Some (conv.answers c (reply.BadCtl n))) refl row.Misread
+  misread gift g text (Some n) = own (λ (n : ℕ). event.Ctl n text) gift g (Some (conv.only_replies c (reply.BadCtl n))) refl row.Misread
 
   udp_arrived : (p : Packet) (e : UdpEnd) (text : List ℕ) → c.core ≡ Udp e → p.body ≡ body.Udp text → (b : Bool) → takes_datagram e.state (length e.unread) ≡ b
       → Is (event.ArriveAt c.generation) (given.Packet p)
@@ -194,7 +194,7 @@ module _ (slot now : ℕ) (c : Conv) where
   il_ticked gift e is _ = row.TicksIl is
 
   ticked : (gift : With) (k : Core) → c.core ≡ k → Is (event.Tick c.generation) gift (conv.ticked k now c)
-  ticked gift (Il e) is = il_ticked gift e is (timer.ticks now e.timer).says
+  ticked gift (Il e) is = il_ticked gift e is (timer.timer_ticks now e.timer).says
   ticked gift (Udp e) is = row.TicksUdp is
 
   -- The table.

@@ -19,7 +19,7 @@ use Rattle.net_base.specs.declared.world.World.{World}
 use Rattle.net_base.specs.ActorStep.{Step}
 use Rattle.net_base.specs.Conversation.{is_sync}
 use Rattle.net_base.specs.Directory as dir
-use Rattle.net_base.specs.Directory.{Dir, Slot, Taker, dir_step, home_at, pair_of}
+use Rattle.net_base.specs.Directory.{Dir, Slot, Taker, dir_step, home_at, packet_pair}
 use Rattle.net_base.specs.Routes.{Way, way}
 use Rattle.net_base.specs.Same.{same_addr}
 use Rattle.table_laws.specs.DirRows.{DirRow, pair_by, slot_in}
@@ -81,9 +81,9 @@ module _ (w : World) (h : ℕ) (p : Proto) (d : Dir) where
       by None = row.Announces at
       by (Some holder) = row.AnnouncesTaken at
 
-  bound : (gift : With) (n port : ℕ) (s : Slot) → slice_get d.slots n ≡ Some s → Is (event.Bind n s.generation port) gift (dir.binds n port d s)
+  bound : (gift : With) (n port : ℕ) (s : Slot) → slice_get d.slots n ≡ Some s → Is (event.Bind n s.generation port) gift (dir.slot_binds n port d s)
   bound gift n port s at =
-      either (event.Bind n s.generation port) gift (dir.is_reserved s.kind) _ _ (λ reserved. by (dir.first_slot (dir.is_bound port) 0 d.slots))
+      either (event.Bind n s.generation port) gift (dir.is_reserved s.kind) _ _ (λ reserved. by (dir.first_slot (dir.is_slot_bound port) 0 d.slots))
       (λ other. row.BindsWrong at)
     where
       by : (o : Option (ℕ × Slot))
@@ -102,7 +102,7 @@ module _ (w : World) (h : ℕ) (p : Proto) (d : Dir) where
   listened_at gift n s at state_name.Free is = row.ListensNone at
   listened_at gift n s at kind is = subst (λ (k : StateName). Is (event.Listen n) gift (dir.dir_answers (reply.WrongState k) d)) is (row.ListensWrong at)
 
-  listened : (gift : With) (n : ℕ) (o : Option Slot) → slice_get d.slots n ≡ o → Are (event.Listen n) gift (dir.listens o n d)
+  listened : (gift : With) (n : ℕ) (o : Option Slot) → slice_get d.slots n ≡ o → Are (event.Listen n) gift (dir.slot_listens o n d)
   listened gift n None at = tt
   listened gift n (Some s) at = listened_at gift n s at s.kind refl
 
@@ -111,14 +111,14 @@ module _ (w : World) (h : ℕ) (p : Proto) (d : Dir) where
   refused packet (body.Il m) said =
       either event.Arrive (given.Packet packet) (is_sync m.kind) _ _ (λ sync. row.Refuses said sync) (λ other. row.Drops)
 
-  born : (packet : Packet) → dir.is_of p packet.body ≡ true → (o : Option Taker) → dir.taker_of (pair_of packet) packet d ≡ o
-      → Is event.Arrive (given.Packet packet) (dir.born_or_not o (home_at w h p) (pair_of packet) packet d)
+  born : (packet : Packet) → dir.is_of p packet.body ≡ true → (o : Option Taker) → dir.taker_of (packet_pair packet) packet d ≡ o
+      → Is event.Arrive (given.Packet packet) (dir.born_or_not o (home_at w h p) (packet_pair packet) packet d)
   born packet of None takes = refused packet packet.body refl
   born packet of (Some t) takes = row.Bears of takes
 
-  arrived : (packet : Packet) → dir.is_of p packet.body ≡ true → (o : Option (ℕ × Slot)) → dir.first_slot (dir.is_live_with (pair_of packet)) 0 d.slots ≡ o
-      → Is event.Arrive (given.Packet packet) (dir.arrives_at o (home_at w h p) (pair_of packet) packet d)
-  arrived packet of None found = born packet of (dir.taker_of (pair_of packet) packet d) refl
+  arrived : (packet : Packet) → dir.is_of p packet.body ≡ true → (o : Option (ℕ × Slot)) → dir.first_slot (dir.is_live_with (packet_pair packet)) 0 d.slots ≡ o
+      → Is event.Arrive (given.Packet packet) (dir.arrives_at o (home_at w h p) (packet_pair packet) packet d)
+  arrived packet of None found = born packet of (dir.taker_of (packet_pair packet) packet d) refl
   arrived packet of (Some x) found = row.To of found
 
   of_kind : (e : Event) (gift : With) (b : Bool) (s : Step Dir) → (b ≡ true → Is e gift s) → Are e gift (cond b (Some s) None)
@@ -138,6 +138,6 @@ module _ (w : World) (h : ℕ) (p : Proto) (d : Dir) where
   dir_rows (event.Release n g) gift = at_slot (λ k. event.Release n k) gift n g (slice_get d.slots n) _ refl refl (λ s at. row.Frees at)
   dir_rows event.Arrive (given.Packet packet) =
       of_kind event.Arrive (given.Packet packet) (dir.is_of p packet.body) _
-      (λ of. arrived packet of (dir.first_slot (dir.is_live_with (pair_of packet)) 0 d.slots) refl)
+      (λ of. arrived packet of (dir.first_slot (dir.is_live_with (packet_pair packet)) 0 d.slots) refl)
   dir_rows event.Ls gift = row.Lists
   dir_rows _ _ = tt

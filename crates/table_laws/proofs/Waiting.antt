@@ -10,7 +10,7 @@ use Rattle.net_base.specs.declared.history.With.{With}
 use Rattle.net_base.specs.declared.packet.Packet.{Packet}
 use Rattle.net_base.specs.declared.world.World.{World}
 use Rattle.net_base.specs.ActorStep.{Step}
-use Rattle.net_base.specs.Directory.{Dir, Slot, Taker, first_slot, is_free, match_of, may_bear, pair_of, pair_place, taker_of}
+use Rattle.net_base.specs.Directory.{Dir, Slot, Taker, first_slot, is_free, match_of, is_first_packet, packet_pair, pair_place, taker_of}
 use Rattle.net_base.specs.Mirror.{mirror}
 use Rattle.net_base.specs.Same.{same_pair}
 use Rattle.history_laws.proofs.Shared.{taker_found}
@@ -35,14 +35,14 @@ set Q (x ∷ ss) (suc n) s all new = (all.0, set Q ss n s all.1 new)
 -- fewer than ten wait where a call comes
 has_room : (pair : Pair) (packet : Packet) (d : Dir) (x y : Option (ℕ × Slot)) (t : Taker)
     → option_and_then (λ (free : ℕ × Slot). option_and_then (λ (listener : ℕ × Slot).
-    if is_none (pair_place pair 1 d.pairs) && (not (same_pair pair (mirror pair)) && (may_bear packet.body && nat_lt (length listener.1.calls) 10))
+    if is_none (pair_place pair 1 d.pairs) && (not (same_pair pair (mirror pair)) && (is_first_packet packet.body && nat_lt (length listener.1.calls) 10))
     then Some (record { free = free; listener = listener })
     else None) y) x ≡ Some t
     → nat_lt (length t.listener.1.calls) 10 ≡ true
 has_room pair packet d None y t is = absurd (none-some t is)
 has_room pair packet d (Some free) None t is = absurd (none-some t is)
 has_room pair packet d (Some free) (Some listener) t is =
-    by (is_none (pair_place pair 1 d.pairs)) (not (same_pair pair (mirror pair))) (may_bear packet.body) (nat_lt (length listener.1.calls) 10) refl is
+    by (is_none (pair_place pair 1 d.pairs)) (not (same_pair pair (mirror pair))) (is_first_packet packet.body) (nat_lt (length listener.1.calls) 10) refl is
   where
     by : (p q r b : Bool) → nat_lt (length listener.1.calls) 10 ≡ b
         → (if p && (q && (r && b)) then Some (record { free = free; listener = listener }) else None) ≡ Some t
@@ -63,12 +63,12 @@ module _ (Q : List Call → Type 0) (w : World) (h : ℕ) (p : Proto) (d : Dir) 
   heard : (s : Slot) (c : Call) (calls : List Call) → s.calls ≡ c ∷ calls → Q s.calls → Q calls
   heard s c calls wait is = keeps.rest c calls (subst Q wait is)
 
-  born : (packet : Packet) (t : Taker) (fresh listener : Slot) → taker_of (pair_of packet) packet d ≡ Some t → fresh.calls ≡ []
+  born : (packet : Packet) (t : Taker) (fresh listener : Slot) → taker_of (packet_pair packet) packet d ≡ Some t → fresh.calls ≡ []
       → listener.calls ≡ t.listener.1.calls ++ record { slot = t.free.0; generation = t.free.1.generation + 1 } ∷ []
       → EachWaiting Q (slice_set (slice_set d.slots t.free.0 fresh) t.listener.0 listener)
   born packet t fresh listener takes none more =
-      let found = taker_found (pair_of packet) packet d t takes in
-      let room = has_room (pair_of packet) packet d (first_slot is_free 0 d.slots) (match_of packet.dst d.slots) t takes in
+      let found = taker_found (packet_pair packet) packet d t takes in
+      let room = has_room (packet_pair packet) packet d (first_slot is_free 0 d.slots) (match_of packet.dst d.slots) t takes in
       set Q _ t.listener.0 listener (set Q d.slots t.free.0 fresh all (rw none keeps.none))
       (rw more
       (keeps.more (record { slot = t.free.0; generation = t.free.1.generation + 1 }) t.listener.1.calls

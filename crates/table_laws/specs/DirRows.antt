@@ -17,7 +17,7 @@ use Rattle.net_base.specs.declared.reply.Reply.TheVariants as reply
 use Rattle.net_base.specs.declared.world.World.{World}
 use Rattle.net_base.specs.ActorStep.{Step}
 use Rattle.net_base.specs.Conversation.{is_sync}
-use Rattle.net_base.specs.Directory.{Dir, Slot, Taker, bears, dir_answers, dir_leaves, first_slot, free_slot, frees, home_at, is_free, is_live_with, is_of, is_reserved, limit_of, pair_of, pair_place, port_for, ports_with, refusal, start_of, starts_after, taken_from, taker_of, with_port, withdraws}
+use Rattle.net_base.specs.Directory.{Dir, Slot, Taker, bears, dir_answers, dir_leaves, first_slot, free_slot, frees, home_at, is_free, is_live_with, is_of, is_reserved, limit_of, packet_pair, pair_place, port_for, ports_with, refusal, start_of, starts_after, taken_from, taker_of, with_port, withdraws}
 use Rattle.net_base.specs.Paths.{names}
 use Rattle.net_base.specs.Routes.{Way, way}
 use Rattle.net_base.specs.Same.{same_addr}
@@ -99,10 +99,10 @@ pub data DirRow (w : World) (h : ℕ) (p : Proto) (d : Dir) : Event → With →
   Frees : {gift : With} {n : ℕ} {s : Slot} → slice_get d.slots n ≡ Some s
       → DirRow w h p d (event.Release n s.generation) gift (frees n d s)
   -- arrive
-  To : {packet : Packet} {n : ℕ} {s : Slot} → is_of p packet.body ≡ true → first_slot (is_live_with (pair_of packet)) 0 d.slots ≡ Some (n, s)
+  To : {packet : Packet} {n : ℕ} {s : Slot} → is_of p packet.body ≡ true → first_slot (is_live_with (packet_pair packet)) 0 d.slots ≡ Some (n, s)
       → DirRow w h p d event.Arrive (given.Packet packet) (dir_answers (reply.To n s.generation) d)
-  Bears : {packet : Packet} {t : Taker} → is_of p packet.body ≡ true → taker_of (pair_of packet) packet d ≡ Some t
-      → DirRow w h p d event.Arrive (given.Packet packet) (bears (home_at w h p) (pair_of packet) t d)
+  Bears : {packet : Packet} {t : Taker} → is_of p packet.body ≡ true → taker_of (packet_pair packet) packet d ≡ Some t
+      → DirRow w h p d event.Arrive (given.Packet packet) (bears (home_at w h p) (packet_pair packet) t d)
   Refuses : {packet : Packet} {m : IlMsg} → packet.body ≡ body.Il m → is_sync m.kind ≡ true
       → DirRow w h p d event.Arrive (given.Packet packet) (dir_leaves reply.Refused (Some (refusal m packet)) d)
   Drops : {packet : Packet} → DirRow w h p d event.Arrive (given.Packet packet) (dir_answers reply.Dropped d)

@@ -2,7 +2,7 @@
 ghost use Rattle.std.specs.Prelude.{◌≡◌, ℕ, ◌+◌, ◌<◌, ◌≤◌, List, [], ◌∷◌, length};
 ghost use Rattle.net_base.specs.declared.noted.Noted.{Noted};
 ghost use Rattle.net_base.specs.declared.actor.ActorName.TheVariants.{Desk as DeskName, Clock as ClockName};
-ghost use Rattle.net_base.specs.Stamped.{moment};
+ghost use Rattle.net_base.specs.Stamped.{moment_noted};
 ghost use Rattle.journal.specs.Tokens.{Holds};
 
 mod counter;
@@ -64,10 +64,10 @@ fn act_once<J: Naming, R: Wait, G: Gate>(
 ) -> (Told, Pass<J>)
     requires held { (es : List (ℕ × Noted)) × Holds pass caller es × (length es ≤ made) }
     requires few { made < 100 }
-    requires moment { moment pass.seen ≡ 0 }
+    requires moment { moment_noted pass.seen ≡ 0 }
     requires actor { desk.now.actor ≡ DeskName 0 }
     ensures held { (es : List (ℕ × Noted)) × Holds result.1 caller es × (length es ≤ made + 1) }
-    ensures moment { moment result.1.seen ≡ 0 }
+    ensures moment { moment_noted result.1.seen ≡ 0 }
 {
     let answer = desk.act(rt, journal, gate, &mut pass, caller, 0, work, None);
     (heard(answer), pass)

@@ -2,7 +2,7 @@
 use Rattle.std.proofs.Common.{◌≡◌, ℕ, ◌+◌, ◌-◌, ◌*◌, ◌/◌, ◌%◌, ◌<◌, ◌==◌, Bool, true, false, nat_lt, if◌then◌else◌, List, [], ◌∷◌, ◌++◌, refl, ◌∙◌, ap, append_assoc, arith}
 use Rattle.std.specs.List.{list_all}
 use Rattle.net_base.specs.Plain.{IsClean, IsLine, AreLines, AreBytes}
-use Rattle.net_base.specs.Transcript.{hex_digit, hex_digits, hex_word, lines_of}
+use Rattle.net_base.specs.Transcript.{hex_digit, hex_digits, hex_word, as_lines}
 
 -- what a digit stands for
 abbrev pub value : ℕ → ℕ
@@ -82,8 +82,8 @@ one_line (b ∷ bs) rest is =
     let other : (b == 10) ≡ false = grind (arith, is.0) in
     rw (other, one_line bs rest is.1) refl
 
-pub lines_told : (lines : List (List ℕ)) → AreLines lines → cut_lines (lines_of lines) ≡ lines
+pub lines_told : (lines : List (List ℕ)) → AreLines lines → cut_lines (as_lines lines) ≡ lines
 unfolding cut_lines
 lines_told [] are = refl
 lines_told (line ∷ lines) are =
-    ap cut_lines (append_assoc line (10 ∷ []) (lines_of lines)) ∙ one_line line (lines_of lines) are.0 ∙ ap (λ ls. line ∷ ls) (lines_told lines are.1)
+    ap cut_lines (append_assoc line (10 ∷ []) (as_lines lines)) ∙ one_line line (as_lines lines) are.0 ∙ ap (λ ls. line ∷ ls) (lines_told lines are.1)

@@ -4,7 +4,7 @@ use Rattle.net_base.specs.declared.actor.Call.{Call}
 use Rattle.net_base.specs.declared.reply.Reply.{Reply}
 use Rattle.net_base.specs.declared.reply.Reply.TheVariants as reply
 use Rattle.net_base.specs.Plain.{IsPlainReply}
-use Rattle.net_base.specs.Transcript.{reply_words, cause_number, call_words, calls_of, lines_of}
+use Rattle.net_base.specs.Transcript.{reply_words, cause_number, call_words, calls_of, as_lines}
 use Rattle.transcript.proofs.Bytes.{unhex, unhexed, clean_hex, cut_lines, lines_told}
 use Rattle.transcript.proofs.Numbers.{number, number_told, number_starts, starts_digit, clean_numeral}
 use Rattle.transcript.proofs.Readers.{Word, at, chosen, numbered, read_addr, read_state}
@@ -105,9 +105,9 @@ waited_told [] rest ends = refl
 waited_told (call ∷ calls) rest ends = rw (number_starts call.slot, calls_told (call ∷ calls) rest ends) refl
 
 pub reply_told : (r : Reply) → IsPlainReply r → (rest : List Word) → Ends rest → read_reply (reply_words r ++ rest) ≡ (r, rest)
-reply_told (reply.Lines lines) plain rest ends = rw (unhexed (lines_of lines), lines_told lines plain) refl
+reply_told (reply.Lines lines) plain rest ends = rw (unhexed (as_lines lines), lines_told lines plain) refl
 reply_told (reply.CsRefused n) plain rest ends = rw (number_told n) refl
-reply_told (reply.Names names) plain rest ends = rw (unhexed (lines_of names), lines_told names plain) refl
+reply_told (reply.Names names) plain rest ends = rw (unhexed (as_lines names), lines_told names plain) refl
 reply_told reply.NoFile plain rest ends = refl
 reply_told reply.BadMode plain rest ends = refl
 reply_told reply.BadFid plain rest ends = refl
@@ -156,9 +156,9 @@ clean_calls [] = (clean (codes "-") refl, tt)
 clean_calls (call ∷ calls) = clean_calls_of (call ∷ calls)
 
 pub clean_reply : (r : Reply) → AreClean (reply_words r)
-clean_reply (reply.Lines lines) = (clean (codes "lines") refl, (clean_hex (lines_of lines), tt))
+clean_reply (reply.Lines lines) = (clean (codes "lines") refl, (clean_hex (as_lines lines), tt))
 clean_reply (reply.CsRefused n) = (clean (codes "csrefused") refl, (clean_numeral n, tt))
-clean_reply (reply.Names names) = (clean (codes "names") refl, (clean_hex (lines_of names), tt))
+clean_reply (reply.Names names) = (clean (codes "names") refl, (clean_hex (as_lines names), tt))
 clean_reply reply.NoFile = (clean (codes "nofile") refl, tt)
 clean_reply reply.BadMode = (clean (codes "badmode") refl, tt)
 clean_reply reply.BadFid = (clean (codes "badfid") refl, tt)

@@ -1,7 +1,7 @@
 //! Words of a line, each with a blank before it.
 ghost use Rattle.std.specs.Prelude.{◌≡◌, ◌∷◌, ◌++◌, [], OnOk};
 ghost use Rattle.net_base.specs.Numeral.{numeral};
-ghost use Rattle.net_base.specs.Transcript.{spaced, hex_word, lines_of};
+ghost use Rattle.net_base.specs.Transcript.{spaced, hex_word, as_lines};
 ghost use Rattle.transcript.specs.Digits.{line_digits};
 
 use net_base::{Lines, Octets};
@@ -54,7 +54,7 @@ fn put_line_digits(out: &mut Octets, lines: &[Octets]) -> Result<(), AllocError>
 
 /// Texts in hexadecimal, a newline after each.
 fn put_lines(out: &mut Octets, lines: &[Octets]) -> Result<(), AllocError>
-    ensures { OnOk result (out.new ≡ out.old ++ spaced (hex_word (lines_of lines.now) ∷ [])) }
+    ensures { OnOk result (out.new ≡ out.old ++ spaced (hex_word (as_lines lines.now) ∷ [])) }
 {
     if lines.is_empty() {
         put_word(out, b"-")
@@ -67,7 +67,7 @@ fn put_lines(out: &mut Octets, lines: &[Octets]) -> Result<(), AllocError>
 
 /// A word with texts in hexadecimal behind it.
 pub fn put_with_lines(out: &mut Octets, word: &[u8], lines: &Lines) -> Result<(), AllocError>
-    ensures { OnOk result (out.new ≡ out.old ++ spaced (word.now ∷ hex_word (lines_of lines.now) ∷ [])) }
+    ensures { OnOk result (out.new ≡ out.old ++ spaced (word.now ∷ hex_word (as_lines lines.now) ∷ [])) }
 {
     put_word(out, word)?;
     put_lines(out, lines.as_slice())

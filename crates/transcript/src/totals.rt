@@ -1,7 +1,7 @@
 //! What a history wrote and read, and its moment.
 ghost use Rattle.std.specs.Prelude.{◌≡◌, ◌≤◌, length, nat_lt, if◌then◌else◌};
 ghost use Rattle.net_base.specs.Net as net;
-ghost use Rattle.net_base.specs.Summary.{sum_over, written_in, read_in, bytes_written_in, bytes_read_in};
+ghost use Rattle.net_base.specs.Summary.{sum_over, writes_counted, reads_counted, bytes_written_in, bytes_read_in};
 ghost use Rattle.transcript.specs.RunStatus.{latest};
 
 use net_base::{Entry, Event, Reply};
@@ -20,8 +20,8 @@ pub struct Totals {
 
 /// The totals of a history, in one pass.
 pub fn totals_of<E: Entries>(entries: &E) -> Totals
-    ensures written { result.written ≡ sum_over written_in (E.list entries.now) }
-    ensures read { result.read ≡ sum_over read_in (E.list entries.now) }
+    ensures written { result.written ≡ sum_over writes_counted (E.list entries.now) }
+    ensures read { result.read ≡ sum_over reads_counted (E.list entries.now) }
     ensures bytes_written { result.bytes_written ≡ sum_over bytes_written_in (E.list entries.now) }
     ensures bytes_read { result.bytes_read ≡ sum_over bytes_read_in (E.list entries.now) }
     ensures moment { result.moment ≡ latest 0 (E.list entries.now) }
@@ -54,7 +54,7 @@ fn moment_after(now: u64, event: &Event) -> u64
 }
 
 fn messages_written(entry: &Entry) -> u64
-    ensures value { result ≡ written_in entry.now.event entry.now.reply }
+    ensures value { result ≡ writes_counted entry.now.event entry.now.reply }
     ensures within { result ≤ 1 }
 {
     match &entry.event {
@@ -79,7 +79,7 @@ fn bytes_written(entry: &Entry) -> u64
 }
 
 fn messages_read(entry: &Entry) -> u64
-    ensures value { result ≡ read_in entry.now.event entry.now.reply }
+    ensures value { result ≡ reads_counted entry.now.event entry.now.reply }
     ensures within { result ≤ 1 }
 {
     match &entry.event {

@@ -9,7 +9,7 @@ use Rattle.net_base.specs.Net.{after, opening_net}
 use Rattle.net_base.specs.Number.{number}
 use Rattle.net_base.specs.declared.world.Version.{Version}
 use Rattle.net_base.specs.World.{IsDatabase, IsWorld}
-use Rattle.net_base.specs.Written.{peer, reads, writes}
+use Rattle.net_base.specs.Written.{peer, read_texts, written_texts}
 use Rattle.worked_cases.specs.Rounds.{run_of}
 use Rattle.worked_worlds.specs.WorkedIl.{lossy_world, lossy_history, calling, called, refused_world, refused_history}
 use Rattle.worked_worlds.specs.Worked.{small_bundle}
@@ -212,10 +212,10 @@ pub calling_is_met : peer lossy_world lossy_history calling ≡ Some called
 unfolding number digits state_after
 calling_is_met = refl
 
-pub called_reads : reads lossy_history called ≡ codes "hello" ∷ []
+pub called_reads : read_texts lossy_history called ≡ codes "hello" ∷ []
 called_reads = refl
 
-pub calling_writes : writes lossy_history calling ≡ codes "hello" ∷ []
+pub calling_writes : written_texts lossy_history calling ≡ codes "hello" ∷ []
 calling_writes = refl
 
 refused_follows : Follow refused_world [] (opening_net refused_world) refused_history

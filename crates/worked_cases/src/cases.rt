@@ -5,7 +5,7 @@ ghost use Rattle.net_base.specs.Calm.{done, limited_to, stopped};
 ghost use Rattle.net_base.specs.Legal.{IsLegal, IsTimed, IsFault, Answers, AtMoment, Cites, Asked, Ready, InTime};
 ghost use Rattle.net_base.specs.Net.{after, opening_net};
 ghost use Rattle.net_base.specs.World.{IsWorld};
-ghost use Rattle.net_base.specs.Written.{peer, reads, writes};
+ghost use Rattle.net_base.specs.Written.{peer, read_texts, written_texts};
 ghost use Rattle.worked_cases.specs.Rounds.{rounds, rounds_to, run_of};
 ghost use Rattle.worked_worlds.specs.WorkedFaults as fault;
 ghost use Rattle.worked_worlds.specs.WorkedFaults.{with_at};
@@ -33,8 +33,8 @@ pub fn a_lost_frame_is_sent_again()
 pub fn a_call_has_two_ends()
     ensures call { IsWorld lossy_world × IsLegal lossy_world lossy_history × (peer lossy_world lossy_history called ≡ Some calling) }
     ensures back { peer lossy_world lossy_history calling ≡ Some called }
-    ensures written { writes lossy_history calling ≡ codes "hello" ∷ [] }
-    ensures read { reads lossy_history called ≡ codes "hello" ∷ [] }
+    ensures written { written_texts lossy_history calling ≡ codes "hello" ∷ [] }
+    ensures read { read_texts lossy_history called ≡ codes "hello" ∷ [] }
 {}
 
 /// A call that nobody listens for is refused, in 17 entries.

@@ -9,7 +9,7 @@ use Rattle.net_base.specs.Calm.{most_entries}
 use Rattle.net_base.specs.Duties.{Duty}
 use Rattle.net_base.specs.Legal.{Follows, IsAsked, Shows, asked_by, cites_of}
 use Rattle.net_base.specs.Net.{Net, outcome_in}
-use Rattle.net_base.specs.Next.{by, next, next_of}
+use Rattle.net_base.specs.Next.{by, next_recorded, next_of}
 use Rattle.net_base.specs.Steps.{Ask}
 
 -- the first duty, or what comes next
@@ -21,7 +21,7 @@ pub record Stands (w : World) (past : List Entry) (net : Net) (x : Entry) : Type
   pub answers : Shows (outcome_in w net x) x
   pub at_moment : x.moment ≡ net.moment
   pub cites : x.cites ≡ cites_of (net.owed x.caller)
-  pub asked : asked_in (net.owed x.caller) (next w past x.caller) ≡ Some (asked_by x)
+  pub asked : asked_in (net.owed x.caller) (next_recorded w past x.caller) ≡ Some (asked_by x)
   pub is_ready : IsSome (outcome_in w net x)
   pub is_known : (has_actor w x.actor ≡ true) × (x.caller < caller_count w)
   pub has_room : length (by past x.caller) < most_entries
@@ -32,7 +32,7 @@ by_caller w past c (IsCourier m) x is = is
 by_caller w past c IsClock x is = absurd (none-some (asked_by x) is)
 by_caller w past c IsNobody x is = is
 
-by_duties : (w : World) (past : List Entry) (c : ℕ) (ds : List Duty) (x : Entry) → asked_in ds (next w past c) ≡ Some (asked_by x) → IsAsked ds (caller_of w c) (next w past c) x
+by_duties : (w : World) (past : List Entry) (c : ℕ) (ds : List Duty) (x : Entry) → asked_in ds (next_recorded w past c) ≡ Some (asked_by x) → IsAsked ds (caller_of w c) (next_recorded w past c) x
 by_duties w past c [] x is = by_caller w past c (caller_of w c) x is
 by_duties w past c (d ∷ ds) x is = same_Some (record { actor = d.actor; event = d.event }) (asked_by x) is
 

@@ -7,7 +7,7 @@ use Rattle.std.proofs.lemmas.List.Splits.{length-slice_split}
 use Rattle.std.proofs.lemmas.List.Sums.{count_by-le-length}
 use Rattle.net_base.specs.NdbText.{is_newline, lines_of}
 use Rattle.net_base.specs.Ndb.{NdbPair}
-use Rattle.net_base.specs.NdbBundle.{first_bad, told, least, has_tuple, causes_of, bad_line, database, reading}
+use Rattle.net_base.specs.NdbBundle.{first_bad, told_line, least_of_causes, has_tuple, causes_of, bad_line, database, reading}
 use Rattle.world_text.specs.WorldLines.{Draft, Verdict, line_verdict}
 use Rattle.world_text.specs.WorldText.{Cut, with_first, cuts_of, judged, reading_from}
 use Rattle.world_file.specs.declared.fault.WorldError.TheVariants as error
@@ -57,9 +57,9 @@ reading-line d n text line behind v cut e =
 -- a bad line is one of the lines
 first-within : (before lines : List (List ℕ)) (n c : ℕ) → first_bad causes_of before lines ≡ Some (n, c) → n ≤ length before + length lines
 first-within before [] n c e = absurd (none-some (n, c) e)
-first-within before (line ∷ lines) n c e = by (least (causes_of (has_tuple before) line)) e (first-within (before ++ line ∷ []) lines n c)
+first-within before (line ∷ lines) n c e = by (least_of_causes (causes_of (has_tuple before) line)) e (first-within (before ++ line ∷ []) lines n c)
   where
-    by : (o : Option ℕ) → told (length before + 1) o (first_bad causes_of (before ++ line ∷ []) lines) ≡ Some (n, c)
+    by : (o : Option ℕ) → told_line (length before + 1) o (first_bad causes_of (before ++ line ∷ []) lines) ≡ Some (n, c)
         → (first_bad causes_of (before ++ line ∷ []) lines ≡ Some (n, c) → n ≤ length (before ++ line ∷ []) + length lines) → n ≤ length before + length (line ∷ lines)
     by None f later = let h = later f in let l = length-append before (line ∷ []) in omega (arith, h, l)
     by (Some k) f later = let h = ap (λ (p : ℕ × ℕ). p.0) (same_Some (length before + 1, k) (n, c) f) in omega (arith, h)

@@ -9,7 +9,7 @@ use Rattle.std.proofs.lemmas.Option.{none-some, same_Some}
 use Rattle.net_base.specs.declared.address.Addr.{Addr}
 use Rattle.net_base.specs.declared.names.Ctl.{Ctl}
 use Rattle.net_base.specs.declared.names.Ctl.TheVariants as ctl
-use Rattle.net_base.specs.ControlWords.{dotted, place, spelling, short_spelling, is_port, is_place, in_range, IsSpelled, Reads, newline, blank, first_word, is_word, without_newline, address_of, place_of, parts_of_place, connect_of, control_of, is_spelled, checked, said, read, bad_word, bad_argument}
+use Rattle.net_base.specs.ControlWords.{dotted, place, spelling, short_spelling, is_port, is_place, control_in_range, IsSpelled, Reads, newline, blank, first_word, is_control_word, without_newline, address_of, place_of, parts_of_place, connect_of, control_of, is_spelled, checked_control, said, read, bad_word, bad_argument}
 use Rattle.net_base.proofs.Shared.{IsWithout, decimal_without, one_part, cut_at, without_one, four_parts, dotted_without, value_of, or_true, same_text, equal_texts}
 
 -- Places.
@@ -66,7 +66,7 @@ number_words n small = one_part blank (decimal n) (decimal_without n blank small
 pub place_words : (a : Addr) → is_place a ≡ true → slice_split (λ x. x == blank) (place a) ≡ place a ∷ []
 place_words a is = let fits = place_facts a is in one_part blank (place a) (place_without blank a (omega arith) fits.0 fits.1)
 
-control_back : (c : Ctl) → in_range c ≡ true → control_of (slice_split (λ b. b == blank) (spelling c)) ≡ Some c
+control_back : (c : Ctl) → control_in_range c ≡ true → control_of (slice_split (λ b. b == blank) (spelling c)) ≡ Some c
 control_back (ctl.Connect a None) is = rw (place_words a is) (connect_back a is)
 control_back (ctl.Connect a (Some port)) is =
     let both = and_parts _ _ is in
@@ -115,7 +115,7 @@ said_back ctl.Hangup line (fits, inr is) = absurd (none-some line is)
 said_back (ctl.Ttl n) line (fits, inr is) = absurd (none-some line is)
 said_back (ctl.Tos n) line (fits, inr is) = absurd (none-some line is)
 
-spelled_by : (c : Ctl) (line : List ℕ) (short : Option (List ℕ)) → in_range c ≡ true → short_spelling c ≡ short
+spelled_by : (c : Ctl) (line : List ℕ) (short : Option (List ℕ)) → control_in_range c ≡ true → short_spelling c ≡ short
     → (bytes_eq line (spelling c) || option_map_or (λ (text : List ℕ). bytes_eq line text) short false) ≡ true → IsSpelled c line
 spelled_by c line short fits is_short is = by (bytes_eq line (spelling c)) refl is
   where
@@ -127,7 +127,7 @@ spelled_by c line short fits is_short is = by (bytes_eq line (spelling c)) refl 
     by true same any = (fits, inl (equal_texts line (spelling c) same))
     by false same rest = by_short short is_short rest
 
-checked_is : (line : List ℕ) (o : Option Ctl) (c : Ctl) → checked line o ≡ Some c → IsSpelled c line
+checked_is : (line : List ℕ) (o : Option Ctl) (c : Ctl) → checked_control line o ≡ Some c → IsSpelled c line
 checked_is line None c is = absurd (none-some c is)
 checked_is line (Some d) c is = by (is_spelled d line) refl is
   where
@@ -182,7 +182,7 @@ number_plain n small = decimal_without n newline (omega (arith, small)) (omega a
 place_plain : (a : Addr) → is_place a ≡ true → IsWithout newline (place a)
 place_plain a is = let fits = place_facts a is in place_without newline a (omega arith) fits.0 fits.1
 
-spelling_plain : (c : Ctl) → in_range c ≡ true → IsWithout newline (spelling c)
+spelling_plain : (c : Ctl) → control_in_range c ≡ true → IsWithout newline (spelling c)
 spelling_plain (ctl.Connect a None) is = after_word (codes "connect ") (place a) refl (place_plain a is)
 spelling_plain (ctl.Connect a (Some port)) is =
     let both = and_parts _ _ is in
@@ -196,7 +196,7 @@ spelling_plain ctl.Hangup is = plain (codes "hangup") refl
 spelling_plain (ctl.Ttl n) is = let small : n < 256 = ltb-true n 256 ((and_parts (nat_lt 0 n) (nat_lt n 256) is).1) in after_word (codes "ttl ") (decimal n) refl (number_plain n (omega (arith, small)))
 spelling_plain (ctl.Tos n) is = let small : n < 256 = ltb-true n 256 is in after_word (codes "tos ") (decimal n) refl (number_plain n (omega (arith, small)))
 
-short_plain : (c : Ctl) (text : List ℕ) → in_range c ≡ true → short_spelling c ≡ Some text → IsWithout newline text
+short_plain : (c : Ctl) (text : List ℕ) → control_in_range c ≡ true → short_spelling c ≡ Some text → IsWithout newline text
 short_plain (ctl.Announce None (Some port)) text fits is =
     subst (λ (t : List ℕ). IsWithout newline t) (same_Some _ text is) (after_word (codes "announce ") (decimal port) refl (number_plain port (port_facts port fits)))
 short_plain (ctl.Connect a port) text fits is = absurd (none-some text is)
@@ -214,7 +214,7 @@ spelled_plain c text (fits, inr is) = short_plain c text fits is
 -- The word at the front.
 
 -- in a line, whether a newline ends it or not
-word_there : (c : Ctl) → in_range c ≡ true → (is_word (first_word (spelling c)) ≡ true) × (is_word (first_word (spelling c ++ newline ∷ [])) ≡ true)
+word_there : (c : Ctl) → control_in_range c ≡ true → (is_control_word (first_word (spelling c)) ≡ true) × (is_control_word (first_word (spelling c ++ newline ∷ [])) ≡ true)
 word_there (ctl.Connect a None) is = (refl, refl)
 word_there (ctl.Connect a (Some port)) is = (refl, refl)
 word_there (ctl.Announce None None) is = (refl, refl)
@@ -227,7 +227,7 @@ word_there (ctl.Ttl n) is = (refl, refl)
 word_there (ctl.Tos n) is = (refl, refl)
 
 abbrev HasWord : List ℕ → Type 0
-HasWord text = (is_word (first_word text) ≡ true) × (is_word (first_word (text ++ newline ∷ [])) ≡ true)
+HasWord text = (is_control_word (first_word text) ≡ true) × (is_control_word (first_word (text ++ newline ∷ [])) ≡ true)
 
 word_of : (c : Ctl) (text : List ℕ) → IsSpelled c text → HasWord text
 word_of c text (fits, inl is) = subst HasWord (sym is) (word_there c fits)
@@ -257,7 +257,7 @@ said_reads text c is =
     ]
 
 read_is : (text : List ℕ) (c : Ctl) → read text ≡ Ok c → Reads text c
-read_is text c is = by (is_word (first_word text)) (said (without_newline text)) refl is
+read_is text c is = by (is_control_word (first_word text)) (said (without_newline text)) refl is
   where
     by : (w : Bool) (o : Option Ctl) → said (without_newline text) ≡ o → (if w then ok_or o bad_argument else Err bad_word) ≡ Ok c → Reads text c
     by false o none answer = absurd (cc answer)
@@ -269,13 +269,13 @@ reads_exactly text c = (reads_so text c, read_is text c)
 
 -- where there is no word, and where a text with a word says nothing
 
-pub faults : (text : List ℕ) → ((read text ≡ Err bad_word) ↔ (is_word (first_word text) ≡ false)) × ((read text ≡ Err bad_argument) ↔ ((is_word (first_word text) ≡ true) × ((c : Ctl) → Reads text c → ⊥)))
-faults text = by (is_word (first_word text)) (said (without_newline text)) refl refl
+pub faults : (text : List ℕ) → ((read text ≡ Err bad_word) ↔ (is_control_word (first_word text) ≡ false)) × ((read text ≡ Err bad_argument) ↔ ((is_control_word (first_word text) ≡ true) × ((c : Ctl) → Reads text c → ⊥)))
+faults text = by (is_control_word (first_word text)) (said (without_newline text)) refl refl
   where
-    no_control : (c : Ctl) → read text ≡ Ok c → is_word (first_word text) ≡ true → said (without_newline text) ≡ None → ⊥
+    no_control : (c : Ctl) → read text ≡ Ok c → is_control_word (first_word text) ≡ true → said (without_newline text) ≡ None → ⊥
     no_control c is word none = let plain_word = rw word at is in let nothing = rw none at plain_word in absurd (cc nothing)
 
-    by : (w : Bool) (o : Option Ctl) → is_word (first_word text) ≡ w → said (without_newline text) ≡ o
+    by : (w : Bool) (o : Option Ctl) → is_control_word (first_word text) ≡ w → said (without_newline text) ≡ o
         → (((if w then ok_or o bad_argument else Err bad_word) ≡ Err bad_word) ↔ (w ≡ false)) × (((if w then ok_or o bad_argument else Err bad_word) ≡ Err bad_argument) ↔ ((w ≡ true) × ((c : Ctl) → Reads text c → ⊥)))
     by false o none said = ((λ is. refl, λ is. refl), (λ is. absurd (cc is), λ both. absurd (false≢true both.0)))
     by true None word none = ((λ is. absurd (cc is), λ is. absurd (false≢true (sym is))), (λ is. (refl, λ c reads. no_control c (reads_so text c reads) word none), λ both. refl))

@@ -12,7 +12,7 @@ use Rattle.std.proofs.lemmas.List.Sums.{suffix_len-le-length}
 use Rattle.std.proofs.lemmas.Option.{none-some}
 use Rattle.std.proofs.lemmas.Slice.Eq.{bytes_eq-Decides}
 use Rattle.net_base.specs.declared.world.Version.{Version}
-use Rattle.net_base.specs.NdbBundle.{cause, causes_of, first_bad, has_tuple, is_file_line, least, told}
+use Rattle.net_base.specs.NdbBundle.{cause, causes_of, first_bad, has_tuple, is_file_line, least_of_causes, told_line}
 use Rattle.net_base.specs.NdbText.{begins, begins_with, is_percent}
 use Rattle.net_base.specs.Versions.{are_later}
 use Rattle.world_text.specs.declared.line.LineCause.TheVariants as line_cause
@@ -28,18 +28,18 @@ use Rattle.ndb_text.proofs.NdbPlain.{one_add}
 
 pub good-more : (own : List (List ℕ)) (line : List ℕ) (lines : List (List ℕ)) → causes_of (has_tuple own) line ≡ [] → first_bad causes_of (own ++ line ∷ []) lines ≡ None
     → first_bad causes_of own (line ∷ lines) ≡ None
-good-more own line lines none rest = ap (λ (cs : List ℕ). told (length own + 1) (least cs) (first_bad causes_of (own ++ line ∷ []) lines)) none ∙ rest
+good-more own line lines none rest = ap (λ (cs : List ℕ). told_line (length own + 1) (least_of_causes cs) (first_bad causes_of (own ++ line ∷ []) lines)) none ∙ rest
 
 -- the first of lines with several bundles is good, and so are those behind it
 version-line : (before : List (List ℕ)) (line : List ℕ) (lines : List (List ℕ)) → first_bad_version before (line ∷ lines) ≡ None
     → (version_causes before line ≡ []) × (first_bad_version (before ++ line ∷ []) lines ≡ None)
 version-line before line lines e =
-    let parts = told-none (length before + 1) (least (version_causes before line)) (first_bad_version (before ++ line ∷ []) lines) e in
+    let parts = told-none (length before + 1) (least_of_causes (version_causes before line)) (first_bad_version (before ++ line ∷ []) lines) e in
     (least-none (version_causes before line) parts.0, parts.1)
 
 version-more : (before : List (List ℕ)) (line : List ℕ) (lines : List (List ℕ)) → version_causes before line ≡ [] → first_bad_version (before ++ line ∷ []) lines ≡ None
     → first_bad_version before (line ∷ lines) ≡ None
-version-more before line lines none rest = ap (λ (cs : List ℕ). told (length before + 1) (least cs) (first_bad_version (before ++ line ∷ []) lines)) none ∙ rest
+version-more before line lines none rest = ap (λ (cs : List ℕ). told_line (length before + 1) (least_of_causes cs) (first_bad_version (before ++ line ∷ []) lines)) none ∙ rest
 
 -- Lines that begin versions.
 
@@ -327,7 +327,7 @@ abbrev pub or_else : Option (ℕ × ℕ) → Option (ℕ × ℕ) → Option (ℕ
 or_else None behind = behind
 or_else (Some bad) behind = Some bad
 
-told-else : (n : ℕ) (o : Option ℕ) (a b : Option (ℕ × ℕ)) → told n o (or_else a b) ≡ or_else (told n o a) b
+told-else : (n : ℕ) (o : Option ℕ) (a b : Option (ℕ × ℕ)) → told_line n o (or_else a b) ≡ or_else (told_line n o a) b
 told-else n None a b = refl
 told-else n (Some c) a b = refl
 
@@ -335,9 +335,9 @@ pub versions-append : (before xs ys : List (List ℕ)) → first_bad_version bef
 versions-append before [] ys = ap (λ (ls : List (List ℕ)). first_bad_version ls ys) (sym (append-nil before))
 versions-append before (x ∷ xs) ys =
     let n : ℕ = length before + 1 in
-    let o : Option ℕ = least (version_causes before x) in
+    let o : Option ℕ = least_of_causes (version_causes before x) in
     let front : Option (ℕ × ℕ) = first_bad_version (before ++ x ∷ []) xs in
-    ap (told n o) (versions-append (before ++ x ∷ []) xs ys ∙ ap (λ (ls : List (List ℕ)). or_else front (first_bad_version ls ys)) (append_assoc before (x ∷ []) xs))
+    ap (told_line n o) (versions-append (before ++ x ∷ []) xs ys ∙ ap (λ (ls : List (List ℕ)). or_else front (first_bad_version ls ys)) (append_assoc before (x ∷ []) xs))
     ∙ told-else n o front (first_bad_version (before ++ x ∷ xs) ys)
 
 -- a line so many lines further on
@@ -345,9 +345,9 @@ abbrev pub moved : ℕ → Option (ℕ × ℕ) → Option (ℕ × ℕ)
 moved d None = None
 moved d (Some bad) = Some (d + bad.0, bad.1)
 
-told-moved : (d m n : ℕ) (o : Option ℕ) (behind : Option (ℕ × ℕ)) → m ≡ d + n → told m o (moved d behind) ≡ moved d (told n o behind)
+told-moved : (d m n : ℕ) (o : Option ℕ) (behind : Option (ℕ × ℕ)) → m ≡ d + n → told_line m o (moved d behind) ≡ moved d (told_line n o behind)
 told-moved d m n None behind e = refl
-told-moved d m n (Some c) behind e = ap (λ (k : ℕ). told k (Some c) None) e
+told-moved d m n (Some c) behind e = ap (λ (k : ℕ). told_line k (Some c) None) e
 
 -- what is told of a bundle's lines, counted from the first line of all
 pub bundle-told : (d : ℕ) (before own bundle : List (List ℕ)) → own_lines before ≡ own → length before ≡ d + length own → Free bundle
@@ -361,9 +361,9 @@ bundle-told d before own (line ∷ bundle) is len free =
     let two = length-append own (line ∷ []) in
     let later = bundle-told d (before ++ line ∷ []) (own ++ line ∷ []) bundle (own-more before line free.0 ∙ ap (λ (ls : List (List ℕ)). ls ++ line ∷ []) is)
     (omega (arith, len, one, two)) free.1 in
-    ap (λ (cs : List ℕ). told (length before + 1) (least cs) (first_bad_version (before ++ line ∷ []) bundle)) causes
-    ∙ (ap (told (length before + 1) (least (causes_of (has_tuple own) line))) later
-    ∙ told-moved d (length before + 1) (length own + 1) (least (causes_of (has_tuple own) line)) (first_bad causes_of (own ++ line ∷ []) bundle) (omega (arith, len)))
+    ap (λ (cs : List ℕ). told_line (length before + 1) (least_of_causes cs) (first_bad_version (before ++ line ∷ []) bundle)) causes
+    ∙ (ap (told_line (length before + 1) (least_of_causes (causes_of (has_tuple own) line))) later
+    ∙ told-moved d (length before + 1) (length own + 1) (least_of_causes (causes_of (has_tuple own) line)) (first_bad causes_of (own ++ line ∷ []) bundle) (omega (arith, len)))
 
 pub any-free : (lines : List (List ℕ)) → list_any is_at_line lines ≡ false → Free lines
 any-free [] none = tt
@@ -386,7 +386,7 @@ version-goes before line tail moment at is late =
     let none : version_causes before line ≡ [] =
     ap (λ (b : Bool). cond b (at_causes (last_moment before) (moment_of line)) (causes_of (has_tuple (own_lines before)) line)) at
     ∙ (ap (at_causes (last_moment before)) is ∙ ap (cause (number_of line_cause.EarlyVersion)) (not-late moment (last_moment before) late)) in
-    ap (λ (cs : List ℕ). told (length before + 1) (least cs) (first_bad_version (before ++ line ∷ []) tail)) none
+    ap (λ (cs : List ℕ). told_line (length before + 1) (least_of_causes cs) (first_bad_version (before ++ line ∷ []) tail)) none
   where
     not-late : (m n : ℕ) → n < m → nat_le m n ≡ false
     not-late m n e = grind (arith, nat_tests)
@@ -395,5 +395,5 @@ version-goes before line tail moment at is late =
 pub version-bad : (before : List (List ℕ)) (line : List ℕ) (tail : List (List ℕ)) (c : ℕ) → is_at_line line ≡ true → at_causes (last_moment before) (moment_of line) ≡ c ∷ []
     → first_bad_version before (line ∷ tail) ≡ Some (length before + 1, c)
 version-bad before line tail c at is =
-    ap (λ (b : Bool). told (length before + 1) (least (cond b (at_causes (last_moment before) (moment_of line)) (causes_of (has_tuple (own_lines before)) line))) (first_bad_version (before ++ line ∷ []) tail)) at
-    ∙ ap (λ (cs : List ℕ). told (length before + 1) (least cs) (first_bad_version (before ++ line ∷ []) tail)) is
+    ap (λ (b : Bool). told_line (length before + 1) (least_of_causes (cond b (at_causes (last_moment before) (moment_of line)) (causes_of (has_tuple (own_lines before)) line))) (first_bad_version (before ++ line ∷ []) tail)) at
+    ∙ ap (λ (cs : List ℕ). told_line (length before + 1) (least_of_causes cs) (first_bad_version (before ++ line ∷ []) tail)) is

@@ -13,7 +13,7 @@ use Rattle.net_base.specs.declared.world.HostSpec.{HostSpec}
 use Rattle.net_base.specs.declared.world.Iface.{Iface}
 use Rattle.net_base.specs.declared.world.RouteLine.{RouteLine}
 use Rattle.net_base.specs.Networks.{mask_of}
-use Rattle.net_base.specs.Routes.{Route, host_routes, iface_routes, line_route, longer, longest_match, matches}
+use Rattle.net_base.specs.Routes.{Route, host_routes, iface_routes, line_route, longer, longest_match, route_contains}
 use Rattle.net_base.specs.World.{addresses, all_apart, is_address, is_host, is_iface, is_mask, is_name, is_nets, is_route, is_start, same_medium, same_network}
 use Rattle.world_text.specs.declared.line.HostLine.{HostLine}
 use Rattle.world_text.specs.declared.line.HostLine.TheVariants as host
@@ -107,15 +107,15 @@ few-below (suc k) xs all apart =
 
 -- Networks.
 
-pub near-matches : (ip n : ℕ) (is : List Iface) → list_any (matches ip) (iface_routes n is) ≡ list_any (is_near ip) is
+pub near-matches : (ip n : ℕ) (is : List Iface) → list_any (route_contains ip) (iface_routes n is) ≡ list_any (is_near ip) is
 near-matches ip n [] = refl
 near-matches ip n (i ∷ is) = ap (λ b. is_near ip i || b) (near-matches ip (n + 1) is)
 
-longest-some : (ip : ℕ) (rs : List Route) → list_any (matches ip) rs ≡ true → (r : Route) × (longest_match ip rs ≡ Some r)
+longest-some : (ip : ℕ) (rs : List Route) → list_any (route_contains ip) rs ≡ true → (r : Route) × (longest_match ip rs ≡ Some r)
 longest-some ip [] e = absurd (false≢true e)
-longest-some ip (r ∷ rs) e = by (matches ip r) refl e (longest-some ip rs)
+longest-some ip (r ∷ rs) e = by (route_contains ip r) refl e (longest-some ip rs)
   where
-    by : (b : Bool) → matches ip r ≡ b → (b || list_any (matches ip) rs) ≡ true → (list_any (matches ip) rs ≡ true → (q : Route) × (longest_match ip rs ≡ Some q)) → (q : Route) × (longest_match ip (r ∷ rs) ≡ Some q)
+    by : (b : Bool) → route_contains ip r ≡ b → (b || list_any (route_contains ip) rs) ≡ true → (list_any (route_contains ip) rs ≡ true → (q : Route) × (longest_match ip rs ≡ Some q)) → (q : Route) × (longest_match ip (r ∷ rs) ≡ Some q)
     by true is f later = (longer r (longest_match ip rs), ap (λ v. cond v (Some (longer r (longest_match ip rs))) (longest_match ip rs)) is)
     by false is f later = let q = later f in (q.0, ap (λ v. cond v (Some (longer r (longest_match ip rs))) (longest_match ip rs)) is ∙ q.1)
 
@@ -129,7 +129,7 @@ apart-keys : (rs : List Route) → all_apart same_network rs ≡ all_apart same_
 apart-keys rs = sym (apart-map same_key key rs)
 
 abbrev reached_by : List Route → RouteLine → Bool
-reached_by nets l = list_any (matches l.gateway) nets
+reached_by nets l = list_any (route_contains l.gateway) nets
 
 keys-equal : (nets : List Route) (ls : List RouteLine) → list_all (reached_by nets) ls ≡ true → map key (filter_map (line_route nets) ls) ≡ map key (map bare_route ls)
 keys-equal nets [] all = refl

@@ -15,7 +15,7 @@ use Rattle.net_base.specs.declared.world.Script.{Script}
 use Rattle.net_base.specs.declared.world.Step.{Step}
 use Rattle.net_base.specs.declared.world.World.{World}
 use Rattle.net_base.specs.NdbText.{lines_of}
-use Rattle.net_base.specs.Routes.{iface_routes, matches}
+use Rattle.net_base.specs.Routes.{iface_routes, route_contains}
 use Rattle.net_base.specs.World.{IsWorld, all_apart, is_address, is_host, is_iface, is_mask, is_name, is_nets, is_route, is_script, is_step, same_medium}
 use Rattle.world_text.specs.declared.line.HostLine.{HostLine}
 use Rattle.world_text.specs.declared.line.HostLine.TheVariants as host
@@ -204,7 +204,7 @@ route-near nets l e =
     let a = and_parts (is_mask l.mask) _ e in
     let b = and_parts (is_address l.net) _ a.1 in
     let c = and_parts (bit_and l.net l.mask == l.net) _ b.1 in
-    let d = and_parts (is_address l.gateway) (list_any (matches l.gateway) (iface_routes 0 nets)) c.1 in
+    let d = and_parts (is_address l.gateway) (list_any (route_contains l.gateway) (iface_routes 0 nets)) c.1 in
     sym (near-matches l.gateway 0 nets) ∙ d.1
 
 routes-reached : (ns : List (List ℕ)) (nets : List Iface) (before : List HostLine) (ls : List RouteLine) → EachBehind (IsReached ns) before → ifaces ns before ≡ nets

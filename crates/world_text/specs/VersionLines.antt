@@ -7,7 +7,7 @@ use Rattle.std.specs.Prelude.{ℕ, ◌+◌, Bool, ◌||◌, List, [], ◌∷◌,
 use Rattle.std.specs.List.{last_or, before_first, after_last}
 use Rattle.net_base.specs.declared.world.Version.{Version}
 use Rattle.net_base.specs.Addresses.{number_in}
-use Rattle.net_base.specs.NdbBundle.{cause, causes_of, database, has_tuple, least, told}
+use Rattle.net_base.specs.NdbBundle.{cause, causes_of, database, has_tuple, least_of_causes, told_line}
 use Rattle.net_base.specs.NdbText.{begins_with, lines_of}
 use Rattle.world_text.specs.declared.line.LineCause.TheVariants as line_cause
 use Rattle.world_text.specs.LineCauses.{number_of}
@@ -52,7 +52,7 @@ version_causes before line =
 abbrev pub first_bad_version : List (List ℕ) → List (List ℕ) → Option (ℕ × ℕ)
 first_bad_version before [] = None
 first_bad_version before (line ∷ lines) =
-    told (length before + 1) (least (version_causes before line)) (first_bad_version (before ++ line ∷ []) lines)
+    told_line (length before + 1) (least_of_causes (version_causes before line)) (first_bad_version (before ++ line ∷ []) lines)
 
 -- the first bad line of a text, and its least cause
 abbrev pub bad_version_line : List ℕ → Option (ℕ × ℕ)

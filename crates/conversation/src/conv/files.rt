@@ -51,7 +51,7 @@ impl Conv {
         file: FileName,
         count: u32,
     ) -> Result<Option<Outcome>, AllocError>
-        ensures ok { IfOk result (λ answer. spec.in_generation generation self.now.conv (Some (spec.answers self.now.conv (reply.Bytes (take count (spec.file_text file self.now.slot self.now.conv))))) ≡ step_to self.now.conv answer) }
+        ensures ok { IfOk result (λ answer. spec.in_generation generation self.now.conv (Some (spec.only_replies self.now.conv (reply.Bytes (take count (spec.file_text file self.now.slot self.now.conv))))) ≡ step_to self.now.conv answer) }
         ensures memory { OnErr result ((generation == self.now.conv.generation) ≡ true) }
     {
         if generation != self.generation {
@@ -125,7 +125,7 @@ impl Conv {
 
     // Hungup where there is a cause, else ok.
     fn told(&self, cause: Option<Cause>) -> Outcome
-        ensures { result ≡ (spec.answers self.now.conv (spec.hungup_or_ok cause)).outcome }
+        ensures { result ≡ (spec.only_replies self.now.conv (spec.hungup_or_ok cause)).outcome }
     {
         match cause {
             Some(cause) => self.replies(ReplyAndCopy::hungup(cause)),

@@ -36,7 +36,7 @@ impl Conv {
 
     /// What a step gives that changes nothing.
     pub(super) fn replies(&self, answer: ReplyAndCopy) -> Outcome
-        ensures { result ≡ (spec.answers self.now.conv answer).outcome }
+        ensures { result ≡ (spec.only_replies self.now.conv answer).outcome }
     {
         self.left(self.is_over(), answer, None)
     }
@@ -72,7 +72,7 @@ impl Conv {
 
     /// What an event of another generation gets: an older one is stale, and a newer one waits.
     pub(super) fn stale(&self, generation: u64) -> Option<Outcome>
-        ensures { step_to self.now.conv result ≡ (if nat_lt generation self.now.conv.generation then Some (spec.answers self.now.conv reply.Stale) else None) }
+        ensures { step_to self.now.conv result ≡ (if nat_lt generation self.now.conv.generation then Some (spec.only_replies self.now.conv reply.Stale) else None) }
     {
         if generation < self.generation {
             Some(self.replies(ReplyAndCopy::stale()))

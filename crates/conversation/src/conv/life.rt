@@ -132,7 +132,7 @@ impl Conv {
 
     /// Is claimed, which changes nothing.
     pub(super) fn claim(&self, generation: u64) -> Option<Outcome>
-        ensures { spec.in_generation generation self.now.conv (Some (spec.answers self.now.conv reply.Ok)) ≡ step_to self.now.conv result }
+        ensures { spec.in_generation generation self.now.conv (Some (spec.only_replies self.now.conv reply.Ok)) ≡ step_to self.now.conv result }
     {
         if generation != self.generation {
             return self.stale(generation);

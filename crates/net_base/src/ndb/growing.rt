@@ -1,6 +1,6 @@
 //! A database that grows pair by pair.
 ghost use Rattle.std.specs.Prelude.{◌≡◌, [], length, OnOk, OnErr};
-ghost use Rattle.net_base.specs.Store.{pair_of, empty, with_pair, line_ended, tuple_ended};
+ghost use Rattle.net_base.specs.Store.{pair_with, empty, with_pair, line_ended, tuple_ended};
 
 use crate::ndb::db::Db;
 use crate::ndb::runs::{Runs, begin_of};
@@ -35,7 +35,7 @@ impl Growing {
 
     /// Adds a pair to the line that is open.
     pub fn push(&mut self, attr: &[u8], value: &[u8]) -> Result<(), AllocError>
-        ensures ok { OnOk result (self.new ≡ with_pair (pair_of attr.now value.now) self.old) }
+        ensures ok { OnOk result (self.new ≡ with_pair (pair_with attr.now value.now) self.old) }
         ensures err { OnErr result (self.new ≡ self.old) }
     {
         self.runs.push(attr, value)

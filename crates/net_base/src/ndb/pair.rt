@@ -1,7 +1,7 @@
 //! Pairs as they are lent.
 ghost use Rattle.std.specs.Prelude.{◌≡◌};
 ghost use Rattle.net_base.specs.Search as spec;
-ghost use Rattle.net_base.specs.Store.{pair_of};
+ghost use Rattle.net_base.specs.Store.{pair_with};
 
 use std::marker::Model;
 
@@ -24,7 +24,7 @@ impl<'a> NdbPair<'a> {
     /// The pair of these texts.
     #[inline(always)]
     pub fn new(attr: &'a [u8], value: &'a [u8]) -> NdbPair<'a>
-        ensures { result ≡ pair_of attr.now value.now }
+        ensures { result ≡ pair_with attr.now value.now }
     {
         NdbPair { attr, value }
     }

@@ -3,7 +3,7 @@ ghost use Rattle.std.specs.Prelude.{◌≡◌, ◌≤◌, ◌<◌, ◌+◌, ◌-
 ghost use Rattle.net_base.specs.declared.ndb.spot.Spot.{Spot as Seen};
 ghost use Rattle.net_base.specs.Spots.{pair_spots, Owns};
 ghost use Rattle.net_base.specs.Parts.{start_at, last_end, lowered, Rise};
-ghost use Rattle.net_base.specs.Store.{pair_of, grown, with_pair, line_ended, tuple_ended, pairs_in, tuples_in, value_at, last_value, mark_lowered, marks_lowered, AreSound, AreWhole};
+ghost use Rattle.net_base.specs.Store.{pair_with, grown, with_pair, line_ended, tuple_ended, pairs_in, tuples_in, value_at, last_value, mark_lowered, marks_lowered, AreSound, AreWhole};
 ghost use Rattle.net_base.specs.Ndb.{NdbPair};
 
 use crate::ndb::pair::NdbPair;
@@ -199,7 +199,7 @@ impl Runs {
     pub(crate) fn push(&mut self, attr: &[u8], value: &[u8]) -> Result<(), AllocError>
         requires { AreSound self.old }
         ensures sound { AreSound self.new }
-        ensures ok { OnOk result (grown self.new ≡ with_pair (pair_of attr.now value.now) (grown self.old)) }
+        ensures ok { OnOk result (grown self.new ≡ with_pair (pair_with attr.now value.now) (grown self.old)) }
         ensures err { OnErr result (grown self.new ≡ grown self.old) }
     {
         let len = self.bytes.len();

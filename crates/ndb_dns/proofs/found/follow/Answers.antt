@@ -1,7 +1,7 @@
 use Rattle.std.proofs.Common.{◌∷◌, [], ℕ, List, map, ap, ◌∙◌}
 use Rattle.std.proofs.lemmas.Result.{on_ok_weaker}
 use Rattle.net_base.specs.DomainAnswers.{address_record, alias_records, naming_record}
-use Rattle.net_base.specs.DomainNames.{spelling}
+use Rattle.net_base.specs.DomainNames.{bytes_of_name}
 use Rattle.std.specs.Prelude.{Some}
 use Rattle.ndb_dns.proofs.Fitting.{adds_both}
 use Rattle.ndb_dns.proofs.found.follow.Goals as goal
@@ -16,5 +16,5 @@ returns-clause-took g c =
     c.in_ok-offer.ensures more
     (ap (λ (e : List ℕ). e ∷ map (address_record c.as_slice-2.result.now) c.deref.result.now) (c.as_slice.ensures ∙ c.in_ok-entry.ensures)
     ∙ ap (λ (o : List ℕ). naming_record 5 c.args.alias.now ∷ map (address_record o) c.deref.result.now) (c.as_slice-2.ensures ∙ c.in_ok-owner.ensures)
-    ∙ ap (λ (ips : List ℕ). naming_record 5 c.args.alias.now ∷ map (address_record (spelling c.args.alias.now)) ips) (c.deref.ensures.value ∙ c.in_ok-ips.ensures.ips)))
+    ∙ ap (λ (ips : List ℕ). naming_record 5 c.args.alias.now ∷ map (address_record (bytes_of_name c.args.alias.now)) ips) (c.deref.ensures.value ∙ c.in_ok-ips.ensures.ips)))
     c.add_addresses.ensures

@@ -2,13 +2,13 @@ use Rattle.std.proofs.Common.{◌≤◌, length, refl, subst, sym}
 use Rattle.std.specs.Prelude.{codes}
 use Rattle.net_base.specs.declared.reply.Reply.{Reply}
 use Rattle.net_base.specs.declared.reply.Reply.TheVariants as reply
-use Rattle.net_base.specs.SessionAnswers.{longest_text}
+use Rattle.net_base.specs.SessionAnswers.{longest_error}
 use Rattle.session_answers.specs.Told as spec
 use Rattle.session_answers.proofs.Short.{hungup_short, one_number, two_numbers}
 use Rattle.session_answers.proofs.printed.is_brief.Goals as goal
 
 abbrev HasRoom : Reply → Type 0
-HasRoom x = length (spec.told_text x) ≤ longest_text
+HasRoom x = length (spec.told_text x) ≤ longest_error
 
 pub returns-in-CsRefused-clause-short : goal.returns-in-CsRefused-clause-short
 returns-in-CsRefused-clause-short c =

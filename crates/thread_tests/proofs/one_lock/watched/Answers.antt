@@ -3,7 +3,7 @@ use Rattle.net_base.specs.declared.actor.ActorName.{ActorName}
 use Rattle.net_base.specs.declared.actor.ActorName.TheVariants as name
 use Rattle.net_base.specs.declared.noted.Noted.{Noted}
 use Rattle.net_base.specs.declared.noted.Number.TheVariants as number
-use Rattle.net_base.specs.Stamped.{moment, In}
+use Rattle.net_base.specs.Stamped.{moment_noted, In}
 use Rattle.journal.specs.Rule.{Held, caller_numbers, same_number}
 use Rattle.journal.specs.declared.tokens.Volume.{Volume}
 use Rattle.journal.specs.Tokens.{Holds, AreBlank}
@@ -18,7 +18,7 @@ act_once-told-requires-clause-held g c =
     ([], subst (λ (hs : List Held). In (number.Caller 0, []) hs) (sym mine) (inl refl), omega arith)
 
 pub act_once-told-requires-clause-moment : goal.act_once-told-requires-clause-moment
-act_once-told-requires-clause-moment g c = ap moment (c.split_pass-pass.ensures.given.0 ∙ c.in_ok-journal.ensures.seen)
+act_once-told-requires-clause-moment g c = ap moment_noted (c.split_pass-pass.ensures.given.0 ∙ c.in_ok-journal.ensures.seen)
 
 pub act_once-told-requires-clause-actor : goal.act_once-told-requires-clause-actor
 act_once-told-requires-clause-actor g c =

@@ -15,6 +15,6 @@ returns-then-is_err-clause-memory c =
     (λ says e stands.
     let completed : c.establish.new.self ≡ windows_of (establishes (hears c.args.now e)) =
     c.establish.ensures
-    ∙ ap (λ (w : Windows). record w { state = Established; timer = timer.stops w.timer }) (c.hear.ensures ∙ ap (λ (w : Windows). record w { timer = timer.hears c.args.now w.timer }) stands) in
+    ∙ ap (λ (w : Windows). record w { state = Established; timer = timer.stops w.timer }) (c.hear.ensures ∙ ap (λ (w : Windows). record w { timer = timer.timer_hears c.args.now w.timer }) stands) in
     says (establishes (hears c.args.now e)) completed ∙ takes_alike c.args.message.now.kind c.args.now c.args.message.now e)
     c.arrive_at_established-answer.ensures.memory

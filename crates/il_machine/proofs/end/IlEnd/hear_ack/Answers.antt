@@ -10,7 +10,7 @@ use Rattle.il_machine.proofs.end.IlEnd.hear_ack.Goals as goal
 pub returns-then-k-self-clause-end : goal.returns-then-k-self-clause-end
 unfolding StandsFor
 returns-then-k-self-clause-end c e stands =
-    let heard : c.hear.new.self ≡ windows_of (hears c.args.now e) = c.hear.ensures ∙ ap (λ (w : Windows). record w { timer = timer.hears c.args.now w.timer }) stands in
+    let heard : c.hear.new.self ≡ windows_of (hears c.args.now e) = c.hear.ensures ∙ ap (λ (w : Windows). record w { timer = timer.timer_hears c.args.now w.timer }) stands in
     let start : c.self.inside.start ≡ e.start = ap (λ (w : Windows). w.start) (c.self.view_is ∙ heard) in
     let sent : c.self.inside.sent ≡ length e.sent = ap (λ (w : Windows). w.sent) (c.self.view_is ∙ heard) in
     let acked : c.acked.result ≡ e.acked = c.acked.ensures ∙ ap (λ (w : Windows). w.acked) heard in

@@ -1,5 +1,5 @@
 use Rattle.std.proofs.Common.{ap, sym, subst, ◌∙◌}
-use Rattle.net_base.specs.Stamped.{moment as moment_of}
+use Rattle.net_base.specs.Stamped.{moment_noted as moment_of}
 use Rattle.journal.specs.declared.tokens.Sight.{Sight}
 use Rattle.net_locks.specs.Moving.{Halts}
 use Rattle.net_locks.specs.Standings.{AllStand}

@@ -5,7 +5,7 @@ use Rattle.net_base.specs.declared.world.World.{World}
 use Rattle.net_base.specs.Calm.{least}
 use Rattle.net_base.specs.Duties.{Duty}
 use Rattle.net_base.specs.Legal.{IsInTimeBy}
-use Rattle.net_base.specs.Stamped.{moment as moment_of}
+use Rattle.net_base.specs.Stamped.{moment_noted as moment_of}
 use Rattle.journal.specs.declared.tokens.Sight.{Sight}
 use Rattle.journal.specs.Tokens.{HoldsAll}
 use Rattle.duties.specs.Ticking.{dues_of}

@@ -1,7 +1,7 @@
 use Rattle.std.proofs.Common.{ℕ, List, ap, ◌∙◌, arith, length}
 use Rattle.std.specs.Prelude.{slice_range}
 use Rattle.net_base.specs.declared.ndb.runs.Mark.{Mark}
-use Rattle.net_base.specs.Store.{pair_of, value_at}
+use Rattle.net_base.specs.Store.{pair_with, value_at}
 use Rattle.net_base.proofs.Marks.{mark-within, pair-found}
 use Rattle.net_base.proofs.ndb.runs.Runs.pair.Goals as goal
 
@@ -38,6 +38,6 @@ slice_bounds-new-end-2 c =
 pub returns : goal.returns
 returns c d =
     c.new.ensures
-    ∙ ap (λ (bs : List ℕ). pair_of (slice_range bs c.value_begin-start.result c.index-mark.result.now.attr) (slice_range c.deref-3.result.now c.index-mark.result.now.attr c.index-mark.result.now.value)) c.deref-2.ensures.value
-    ∙ ap (λ (bs : List ℕ). pair_of (slice_range c.args.self.now.bytes.items c.value_begin-start.result c.index-mark.result.now.attr) (slice_range bs c.index-mark.result.now.attr c.index-mark.result.now.value)) c.deref-3.ensures.value
+    ∙ ap (λ (bs : List ℕ). pair_with (slice_range bs c.value_begin-start.result c.index-mark.result.now.attr) (slice_range c.deref-3.result.now c.index-mark.result.now.attr c.index-mark.result.now.value)) c.deref-2.ensures.value
+    ∙ ap (λ (bs : List ℕ). pair_with (slice_range c.args.self.now.bytes.items c.value_begin-start.result c.index-mark.result.now.attr) (slice_range bs c.index-mark.result.now.attr c.index-mark.result.now.value)) c.deref-3.ensures.value
     ∙ pair-found c.args.self.now.pairs.items c.args.self.now.bytes.items c.args.number c.value_begin-start.result c.index-mark.result.now d c.requires.within (c.value_begin-start.ensures ∙ ap (λ (ms : List Mark). value_at 0 ms c.args.number) c.deref.ensures.value) c.index-mark.ensures
