@@ -7,7 +7,8 @@ use Rattle.net_base.specs.declared.reply.Reply.{Reply}
 use Rattle.net_base.specs.declared.world.Step.TheVariants as step
 use Rattle.net_base.specs.DomainAnswers.{dns_answer, is_answered, answer_question}
 use Rattle.net_base.specs.DomainQuestions.{question_of}
-use Rattle.net_base.specs.Steps.{Names, Play, Ends, unbind, is_accepted, closes_fid, data_name, call_name, taken_name, remote_name, local_name, bytes_in, address_told, nowhere, leaves_call, answers_call, serves, with_call, play_of}
+use Rattle.net_base.specs.Conversation.{nowhere}
+use Rattle.net_base.specs.Steps.{Names, Play, Ends, unbind, is_accepted, closes_fid, data_name, call_name, taken_name, remote_name, local_name, bytes_in, address_told, leaves_call, answers_call, serves, with_call, play_of}
 use Rattle.net_base.specs.Versions.{Tuples}
 use Rattle.dial_lib.specs.declared.call.CallPhase.{CallPhase}
 use Rattle.dial_lib.specs.declared.call.CallPhase.TheVariants as phase

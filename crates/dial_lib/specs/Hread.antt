@@ -4,7 +4,8 @@ use Rattle.net_base.specs.declared.address.Addr.{Addr}
 use Rattle.net_base.specs.declared.headers.Heard.{Heard}
 use Rattle.net_base.specs.declared.reply.Reply.{Reply}
 use Rattle.net_base.specs.declared.world.Step.{Step}
-use Rattle.net_base.specs.Steps.{Names, Play, data_name, hears_call, nowhere, play_of}
+use Rattle.net_base.specs.Conversation.{nowhere}
+use Rattle.net_base.specs.Steps.{Names, Play, data_name, hears_call, play_of}
 use Rattle.dial_lib.specs.declared.call.CallPhase.TheVariants as phase
 use Rattle.dial_lib.specs.declared.hread.Hread.{Hread}
 use Rattle.dial_lib.specs.Calls as calls

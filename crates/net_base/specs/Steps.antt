@@ -24,6 +24,7 @@ use Rattle.net_base.specs.declared.world.Step.{Step}
 use Rattle.net_base.specs.declared.world.Step.TheVariants as step
 use Rattle.net_base.specs.Addresses.{address_in, number_in, parts_at}
 use Rattle.net_base.specs.ControlWords as control
+use Rattle.net_base.specs.Conversation.{nowhere}
 use Rattle.net_base.specs.DatagramHeaders.{has_headers, headers_of, text_behind}
 use Rattle.net_base.specs.DomainAnswers.{dns_answer}
 use Rattle.net_base.specs.Paths.{walk, may_open, is_read_alone, mode_reads, mode_writes}
@@ -322,9 +323,6 @@ closes_all h (f ∷ fs) next = Asks (conversation_of h f) (event.Close f.generat
 abbrev pub bytes_in : Reply → List ℕ
 bytes_in (reply.Bytes bytes) = bytes
 bytes_in _ = []
-
-abbrev pub nowhere : Addr
-nowhere = record { ip = 0; port = 0 }
 
 abbrev pub place_in : List (List ℕ) → Option Addr
 place_in (ip ∷ port ∷ []) =
