@@ -6,10 +6,10 @@ use Rattle.net_base.specs.Legal.{IsLegalBy, IsTimedBy}
 use Rattle.net_base.specs.Tasks.{Tasks}
 use Rattle.host_net.specs.Advancing.{IsHistoryOf}
 use Rattle.host_net.specs.Answering.{AreAfter}
-use Rattle.host_net.specs.Playing.{ArePlayed}
+use Rattle.host_net.specs.Playing.{AreVisitsPlayed}
 use Rattle.net_guests.specs.Visits.{Finished, Visit}
 
-module _ (ts : Tasks) (w : World) (vs : List Visit) (h : List Entry) (finished : Finished ts w vs h) (plays : ArePlayed ts w vs) where
+module _ (ts : Tasks) (w : World) (vs : List Visit) (h : List Entry) (finished : Finished ts w vs h) (plays : AreVisitsPlayed ts w vs) where
   pub closed_legal : IsLegalBy ts w h
   closed_legal = finished.legal (λ v in_it. (plays v in_it).nexts)
 

@@ -10,7 +10,7 @@ ghost use Rattle.net_base.specs.Tasks.{asking_of};
 ghost use Rattle.net_base.specs.World.{IsWorld};
 ghost use Rattle.agenda.specs.Given.{AreBack, AreBegun, AreTheirs, AskInOrder, NoneElse, WereTold, own_task, task_at, tasks_of};
 ghost use Rattle.host_net.specs.Groups.{all_members, visits};
-ghost use Rattle.host_net.specs.Playing.{ArePlayed};
+ghost use Rattle.host_net.specs.Playing.{AreVisitsPlayed};
 ghost use Rattle.net_guests.specs.Visits.{AreFresh, HasGuest};
 ghost use Rattle.net_locks.specs.Rosters.{IsRosterOf};
 ghost use Rattle.prefix_law.specs.PrefixLaw.{KeepsPrefixes};
@@ -177,7 +177,7 @@ fn ended_of<'a, J: Naming + Placing, T: OwnTask + Drop>(
 ) -> Result<Ended<J, T>, AllocError>
     requires places { places ≡ length J.world.scripts }
     ensures all { IfOk result (λ back. (c : ℕ) → c < players.entry.callers → HasGuest c back.guests.items) }
-    ensures plays { IfOk result (λ back. ArePlayed J.tasks J.world back.guests.items) }
+    ensures plays { IfOk result (λ back. AreVisitsPlayed J.tasks J.world back.guests.items) }
     ensures same { IfOk result (λ back. back.guests.items ≡ visits (all_members players.entry.groups)) }
     ensures tasks { IfOk result (λ back. AreBack T.asks T.after T.Keeps J.tasks J.world back.guests.items back.tasks.items) }
     ensures many { IfOk result (λ back. length back.tasks.items ≡ length J.world.scripts) }

@@ -6,7 +6,7 @@ use Rattle.std.proofs.lemmas.List.{nil_from_length}
 use Rattle.net_base.specs.NdbText.{is_newline}
 use Rattle.world_text.specs.WorldSpelling.{laid}
 use Rattle.world_text.specs.WorldText.{Cut, cuts_of, with_first}
-use Rattle.checked_input.specs.Input.{is_mark, lines_before, mark_of, parts_at, parts_of}
+use Rattle.checked_input.specs.Input.{is_mark, lines_before, mark_of, input_parts, parts_of}
 
 -- The first line.
 
@@ -129,7 +129,7 @@ passed_more text rest line behind n p is less not_it =
 pub passed_all : (text rest : List ℕ) (n : ℕ) → Passed text rest n → length rest ≡ 0 → (parts_of text ≡ None) × (n ≡ length (cuts_of text))
 passed_all text rest n p zero =
     let none = nil_from_length rest zero in (
-      ap (parts_at (lines_before text)) (p.marks ∙ ap mark_of none),
+      ap (input_parts (lines_before text)) (p.marks ∙ ap mark_of none),
       omega (arith, p.all, ap (λ (xs : List ℕ). length (cuts_of xs)) none),
     )
 
@@ -142,8 +142,8 @@ parts_found text rest line behind n p is less it =
     let c : Cut = record { line = line; behind = behind } in
     let before : lines_before text ≡ p.lines = p.before ∙ (ap (λ (ls : List (List ℕ)). p.lines ++ ls) (found_before rest c (cuts_of behind) is it) ∙ append-nil p.lines) in
     let world = by p.parts in
-    ap (parts_at (lines_before text)) (p.marks ∙ found_mark rest c (cuts_of behind) is it)
-    ∙ (ap (λ (ls : List (List ℕ)). parts_at ls (Some c)) before
+    ap (input_parts (lines_before text)) (p.marks ∙ found_mark rest c (cuts_of behind) is it)
+    ∙ (ap (λ (ls : List (List ℕ)). input_parts ls (Some c)) before
     ∙ (ap (λ (w : List ℕ). Some (record { world = w; lines = length p.lines; history = behind })) (sym world)
     ∙ ap (λ (k : ℕ). Some (record { world = take (length text - length rest) text; lines = k; history = behind })) (sym p.count)))
   where

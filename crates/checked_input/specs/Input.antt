@@ -8,7 +8,7 @@ use Rattle.net_base.specs.declared.history.Entry.{Entry}
 use Rattle.net_base.specs.declared.world.World.{World}
 use Rattle.history_reader.specs.Spelling as printed
 use Rattle.world_text.specs.declared.line.LineCause.TheVariants as cause
-use Rattle.world_text.specs.LineCauses.{number_of}
+use Rattle.world_text.specs.LineCauses.{cause_number_of}
 use Rattle.world_text.specs.WorldSpelling.{laid}
 use Rattle.world_text.specs.WorldText.{Cut, cuts_of, world_reading}
 
@@ -27,18 +27,18 @@ abbrev pub lines_before : List ℕ → List (List ℕ)
 lines_before input = before_first is_mark (map (λ (cut : Cut). cut.line) (cuts_of input))
 
 -- the text of the world, how many lines it has, and what stands behind the line between
-pub record Parts : Type 0 where
+pub record InputParts : Type 0 where
   pub world : List ℕ
   pub lines : ℕ
   pub history : List ℕ
 
-abbrev pub parts_at : List (List ℕ) → Option Cut → Option Parts
-parts_at lines None = None
-parts_at lines (Some mark) = Some (record { world = laid lines; lines = length lines; history = mark.behind })
+abbrev pub input_parts : List (List ℕ) → Option Cut → Option InputParts
+input_parts lines None = None
+input_parts lines (Some mark) = Some (record { world = laid lines; lines = length lines; history = mark.behind })
 
 -- both parts of an input, where a line of it is `%history`
-abbrev pub parts_of : List ℕ → Option Parts
-parts_of input = parts_at (lines_before input) (mark_of input)
+abbrev pub parts_of : List ℕ → Option InputParts
+parts_of input = input_parts (lines_before input) (mark_of input)
 
 -- Bad lines.
 
@@ -54,15 +54,15 @@ IsBadFrom None IsBehind found = IsBehind found
 
 -- a printed history, behind so many lines, of which no line is bad, or this one
 abbrev pub IsBadHistory : ℕ → List ℕ → Option (ℕ × ℕ) → Type 0
-IsBadHistory lines text None = (h : List Entry) × (told : Option (List ℕ)) × printed.Spells text h told
-IsBadHistory lines text (Some bad) = (line : ℕ) × (bad.0 ≡ lines + line) × printed.IsBad text line bad.1
+IsBadHistory lines text None = (h : List Entry) × (told : Option (List ℕ)) × printed.SpellsHistory text h told
+IsBadHistory lines text (Some bad) = (line : ℕ) × (bad.0 ≡ lines + line) × printed.IsBadText text line bad.1
 
 -- a world without a history lacks a part, at the line one past its last
 abbrev pub no_history : List ℕ → ℕ × ℕ
-no_history input = (length (cuts_of input) + 1, number_of cause.MissingPart)
+no_history input = (length (cuts_of input) + 1, cause_number_of cause.MissingPart)
 
 -- the first bad line of an input with these parts, or with no history; lines count over the whole input
-abbrev pub IsBadHanded : Option Parts → List ℕ → Option (ℕ × ℕ) → Type 0
+abbrev pub IsBadHanded : Option InputParts → List ℕ → Option (ℕ × ℕ) → Type 0
 IsBadHanded None input = IsBadFrom (bad_world (world_reading input)) (λ (found : Option (ℕ × ℕ)). found ≡ Some (no_history input))
 IsBadHanded (Some parts) input = IsBadFrom (bad_world (world_reading parts.world)) (IsBadHistory (parts.lines + 1) parts.history)
 
@@ -70,10 +70,10 @@ IsBadHanded (Some parts) input = IsBadFrom (bad_world (world_reading parts.world
 
 -- a world, a history and, where the input has one, a summary
 pub record Handed (input : List ℕ) : Type 0 where
-  pub parts : Parts
+  pub parts : InputParts
   pub world : World
   pub history : List Entry
   pub told : Option (List ℕ)
   pub are_parts : parts_of input ≡ Some parts
   pub is_world : world_reading parts.world ≡ Ok world
-  pub spelled : printed.Spells parts.history history told
+  pub spelled : printed.SpellsHistory parts.history history told

@@ -2,11 +2,11 @@
 ghost use Rattle.std.specs.Prelude.{◌≡◌, ◌+◌, ◌<◌, ◌^◌, length, None, Ok};
 ghost use Rattle.net_base.specs.World.{IsWorld};
 ghost use Rattle.world_text.specs.declared.line.LineCause.TheVariants as cause;
-ghost use Rattle.world_text.specs.LineCauses.{number_of};
+ghost use Rattle.world_text.specs.LineCauses.{cause_number_of};
 ghost use Rattle.world_text.specs.WorldText.{cuts_of, world_reading};
 ghost use Rattle.checked_input.specs.Input.{parts_of};
 ghost use Rattle.checked_input.specs.declared.fault.InputError.TheVariants as error;
-ghost use Rattle.checked_input.specs.Told.{Judged, Refuses, Tells, TellsParts};
+ghost use Rattle.checked_input.specs.Told.{JudgedInput, RefusesInput, Tells, TellsParts};
 
 use crate::fault::{InputError, of_line, of_world};
 use crate::parts::{Parts, split};
@@ -56,7 +56,7 @@ fn without_history(alloc: Global, input: &[u8], lines: u64) -> InputError
     requires limit { length input.now < 2 ^ 32 }
     requires none { parts_of input.now ≡ None }
     requires lines { lines ≡ length (cuts_of input.now) }
-    ensures { Refuses input.now result }
+    ensures { RefusesInput input.now result }
 {
     match read_world(alloc, input) {
         Ok(_) => missing(lines),
@@ -67,7 +67,7 @@ fn without_history(alloc: Global, input: &[u8], lines: u64) -> InputError
 // A world of so many lines has no history.
 fn missing(lines: u64) -> InputError
     requires { lines + 1 < 2 ^ 64 }
-    ensures { result ≡ error.Bad (lines + 1) (number_of cause.MissingPart) }
+    ensures { result ≡ error.Bad (lines + 1) (cause_number_of cause.MissingPart) }
 {
     InputError::Bad {
         line: lines + 1,
@@ -102,7 +102,7 @@ fn check_history(alloc: Global, world: World, parts: &Parts<'_>) -> Result<Check
 // What was read, where its history keeps the rules.
 fn judge(alloc: Global, read: CheckedInput) -> Result<CheckedInput, InputError>
     requires { IsWorld read.world }
-    ensures { Judged read result }
+    ensures { JudgedInput read result }
 {
     match check(alloc, &read.world, &read.history) {
         Ok(()) => Ok(read),

@@ -3,15 +3,15 @@ use Rattle.std.proofs.Common.{◌≡◌, ◌&&◌, ℕ, ◌<◌, ◌≤◌, Bool
 use Rattle.std.proofs.lemmas.Bool.Decides.{nat_tests}
 use Rattle.std.proofs.lemmas.Option.{none-some}
 use Rattle.net_model.specs.Answers.{Answer, bad_input}
-use Rattle.command_line.specs.Asking.{Asking, IsAnswer, IsBadOf, IsFirstBad, IsGiven, is_over}
+use Rattle.command_line.specs.Asking.{Asking, IsAnswer, IsBadOf, IsFirstBad, IsGiven, is_input_over}
 
 module _ (C : Type 0) (asking : Asking C) (asked : C) (input : List ℕ) where
   -- an input over the limit is bad
-  pub too_long_is_over : asking.reads asked ≡ true → asking.limit asked < length input → is_over asking asked input ≡ true
+  pub too_long_is_over : asking.reads asked ≡ true → asking.limit asked < length input → is_input_over asking asked input ≡ true
   too_long_is_over has long = let over : nat_lt (asking.limit asked) (length input) ≡ true = grind (arith, nat_tests) in rw (has, over) refl
 
   -- an input within the limit isn't over it
-  pub within_limit : length input ≤ asking.limit asked → is_over asking asked input ≡ false
+  pub within_limit : length input ≤ asking.limit asked → is_input_over asking asked input ≡ false
   within_limit fits = by (asking.reads asked) (nat_lt (asking.limit asked) (length input)) (grind (arith, nat_tests))
     where
       by : (has over : Bool) → over ≡ false → (has && over) ≡ false
@@ -19,16 +19,16 @@ module _ (C : Type 0) (asking : Asking C) (asked : C) (input : List ℕ) where
       by false over none = refl
 
   -- what is told of an input, by whether it is over the limit
-  pub told_by : (over : Bool) → is_over asking asked input ≡ over → (found : Option (ℕ × ℕ)) → IsBadOf asking over asked input found
+  pub told_by : (over : Bool) → is_input_over asking asked input ≡ over → (found : Option (ℕ × ℕ)) → IsBadOf asking over asked input found
       → IsFirstBad asking asked input found
   told_by over is found told = subst (λ (b : Bool). IsBadOf asking b asked input found) (sym is) told
 
-  pub told_of : (over : Bool) → is_over asking asked input ≡ over → (found : Option (ℕ × ℕ)) → IsFirstBad asking asked input found
+  pub told_of : (over : Bool) → is_input_over asking asked input ≡ over → (found : Option (ℕ × ℕ)) → IsFirstBad asking asked input found
       → IsBadOf asking over asked input found
   told_of over is found told = subst (λ (b : Bool). IsBadOf asking b asked input found) is told
 
   -- an answer to an input over the limit
-  pub answer_too_long : is_over asking asked input ≡ true → IsAnswer asking asked input (bad_input 0 9)
+  pub answer_too_long : is_input_over asking asked input ≡ true → IsAnswer asking asked input (bad_input 0 9)
   answer_too_long is = record {
     found = Some (0, 9);
     first = told_by true is (Some (0, 9)) refl;
@@ -37,7 +37,7 @@ module _ (C : Type 0) (asking : Asking C) (asked : C) (input : List ℕ) where
   }
 
   -- an answer by the bad line that an input within the limit has, or has not
-  pub answer_within : (answer : Answer) (found : Option (ℕ × ℕ)) → is_over asking asked input ≡ false → asking.IsBadLine asked input found
+  pub answer_within : (answer : Answer) (found : Option (ℕ × ℕ)) → is_input_over asking asked input ≡ false → asking.IsBadLine asked input found
       → ((other : Option (ℕ × ℕ)) → asking.IsBadLine asked input other → other ≡ found) → IsGiven asking found asked input answer
       → IsAnswer asking asked input answer
   answer_within answer found fits told one given = record {

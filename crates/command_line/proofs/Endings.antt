@@ -10,7 +10,7 @@ use Rattle.outside.specs.declared.fault.TakeError.TheVariants as error
 use Rattle.net_model.specs.Answers.{Answer, bad_input}
 use Rattle.command_line.specs.Asking.{Asking}
 use Rattle.command_line.specs.Calls.{Intake, IsInput, Output, Told}
-use Rattle.command_line.specs.Ends.{Answers, Ends, IsAnswered, IsRead, IsTold, Took, TookSome, answered, no_memory, unread}
+use Rattle.command_line.specs.Ends.{Answers, Ends, IsAnswered, IsInputRead, IsTold, Took, TookSome, answered, no_memory, unread}
 use Rattle.command_line.proofs.BadLines.{answer_too_long, too_long_is_over}
 
 -- what was taken past a limit begins an input that is over it
@@ -47,7 +47,7 @@ told_so fault other is status output told = subst (λ (e : TakeError). IsTold (E
 
 module _ (C : Type 0) (asking : Asking C) (asked : C) (intake : Intake) where
   -- what a command with an input took
-  took_input : (input : List ℕ) → asking.reads asked ≡ true → IsRead asking asked intake input → Took asking (asking.reads asked) asked intake input
+  took_input : (input : List ℕ) → asking.reads asked ≡ true → IsInputRead asking asked intake input → Took asking (asking.reads asked) asked intake input
   took_input input has read = rw has read
 
   -- want of memory of a command with an input

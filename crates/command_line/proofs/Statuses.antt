@@ -3,9 +3,9 @@ use Rattle.std.proofs.Common.{◌≡◌, ◌≢◌, ℕ, ◌⊎◌, Bool, true, 
 use Rattle.std.proofs.lemmas.Bool.{false≢true}
 use Rattle.outside.specs.Streams.{Rose}
 use Rattle.net_model.specs.Answers.{Answer, usage, read_fault}
-use Rattle.command_line.specs.Asking.{Asking, IsAnswer, IsFirstBad, IsGiven, words_read}
+use Rattle.command_line.specs.Asking.{Asking, IsAnswer, IsFirstBad, IsGiven, words_asked}
 use Rattle.command_line.specs.Calls.{Intake, IsInput, IsUnread, IsUnwritten, Output, Told}
-use Rattle.command_line.specs.Ends.{Answers, Causes, Ends, IsBad, IsHanded, IsRead, IsStatusOf, Took, TookAll, TookSome, answered, no_memory, no_row, unread}
+use Rattle.command_line.specs.Ends.{Answers, Causes, Ends, IsBad, IsHanded, IsInputRead, IsStatusOf, Took, TookAll, TookSome, answered, no_memory, no_row, unread}
 use Rattle.command_line.proofs.BadLines.{given_bad, not_too_long, told_of}
 
 -- the status of an answer to a good input: no other end of a call has it
@@ -65,7 +65,7 @@ module _ (C : Type 0) (asking : Asking C) (sound : Sound asking) where
 
   -- what a command took, by whether it has an input
   read_input : (asked : C) (intake : Intake) (input : List ℕ) → asking.reads asked ≡ true → Took asking (asking.reads asked) asked intake input
-      → IsRead asking asked intake input
+      → IsInputRead asking asked intake input
   read_input asked intake input has took = subst (λ (b : Bool). Took asking b asked intake input) has took
 
   read_nothing : (asked : C) (intake : Intake) (input : List ℕ) → asking.reads asked ≡ false → Took asking (asking.reads asked) asked intake input → IsUnread intake
@@ -115,20 +115,20 @@ module _ (C : Type 0) (asking : Asking C) (sound : Sound asking) where
     only_usage (no_memory asked is eight took kept) is_none = absurd (some_none asked (sym is ∙ is_none))
 
     -- what was read by a call without an input
-    reads_nothing : Ends asking command status intake output → words_read asking command ≡ false → IsUnread intake
+    reads_nothing : Ends asking command status intake output → words_asked asking command ≡ false → IsUnread intake
     reads_nothing (no_row none unread_source told) not = unread_source
     reads_nothing (answered asked answer is answers told) not =
-        read_nothing asked intake answers.input (ap (words_read asking) (sym is) ∙ not) answers.read
-    reads_nothing (unread asked is has rose told) not = absurd (false≢true (sym not ∙ ap (words_read asking) is ∙ has))
+        read_nothing asked intake answers.input (ap (words_asked asking) (sym is) ∙ not) answers.read
+    reads_nothing (unread asked is has rose told) not = absurd (false≢true (sym not ∙ ap (words_asked asking) is ∙ has))
     reads_nothing (no_memory asked is eight took kept) not =
-        subst (λ (b : Bool). TookSome b intake) (ap (words_read asking) (sym is) ∙ not) took
+        subst (λ (b : Bool). TookSome b intake) (ap (words_asked asking) (sym is) ∙ not) took
 
-    only_read_fault : Ends asking command status intake output → status ≡ 6 → (words_read asking command ≡ true) × Rose intake.before intake.after
+    only_read_fault : Ends asking command status intake output → status ≡ 6 → (words_asked asking command ≡ true) × Rose intake.before intake.after
     only_read_fault (no_row none unread_source (inl t)) six = absurd (omega (arith, t.0, six))
     only_read_fault (no_row none unread_source (inr t)) six = absurd (omega (arith, t.0, six))
     only_read_fault (answered asked answer is answers (inl t)) six = absurd (not_of asked answer intake status 6 answers t.0 six apart_6)
     only_read_fault (answered asked answer is answers (inr t)) six = absurd (omega (arith, t.0, six))
-    only_read_fault (unread asked is has rose told) six = (ap (words_read asking) is ∙ has, rose)
+    only_read_fault (unread asked is has rose told) six = (ap (words_asked asking) is ∙ has, rose)
     only_read_fault (no_memory asked is eight took kept) six = absurd (omega (arith, eight, six))
 
     only_write_fault : Ends asking command status intake output → status ≡ 7 → Rose output.before output.after

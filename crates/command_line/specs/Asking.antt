@@ -15,9 +15,9 @@ pub record Asking (C : Type 0) : Type 1 where
   pub IsFound : C → List ℕ → Answer → Type 0
 
 -- whether words have a command that has an input
-abbrev pub words_read : {C : Type 0} → Asking C → Option C → Bool
-words_read asking None = false
-words_read asking (Some asked) = asking.reads asked
+abbrev pub words_asked : {C : Type 0} → Asking C → Option C → Bool
+words_asked asking None = false
+words_asked asking (Some asked) = asking.reads asked
 
 -- the most reads of a source by words: none where they have no input, and else two more than its limit has bytes
 abbrev pub most_reads : {C : Type 0} → Asking C → Option C → ℕ
@@ -25,8 +25,8 @@ most_reads asking None = 0
 most_reads asking (Some asked) = if asking.reads asked then asking.limit asked + 2 else 0
 
 -- whether a command has an input that is over its limit
-abbrev pub is_over : {C : Type 0} → Asking C → C → List ℕ → Bool
-is_over asking asked input = asking.reads asked && nat_lt (asking.limit asked) (length input)
+abbrev pub is_input_over : {C : Type 0} → Asking C → C → List ℕ → Bool
+is_input_over asking asked input = asking.reads asked && nat_lt (asking.limit asked) (length input)
 
 -- the first bad line of any input: one over the limit has cause 9 at line 0
 abbrev pub IsBadOf : {C : Type 0} → Asking C → Bool → C → List ℕ → Option (ℕ × ℕ) → Type 0
@@ -34,7 +34,7 @@ IsBadOf asking true asked input found = found ≡ Some (0, 9)
 IsBadOf asking false asked input found = asking.IsBadLine asked input found
 
 abbrev pub IsFirstBad : {C : Type 0} → Asking C → C → List ℕ → Option (ℕ × ℕ) → Type 0
-IsFirstBad asking asked input found = IsBadOf asking (is_over asking asked input) asked input found
+IsFirstBad asking asked input found = IsBadOf asking (is_input_over asking asked input) asked input found
 
 -- an answer to an input with this first bad line, if any
 abbrev pub IsGiven : {C : Type 0} → Asking C → Option (ℕ × ℕ) → C → List ℕ → Answer → Type 0

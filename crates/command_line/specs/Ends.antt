@@ -9,16 +9,16 @@ use Rattle.net_model.specs.Answers.{Answer, bad_input, usage, read_fault}
 use Rattle.outside.specs.Streams.{Rose}
 use Rattle.outside.specs.declared.fault.TakeError.{TakeError}
 use Rattle.outside.specs.declared.fault.TakeError.TheVariants as error
-use Rattle.command_line.specs.Asking.{Asking, IsAnswer, IsFirstBad, words_read}
+use Rattle.command_line.specs.Asking.{Asking, IsAnswer, IsFirstBad, words_asked}
 use Rattle.command_line.specs.Calls.{Intake, IsInput, IsUnread, IsUnwritten, Output, Told}
 
 -- the input was read to its end, or is over the limit of the command
-abbrev pub IsRead : {C : Type 0} → Asking C → C → Intake → List ℕ → Type 0
-IsRead asking asked intake input = IsInput intake.left input × (IsAtEnd intake.rest ⊎ (asking.limit asked < length input))
+abbrev pub IsInputRead : {C : Type 0} → Asking C → C → Intake → List ℕ → Type 0
+IsInputRead asking asked intake input = IsInput intake.left input × (IsAtEnd intake.rest ⊎ (asking.limit asked < length input))
 
 -- what a command took: its input where it has one, or else nothing
 abbrev pub Took : {C : Type 0} → Asking C → Bool → C → Intake → List ℕ → Type 0
-Took asking true asked intake input = IsRead asking asked intake input
+Took asking true asked intake input = IsInputRead asking asked intake input
 Took asking false asked intake input = IsUnread intake
 
 -- what a command took that read its input to the end
@@ -78,7 +78,7 @@ pub record IsBad {C : Type 0} (asking : Asking C) (command : Option C) (intake :
   pub input : List ℕ
   pub bad : ℕ × ℕ
   pub is_asked : command ≡ Some asked
-  pub read : IsRead asking asked intake input
+  pub read : IsInputRead asking asked intake input
   pub is_bad : IsFirstBad asking asked input (Some bad)
 
 -- the command was asked, there was no fault, and the source told what it had left: an input of which no line is bad
@@ -96,9 +96,9 @@ pub record Causes {C : Type 0} (asking : Asking C) (command : Option C) (status 
   pub no_row : command ≡ None → (status ≡ 1) ⊎ (status ≡ 7)
   pub bad_input : status ≡ 2 → IsBad asking command intake
   -- nothing is read for words in no row, nor for a command without an input
-  pub reads_nothing : words_read asking command ≡ false → IsUnread intake
+  pub reads_nothing : words_asked asking command ≡ false → IsUnread intake
   -- the faults and the memory
-  pub read_fault : status ≡ 6 → (words_read asking command ≡ true) × Rose intake.before intake.after
+  pub read_fault : status ≡ 6 → (words_asked asking command ≡ true) × Rose intake.before intake.after
   pub write_fault : status ≡ 7 → Rose output.before output.after
   pub memory : status ≡ 8 → (intake.after ≡ intake.before) × IsUnwritten output
   -- and no fault is told as anything else: one of the source is 6, or 7 where that can't be written

@@ -6,7 +6,7 @@ use Rattle.net_base.specs.NdbText.{lines_of}
 use Rattle.net_base.specs.NdbBundle.{bad_line, database, reading}
 use Rattle.net_model.specs.Answers.{Answer, cs_answer, lines_answer}
 use Rattle.net_base.specs.Cs.{CsAnswer, Refused, cs_list}
-use Rattle.cs_resolver.specs.Errors.{number_of, Tells}
+use Rattle.cs_resolver.specs.Errors.{error_number, Tells}
 use Rattle.cs_resolver.specs.declared.error.CsError.{CsError}
 use Rattle.cs_resolver.specs.declared.error.CsError.TheVariants.{Memory, BadQuery, NoNet, NoHost, NoService, NoValue}
 use Rattle.commands.specs.Built.{unless_bad, cs_over, dns_lines, dns_over, query_lines, query_over}
@@ -41,7 +41,7 @@ reply_over word input db lines good is found =
     in sym (ap by_bad good ∙ ap by_db (tuples_read input db is) ∙ ap lines_answer (sym found))
 
 -- an error other than want of memory is the refusal
-refusal_of : (error : CsError) (answer : CsAnswer) → error ≢ Memory → Tells error answer → answer ≡ Refused (number_of error)
+refusal_of : (error : CsError) (answer : CsAnswer) → error ≢ Memory → Tells error answer → answer ≡ Refused (error_number error)
 refusal_of Memory answer other tells = absurd (other refl)
 refusal_of BadQuery answer other tells = tells
 refusal_of NoNet answer other tells = tells
@@ -55,7 +55,7 @@ answers_found (Ok answer) found whole same is = is ∙ same
 answers_found (Err error) found whole same is = tt
 
 -- an answer that is the refusal of the resolver
-pub answers_refused : {E : Type 0} (result : Result Answer E) (sys query input : List ℕ) (db : List (List (List NdbPair))) (error : CsError) → bad_line input ≡ None → reading input ≡ Some db → Tells error (cs_list db sys (Il ∷ Udp ∷ []) query) → OnOk result (error ≢ Memory) → IfOk result (λ answer. answer ≡ cs_answer (Refused (number_of error))) → IfOk result (λ answer. answer ≡ cs_over sys query input)
+pub answers_refused : {E : Type 0} (result : Result Answer E) (sys query input : List ℕ) (db : List (List (List NdbPair))) (error : CsError) → bad_line input ≡ None → reading input ≡ Some db → Tells error (cs_list db sys (Il ∷ Udp ∷ []) query) → OnOk result (error ≢ Memory) → IfOk result (λ answer. answer ≡ cs_answer (Refused (error_number error))) → IfOk result (λ answer. answer ≡ cs_over sys query input)
 answers_refused (Ok answer) sys query input db error good is tells other refused =
-    refused ∙ found_over sys query input db (Refused (number_of error)) good is (refusal_of error _ other tells)
+    refused ∙ found_over sys query input db (Refused (error_number error)) good is (refusal_of error _ other tells)
 answers_refused (Err _) sys query input db error good is tells other refused = tt

@@ -7,8 +7,8 @@ use Rattle.net_model.specs.Words.{Command, Cs, Query, Dns, Run, Make, Big, Expor
 use Rattle.sessions.specs.declared.world.SessionWorld.{SessionWorld}
 use Rattle.sessions.specs.Worlds.{IsTranslated}
 use Rattle.world_text.specs.WorldText.{world_reading}
-use Rattle.world_file.specs.SessionText.{Says}
-use Rattle.commands.specs.Built.{asking, cs_found, cs_over, dns_found, dns_over, made, query_found, query_over, translation, unless_bad, IsAnswer, IsBadTold, IsExported, IsFound, IsRun, IsSummed, IsWorldOf}
+use Rattle.world_file.specs.SessionText.{SaysSessions}
+use Rattle.commands.specs.Built.{asking, cs_found, cs_over, dns_found, dns_over, made, found_by_query, query_over, translation, unless_bad, IsAnswer, IsBadTold, IsExported, IsFound, IsRunAnswer, IsSummed, IsWorldOf}
 use Rattle.checked_input.specs.Input.{bad_world}
 use Rattle.command_line.specs.Asking.{IsGiven}
 use Rattle.command_line.proofs.Shared.{answer_within, within_limit}
@@ -30,7 +30,7 @@ pub gives_query : (attr value : List ℕ) (other : Option (List ℕ)) (input : L
     → answer ≡ query_over attr value other input → IsAnswer (Query attr value other) input answer
 gives_query attr value other input answer fits is =
     answer_within _ asking (Query attr value other) input answer (bundle.bad_line input) (within_limit _ asking (Query attr value other) input fits) refl (λ found told. told)
-    (given_unless (Query attr value other) input answer (query_found attr value other input) (bundle.bad_line input) (λ found. found) is)
+    (given_unless (Query attr value other) input answer (found_by_query attr value other input) (bundle.bad_line input) (λ found. found) is)
 
 pub gives_dns : (word input : List ℕ) (answer : Answer) → length input ≤ input_limit (Dns word) → answer ≡ dns_over word input → IsAnswer (Dns word) input answer
 gives_dns word input answer fits is =
@@ -47,7 +47,7 @@ gives_summed messages input w answer is summed =
 
 -- a run's world is that of its input
 pub gives_run : (workers : ℕ) (input : List ℕ) (w : World) (answer : Answer) → length input ≤ input_limit (Run workers) → world_reading input ≡ Ok w
-    → IsRun w answer → IsAnswer (Run workers) input answer
+    → IsRunAnswer w answer → IsAnswer (Run workers) input answer
 gives_run workers input w answer fits is ran =
     let good : bad_world (world_reading input) ≡ None = ap bad_world is in
     answer_within _ asking (Run workers) input answer None (within_limit _ asking (Run workers) input fits) (sym good) (λ other told. told ∙ good) (w, is, ran)
@@ -63,7 +63,7 @@ gives_bad_run workers input line cause answer fits is bad =
 
 -- a text of sessions says one thing
 abbrev pub SayOne : Type 0
-SayOne = (text : List ℕ) (r s : Result SessionWorld (ℕ × ℕ)) → Says text r → Says text s → r ≡ s
+SayOne = (text : List ℕ) (r s : Result SessionWorld (ℕ × ℕ)) → SaysSessions text r → SaysSessions text s → r ≡ s
 
 same_bad : (bad other : ℕ × ℕ) (r : Result SessionWorld (ℕ × ℕ)) → r ≡ Err bad → r ≡ Err other → other ≡ bad
 same_bad bad other r is also = cc
@@ -75,23 +75,23 @@ told_one one input (Some bad) None told again = absurd (ok-err again.0 bad (Ok a
 told_one one input (Some bad) (Some other) told again = ap (λ (b : ℕ × ℕ). Some b) (same_bad bad other (Err bad) refl (one input (Err bad) (Err other) told again))
 
 -- the text of the world that an input is translated to
-pub gives_translation : SayOne → (input : List ℕ) (s : SessionWorld) (answer : Answer) → length input ≤ input_limit Translate → Says input (Ok s)
+pub gives_translation : SayOne → (input : List ℕ) (s : SessionWorld) (answer : Answer) → length input ≤ input_limit Translate → SaysSessions input (Ok s)
     → (w : World) × IsTranslated s w × (answer ≡ translation w) → IsAnswer Translate input answer
 gives_translation one input s answer fits says is =
     answer_within _ asking Translate input answer None (within_limit _ asking Translate input fits) (s, says) (λ other told. told_one one input None other (s, says) told) (s, says, is.0, is.1, is.2)
 
-pub gives_bad_translation : SayOne → (input : List ℕ) (line cause : ℕ) (answer : Answer) → length input ≤ input_limit Translate → Says input (Err (line, cause))
+pub gives_bad_translation : SayOne → (input : List ℕ) (line cause : ℕ) (answer : Answer) → length input ≤ input_limit Translate → SaysSessions input (Err (line, cause))
     → answer ≡ bad_input line cause → IsAnswer Translate input answer
 gives_bad_translation one input line cause answer fits says bad =
     answer_within _ asking Translate input answer (Some (line, cause)) (within_limit _ asking Translate input fits) says (λ other told. told_one one input (Some (line, cause)) other says told) bad
 
 -- a run over it, with the answers of its sessions
-pub gives_export : SayOne → (workers : ℕ) (input : List ℕ) (s : SessionWorld) (answer : Answer) → length input ≤ input_limit (Export workers) → Says input (Ok s)
+pub gives_export : SayOne → (workers : ℕ) (input : List ℕ) (s : SessionWorld) (answer : Answer) → length input ≤ input_limit (Export workers) → SaysSessions input (Ok s)
     → (w : World) × IsTranslated s w × IsExported w s.sessions answer → IsAnswer (Export workers) input answer
 gives_export one workers input s answer fits says is =
     answer_within _ asking (Export workers) input answer None (within_limit _ asking (Export workers) input fits) (s, says) (λ other told. told_one one input None other (s, says) told) (s, says, is.0, is.1, is.2)
 
-pub gives_bad_export : SayOne → (workers : ℕ) (input : List ℕ) (line cause : ℕ) (answer : Answer) → length input ≤ input_limit (Export workers) → Says input (Err (line, cause))
+pub gives_bad_export : SayOne → (workers : ℕ) (input : List ℕ) (line cause : ℕ) (answer : Answer) → length input ≤ input_limit (Export workers) → SaysSessions input (Err (line, cause))
     → answer ≡ bad_input line cause → IsAnswer (Export workers) input answer
 gives_bad_export one workers input line cause answer fits says bad =
     answer_within _ asking (Export workers) input answer (Some (line, cause)) (within_limit _ asking (Export workers) input fits) says (λ other told. told_one one input (Some (line, cause)) other says told) bad

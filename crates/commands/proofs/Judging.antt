@@ -7,7 +7,7 @@ use Rattle.net_base.specs.Net.{after}
 use Rattle.net_model.specs.Answers.{Answer, all_kept, input_limit, rule_broken}
 use Rattle.net_model.specs.Words.{Check}
 use Rattle.netcheck.specs.Judged.{HasFault}
-use Rattle.checked_input.specs.Told.{HandsIn, Refuses}
+use Rattle.checked_input.specs.Told.{HandsIn, RefusesInput}
 use Rattle.checked_input.specs.declared.fault.InputError.{InputError}
 use Rattle.checked_input.specs.declared.fault.InputError.TheVariants as error
 use Rattle.commands.specs.Built.{asking, IsAnswer, IsJudged}
@@ -92,7 +92,7 @@ module _ (input : List ℕ) (answer : Answer) (fits : length input ≤ input_lim
           (subst (λ (s : Option (List ℕ)). IsChecked w h s answer) (sym same.2) checked))
 
   -- or what is wrong is told
-  pub refuses : AFaultIsOne → (wrong : InputError) → Refuses input wrong → TellsError wrong answer → IsAnswer Check input answer
+  pub refuses : AFaultIsOne → (wrong : InputError) → RefusesInput input wrong → TellsError wrong answer → IsAnswer Check input answer
   refuses one (error.Bad line cause) first given = answer_within _ asking Check input answer (Some (line, cause)) (within_limit _ asking Check input fits) first.is first.only given
   refuses one (error.Fault stamp rule) (w, h, told, hands, fault) given = judges w h told hands (entry_breaks w h told answer one stamp rule fault given)
   refuses one error.Memory wants given = absurd given

@@ -8,7 +8,7 @@ use Rattle.net_base.specs.Summary.{end_word}
 use Rattle.run_record.specs.Ends.{EndsSo}
 use Rattle.run_record.specs.declared.end.RunEnd.{RunEnd}
 use Rattle.run_record.specs.declared.end.RunEnd.TheVariants as ended
-use Rattle.transcript.specs.RunStatus.{word_of}
+use Rattle.transcript.specs.RunStatus.{run_end_word}
 use Rattle.commands.specs.Built.{IsStatus}
 use Rattle.commands.specs.Runs.{status_of}
 use Rattle.journal.proofs.Steps.{not_both}
@@ -60,7 +60,7 @@ module _ (w : World) (net : Net) where
   is_false false no_ = refl
 
   -- the word of how a run ended
-  pub word_is : (end : RunEnd) → EndsSo w net end → word_of (Some end) ≡ end_word w net
+  pub word_is : (end : RunEnd) → EndsSo w net end → run_end_word (Some end) ≡ end_word w net
   word_is ended.Done so = rw so refl
   word_is ended.Stopped so = rw (is_false (done w net) (λ is. done_or_stopped is so), so) refl
   word_is ended.Limit so =

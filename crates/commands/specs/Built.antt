@@ -16,7 +16,7 @@ use Rattle.net_base.specs.NdbText.{lines_of}
 use Rattle.net_base.specs.NdbBundle as bundle
 use Rattle.net_base.specs.Ndb.{NdbPair}
 use Rattle.net_base.specs.Search.{tuples_with, all_beside}
-use Rattle.ndb_query.specs.Told.{tuple_text}
+use Rattle.ndb_query.specs.Told.{tuple_as_line}
 use Rattle.net_base.specs.Cs.{cs_list}
 use Rattle.net_base.specs.Hexadecimal.{hex_digits, hex_text}
 use Rattle.net_base.specs.DomainAnswers.{dns_answer}
@@ -27,15 +27,15 @@ use Rattle.net_base.specs.Transcript.{history_text}
 use Rattle.net_model.specs.Headline.{Headline}
 use Rattle.made_world.specs.Made.{made_world}
 use Rattle.world_text.specs.WorldText.{world_reading}
-use Rattle.world_writer.specs.Written.{file_text}
+use Rattle.world_writer.specs.Written.{world_file_text}
 use Rattle.command_line.specs.Asking as calls
 use Rattle.command_line.specs.Asking.{Asking}
 use Rattle.net_model.specs.Answers.{Answer, bad_input, lines_answer, cs_answer, input_limit}
-use Rattle.net_model.specs.Words.{Command, Cs, Query, Dns, Run, Make, Big, Check, reads, Export, Translate}
+use Rattle.net_model.specs.Words.{Command, Cs, Query, Dns, Run, Make, Big, Check, reads_input, Export, Translate}
 use Rattle.sessions.specs.declared.world.Session.{Session}
 use Rattle.sessions.specs.declared.world.SessionWorld.{SessionWorld}
 use Rattle.sessions.specs.Worlds.{IsTranslated}
-use Rattle.world_file.specs.SessionText.{Says}
+use Rattle.world_file.specs.SessionText.{SaysSessions}
 use Rattle.checked_input.specs.Input.{Handed, IsBadHanded, bad_world, parts_of}
 use Rattle.net_export.specs.Answered.{AreAnswersOf}
 use Rattle.commands.specs.AnswerLines.{answer_lines}
@@ -45,8 +45,8 @@ use Rattle.commands.specs.Checked.{IsChecked}
 
 -- the first bad line of a text of a world with sessions
 abbrev pub IsBadTold : List ℕ → Option (ℕ × ℕ) → Type 0
-IsBadTold input None = (s : SessionWorld) × Says input (Ok s)
-IsBadTold input (Some bad) = Says input (Err bad)
+IsBadTold input None = (s : SessionWorld) × SaysSessions input (Ok s)
+IsBadTold input (Some bad) = SaysSessions input (Err bad)
 
 -- the first bad line of an input within the limit, and its least cause, if a line is bad
 abbrev pub IsBadLine : Command → List ℕ → Option (ℕ × ℕ) → Type 0
@@ -79,16 +79,16 @@ cs_over sys query input = unless_bad (bundle.bad_line input) (cs_found sys query
 
 -- the lines of a query: the tuples with the pair, each with its pairs in order, or the values beside the pair in all of them
 abbrev pub query_lines : List ℕ → List ℕ → Option (List ℕ) → List (List (List NdbPair)) → List (List ℕ)
-query_lines attr value None db = map tuple_text (tuples_with attr value db)
+query_lines attr value None db = map tuple_as_line (tuples_with attr value db)
 query_lines attr value (Some other) db = all_beside attr value other db
 
 -- what is found in the database that an input without a bad line is
-abbrev pub query_found : List ℕ → List ℕ → Option (List ℕ) → List ℕ → Answer
-query_found attr value other input = lines_answer (query_lines attr value other (bundle.database (lines_of input)))
+abbrev pub found_by_query : List ℕ → List ℕ → Option (List ℕ) → List ℕ → Answer
+found_by_query attr value other input = lines_answer (query_lines attr value other (bundle.database (lines_of input)))
 
 -- .. or the first bad line of an input within the limit
 abbrev pub query_over : List ℕ → List ℕ → Option (List ℕ) → List ℕ → Answer
-query_over attr value other input = unless_bad (bundle.bad_line input) (query_found attr value other input)
+query_over attr value other input = unless_bad (bundle.bad_line input) (found_by_query attr value other input)
 
 -- Answers of dns.
 
@@ -115,7 +115,7 @@ pub record IsStatus (w : World) (net : Net) (status : ℕ) : Type 0 where
 
 -- the text of one legal and timed history of the world with its summary, and the status by how it ends; the history has what
 -- each legal one keeps
-pub record IsRun (w : World) (answer : Answer) : Type 0 where
+pub record IsRunAnswer (w : World) (answer : Answer) : Type 0 where
   pub history : List Entry
   pub legal : IsLegal w history
   pub timed : IsTimed w history
@@ -141,14 +141,14 @@ pub record IsSummed (w : World) (answer : Answer) : Type 0 where
 abbrev pub IsWorldOf : Command → List ℕ → World → Type 0
 IsWorldOf (Run workers) input w = world_reading input ≡ Ok w
 IsWorldOf (Big messages) input w = w ≡ made_world messages
-IsWorldOf (Export workers) input w = (s : SessionWorld) × Says input (Ok s) × IsTranslated s w
+IsWorldOf (Export workers) input w = (s : SessionWorld) × SaysSessions input (Ok s) × IsTranslated s w
 IsWorldOf _ input w = ⊥
 
 -- Answers of make.
 
 -- the text of the made world
 unfoldable pub made : ℕ → Answer
-made messages = record { status = 0; text = file_text (made_world messages) }
+made messages = record { status = 0; text = world_file_text (made_world messages) }
 
 -- Answers of check.
 
@@ -173,25 +173,25 @@ pub record IsExported (w : World) (sessions : List Session) (answer : Answer) : 
 
 -- the text of a translated world
 abbrev pub translation : World → Answer
-translation w = record { status = 0; text = file_text w }
+translation w = record { status = 0; text = world_file_text w }
 
 -- Answers.
 
 -- an answer to an input without a bad line
 abbrev pub IsFound : Command → List ℕ → Answer → Type 0
 IsFound (Cs sys query) input answer = answer ≡ cs_found sys query input
-IsFound (Query attr value other) input answer = answer ≡ query_found attr value other input
+IsFound (Query attr value other) input answer = answer ≡ found_by_query attr value other input
 IsFound (Dns word) input answer = answer ≡ dns_found word input
-IsFound (Run workers) input answer = (w : World) × IsWorldOf (Run workers) input w × IsRun w answer
+IsFound (Run workers) input answer = (w : World) × IsWorldOf (Run workers) input w × IsRunAnswer w answer
 IsFound (Make messages) input answer = answer ≡ made messages
 IsFound (Big messages) input answer = (w : World) × IsWorldOf (Big messages) input w × IsSummed w answer
 IsFound Check input answer = IsJudged input answer
-IsFound (Export workers) input answer = (s : SessionWorld) × Says input (Ok s) × (w : World) × IsTranslated s w × IsExported w s.sessions answer
-IsFound Translate input answer = (s : SessionWorld) × Says input (Ok s) × (w : World) × IsTranslated s w × (answer ≡ translation w)
+IsFound (Export workers) input answer = (s : SessionWorld) × SaysSessions input (Ok s) × (w : World) × IsTranslated s w × IsExported w s.sessions answer
+IsFound Translate input answer = (s : SessionWorld) × SaysSessions input (Ok s) × (w : World) × IsTranslated s w × (answer ≡ translation w)
 
 -- what is asked of the program
 abbrev pub asking : Asking Command
-asking = record { reads = reads; limit = input_limit; IsBadLine = IsBadLine; IsFound = IsFound }
+asking = record { reads = reads_input; limit = input_limit; IsBadLine = IsBadLine; IsFound = IsFound }
 
 -- the first bad line of any input
 abbrev pub IsFirstBad : Command → List ℕ → Option (ℕ × ℕ) → Type 0

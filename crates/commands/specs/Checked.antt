@@ -38,19 +38,19 @@ pub record IsSummaryFault (w : World) (h : List Entry) (told : Option (List ℕ)
   pub number : rule ≡ 9
 
 -- the first stamp at which a rule is broken, and the least rule there
-abbrev pub IsBroken : World → List Entry → Option (List ℕ) → ℕ → ℕ → Type 0
-IsBroken w h told stamp rule = IsEntryFault w h stamp rule ⊎ IsSummaryFault w h told stamp rule
+abbrev pub IsRuleBroken : World → List Entry → Option (List ℕ) → ℕ → ℕ → Type 0
+IsRuleBroken w h told stamp rule = IsEntryFault w h stamp rule ⊎ IsSummaryFault w h told stamp rule
 
 -- some rule is broken
 abbrev pub BreaksOne : World → List Entry → Option (List ℕ) → Type 0
-BreaksOne w h told = (stamp : ℕ) × (rule : ℕ) × IsBroken w h told stamp rule
+BreaksOne w h told = (stamp : ℕ) × (rule : ℕ) × IsRuleBroken w h told stamp rule
 
 -- Answers.
 
 -- the answer to a history of a world and to the summary that came with it
 pub record IsChecked (w : World) (h : List Entry) (told : Option (List ℕ)) (answer : Answer) : Type 0 where
   pub kept : KeepsAll w h told → answer ≡ all_kept (length h)
-  pub broken : (stamp rule : ℕ) → IsBroken w h told stamp rule → answer ≡ rule_broken stamp rule
+  pub broken : (stamp rule : ℕ) → IsRuleBroken w h told stamp rule → answer ≡ rule_broken stamp rule
   -- and one of both it is
   pub judged : KeepsAll w h told ⊎ BreaksOne w h told
 

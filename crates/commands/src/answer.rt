@@ -3,14 +3,14 @@ ghost use Rattle.std.specs.Prelude.{◌≡◌, ◌≢◌, ◌++◌, flat_map, If
 ghost use Rattle.net_model.specs.Answers as spec;
 ghost use Rattle.net_model.specs.Headline.{Headline};
 ghost use Rattle.net_base.specs.Cs.{Lines as ListOf, Refused};
-ghost use Rattle.cs_resolver.specs.Errors.{number_of};
+ghost use Rattle.cs_resolver.specs.Errors.{error_number};
 ghost use Rattle.net_base.specs.Legal.{IsLegal, IsTimed};
 ghost use Rattle.net_base.specs.Net.{after};
 ghost use Rattle.net_base.specs.Summary.{answered_steps, summary};
 ghost use Rattle.net_base.specs.Transcript.{history_text};
 ghost use Rattle.net_base.specs.World.{IsWorld};
 ghost use Rattle.net_export.specs.Answered.{ArePlayed};
-ghost use Rattle.commands.specs.Built.{IsExported, IsRun, IsSummed};
+ghost use Rattle.commands.specs.Built.{IsExported, IsRunAnswer, IsSummed};
 ghost use Rattle.commands.specs.Runs.{status_of};
 ghost use Rattle.run_record.specs.Ends.{EndsSo};
 
@@ -50,7 +50,7 @@ pub fn found(alloc: Global, lines: &Lines) -> Result<Answer, AllocError>
 /// The refusal of cs, unless it had no memory.
 pub fn refusal(alloc: Global, error: CsError) -> Result<Answer, AllocError>
     ensures told { OnOk result (error ≢ CsError.Memory) }
-    ensures value { IfOk result (λ answer. answer ≡ spec.cs_answer (Refused (number_of error))) }
+    ensures value { IfOk result (λ answer. answer ≡ spec.cs_answer (Refused (error_number error))) }
 {
     if error == CsError::Memory {
         return Err(AllocError);
@@ -81,7 +81,7 @@ pub fn of_run<R: Threads + Sync>(
     requires timed { IsTimed world.now run.now.books }
     requires answered { run.now.answered ≡ answered_steps world.now run.now.books }
     requires end { EndsSo world.now (after world.now run.now.books) run.now.end }
-    ensures { IfOk result (λ answer. IsRun world.now answer) }
+    ensures { IfOk result (λ answer. IsRunAnswer world.now answer) }
 {
     let lines = summary_of_run(alloc, world, run)?;
     let text = text_by(rt, alloc, writers(workers, run), &run.books)?;
@@ -146,7 +146,7 @@ fn of_books(
     requires text { text ≡ history_text books.now }
     requires lines { lines.now ≡ summary world.now books.now }
     requires end { EndsSo world.now (after world.now books.now) end }
-    ensures { IfOk result (λ answer. IsRun world.now answer) }
+    ensures { IfOk result (λ answer. IsRunAnswer world.now answer) }
 {
     legal_histories_keep_it();
     legal_histories_are_plain();
@@ -211,7 +211,7 @@ fn run_status(end: RunEnd) -> u8
 /// What a query is refused for, in words.
 fn refusal_text(error: CsError) -> &'static str
     requires { error ≢ CsError.Memory }
-    ensures { result.now ≡ spec.refusal_text (number_of error) }
+    ensures { result.now ≡ spec.refusal_text (error_number error) }
 {
     match error {
         CsError::Memory => unreachable!(),

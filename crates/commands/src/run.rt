@@ -3,7 +3,7 @@ ghost use Rattle.std.specs.Prelude.{◌<◌, ◌≤◌, length, IfOk};
 ghost use Rattle.net_model.specs.Answers.{input_limit};
 ghost use Rattle.net_model.specs.Words.{Run};
 ghost use Rattle.net_base.specs.World.{IsWorld};
-ghost use Rattle.commands.specs.Built.{IsAnswer, IsRun};
+ghost use Rattle.commands.specs.Built.{IsAnswer, IsRunAnswer};
 
 use crate::answer::of_run;
 use agenda::RunError;
@@ -51,7 +51,7 @@ fn run_world<R: Threads + Wait + Sync, G: Gate + Sync>(
     requires world { IsWorld world.now }
     requires some { 0 < workers }
     requires few { workers ≤ 16 }
-    ensures { IfOk result (λ answer. IsRun world.now answer) }
+    ensures { IfOk result (λ answer. IsRunAnswer world.now answer) }
 {
     match agenda::run_in_books(rt, alloc, world, workers, gate) {
         Ok(run) => {

@@ -33,6 +33,6 @@ IsKept stage.Connected (core.Udp e) = IsTrue (not (is_fresh_udp e.state))
 IsKept s (core.Il e) = Unit {0}
 
 -- the step that leaves this conversation, if it has an outcome
-abbrev pub step_to : conv.Conv → Option Outcome → Option (Step conv.Conv)
-step_to after (Some o) = Some (record { state = after; outcome = o })
-step_to after None = None
+abbrev pub as_step : conv.Conv → Option Outcome → Option (Step conv.Conv)
+as_step after (Some o) = Some (record { state = after; outcome = o })
+as_step after None = None

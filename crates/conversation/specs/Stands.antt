@@ -29,7 +29,7 @@ Says kept told answer = (c : Conv) → StandsFor kept c → told ≡ answer c
 
 -- an IL end has few messages
 abbrev pub IsShortCore : Core → Type 0
-IsShortCore (Il e) = il.IsShort e
+IsShortCore (Il e) = il.IsEndShort e
 IsShortCore (Udp e) = Unit {0}
 
 -- few messages, where it is one of IL
@@ -41,14 +41,14 @@ abbrev pub step_at : Seat → ℕ → Work → Conv → Option (Step Conv)
 step_at kept now work c = conv_step (slot_of kept) work.event work.with now c
 
 -- a row answers the work
-abbrev pub IsReady : Seat → ℕ → Work → Type 0
-IsReady kept now work = StandsForSome kept (λ c. IsTrue (is_some (step_at kept now work c)))
+abbrev pub IsSeatReady : Seat → ℕ → Work → Type 0
+IsSeatReady kept now work = StandsForSome kept (λ c. IsTrue (is_some (step_at kept now work c)))
 
 -- a row answered with this outcome, and what is kept stands for what it leaves
-abbrev pub Gives : Seat → Outcome → Option (Step Conv) → Type 0
-Gives new outcome (Some s) = StandsFor new s.state × (outcome ≡ s.outcome)
-Gives new outcome None = ⊥
+abbrev pub GivesSeat : Seat → Outcome → Option (Step Conv) → Type 0
+GivesSeat new outcome (Some s) = StandsFor new s.state × (outcome ≡ s.outcome)
+GivesSeat new outcome None = ⊥
 
 -- the step of each conversation that was stood for gives this outcome
-abbrev pub Steps : Seat → Seat → ℕ → Work → Outcome → Type 0
-Steps old new now work outcome = (c : Conv) → StandsFor old c → Gives new outcome (step_at old now work c)
+abbrev pub StepsSeat : Seat → Seat → ℕ → Work → Outcome → Type 0
+StepsSeat old new now work outcome = (c : Conv) → StandsFor old c → GivesSeat new outcome (step_at old now work c)

@@ -1,7 +1,7 @@
 //! What happens to an IL end. Moments are in ms.
 ghost use Rattle.net_base.specs.IlEnd as spec;
 ghost use Rattle.net_base.specs.IlTable as table;
-ghost use Rattle.il_machine.specs.Stands.{after_read};
+ghost use Rattle.il_machine.specs.Stands.{end_after_read};
 
 use crate::ghost_end::Change;
 use net_base::{IlMsg, Timers};
@@ -96,5 +96,5 @@ pub struct Reads {
 }
 
 impl Change for Reads {
-    ghost after = { λ c e. after_read c.count e };
+    ghost after = { λ c e. end_after_read c.count e };
 }

@@ -3,9 +3,9 @@ ghost use Rattle.std.specs.Prelude.{◌≡◌, ◌↔◌, ℕ, ◌<◌, ◌^◌,
 ghost use Rattle.net_base.specs.Actors.{opening_conv};
 ghost use Rattle.net_base.specs.Conversation as spec;
 ghost use Rattle.net_base.specs.Duties.{due_of_core};
-ghost use Rattle.conversation.specs.Kept.{step_to};
+ghost use Rattle.conversation.specs.Kept.{as_step};
 ghost use Rattle.conversation.specs.Memory.{work_takes};
-ghost use Rattle.conversation.specs.Stands.{StandsFor, StandsForSome, Decides, IsShort, IsReady, Says, Steps, slot_of, step_at};
+ghost use Rattle.conversation.specs.Stands.{StandsFor, StandsForSome, Decides, IsShort, IsSeatReady, Says, StepsSeat, slot_of, step_at};
 
 mod files;
 mod given;
@@ -107,8 +107,8 @@ impl Conv {
     pub fn step(&mut self, now: u64, work: &Work) -> Result<Outcome, AllocError>
         requires in_time { now < 2 ^ 63 }
         requires short { StandsForSome self.old IsShort }
-        requires ready { IsReady self.old now work.now }
-        ensures ok { IfOk result (Steps self.old self.new now work.now) }
+        requires ready { IsSeatReady self.old now work.now }
+        ensures ok { IfOk result (StepsSeat self.old self.new now work.now) }
         ensures slot { slot_of self.new ≡ slot_of self.old }
         ensures copy { IfOk result (λ outcome. outcome.copy ≡ Some outcome.reply) }
         ensures err { OnErr result (self.new ≡ self.old) }
@@ -185,7 +185,7 @@ impl Conv {
     fn answer(&mut self, now: u64, work: &Work) -> Result<Option<Outcome>, AllocError>
         requires in_time { now < 2 ^ 63 }
         requires short { IsShort self.old.conv }
-        ensures ok { IfOk result (λ answer. spec.conv_step self.old.slot work.now.event work.now.with now self.old.conv ≡ step_to self.new.conv answer) }
+        ensures ok { IfOk result (λ answer. spec.conv_step self.old.slot work.now.event work.now.with now self.old.conv ≡ as_step self.new.conv answer) }
         ensures slot { self.new.slot ≡ self.old.slot }
         ensures err { OnErr result (self.new ≡ self.old) }
         ensures memory { OnErr result (work_takes now work.now self.old.conv ≡ true) }

@@ -2,7 +2,7 @@
 ghost use Rattle.std.specs.Prelude.{◌≡◌, ◌↔◌, ◌<◌, ◌^◌, Some, None, IfOk, IfErr, OnOk, OnErr, IsTrue, take, true, if◌then◌else◌};
 ghost use Rattle.net_base.specs.IlEnd as spec;
 ghost use Rattle.net_base.specs.IlTable as table;
-ghost use Rattle.il_machine.specs.Stands.{IsShort, after_read, arrival_takes, read_refusal, write_takes};
+ghost use Rattle.il_machine.specs.Stands.{IsEndShort, end_after_read, arrival_takes, read_refusal, write_takes};
 ghost use Rattle.net_base.specs.declared.reply.Reply.TheVariants as reply;
 ghost use Rattle.net_base.specs.Conversation as conv;
 ghost use Rattle.net_base.specs.Timer as timer;
@@ -63,7 +63,7 @@ impl IlCore {
     }
 
     pub fn is_short(&self) -> bool
-        ensures { IsTrue result ↔ IsShort self.now }
+        ensures { IsTrue result ↔ IsEndShort self.now }
     {
         self.kept.is_short()
     }
@@ -142,7 +142,7 @@ impl IlCore {
 
     pub fn arrive(&mut self, now: u64, message: &IlMsg) -> Result<Option<IlMsg>, AllocError>
         requires in_time { now < 2 ^ 63 }
-        requires short { IsShort self.old }
+        requires short { IsEndShort self.old }
         ensures end { IfOk result (λ emits. self.new ≡ (table.arrives now message.now self.old).end) }
         ensures emits { IfOk result (λ emits. emits ≡ (table.arrives now message.now self.old).emits) }
         ensures err { OnErr result (self.new ≡ self.old) }
@@ -155,7 +155,7 @@ impl IlCore {
 
     pub fn write(&mut self, now: u64, text: &[u8]) -> Result<IlMsg, AllocError>
         requires in_time { now < 2 ^ 63 }
-        requires short { IsShort self.old }
+        requires short { IsEndShort self.old }
         requires sends { write_takes self.old ≡ true }
         requires ready { IsTrue (table.may_write self.old.state self.old) }
         ensures end { IfOk result (λ message. self.new ≡ (table.writes now text.now self.old).end) }
@@ -184,7 +184,7 @@ impl IlCore {
         ensures bytes { IfOk result (λ told. IfOk told (λ bytes. (None ≡ read_refusal self.old)
             × (bytes ≡ take count (table.first_unread self.old)))) }
         ensures refusal { IfOk result (λ told. IfErr told (λ cause. Some cause ≡ read_refusal self.old)) }
-        ensures end { OnOk result (self.new ≡ after_read count self.old) }
+        ensures end { OnOk result (self.new ≡ end_after_read count self.old) }
         ensures err { OnErr result (self.new ≡ self.old) }
         ensures memory { OnErr result (table.has_unread self.old ≡ true) }
     {

@@ -5,22 +5,22 @@ use Rattle.cs_resolver.specs.declared.error.CsError.{CsError}
 use Rattle.cs_resolver.specs.declared.error.CsError.TheVariants.{Memory, BadQuery, NoNet, NoHost, NoService, NoValue}
 
 -- the number that an error is told by; want of memory has none
-abbrev pub number_of : CsError → ℕ
-number_of Memory = 0
-number_of BadQuery = 1
-number_of NoNet = 2
-number_of NoHost = 3
-number_of NoService = 4
-number_of NoValue = 5
+abbrev pub error_number : CsError → ℕ
+error_number Memory = 0
+error_number BadQuery = 1
+error_number NoNet = 2
+error_number NoHost = 3
+error_number NoService = 4
+error_number NoValue = 5
 
 -- what an error is told as
-abbrev pub text_of : CsError → List ℕ
-text_of Memory = codes "out of memory"
-text_of BadQuery = codes "bad query"
-text_of NoNet = codes "no net"
-text_of NoHost = codes "no host"
-text_of NoService = codes "no service"
-text_of NoValue = codes "no value"
+abbrev pub error_text : CsError → List ℕ
+error_text Memory = codes "out of memory"
+error_text BadQuery = codes "bad query"
+error_text NoNet = codes "no net"
+error_text NoHost = codes "no host"
+error_text NoService = codes "no service"
+error_text NoValue = codes "no value"
 
 -- the error is the answer's refusal, or memory ran out
 abbrev pub Tells : CsError → CsAnswer → Type 0

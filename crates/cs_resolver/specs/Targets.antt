@@ -10,8 +10,8 @@ use Rattle.cs_resolver.specs.declared.line.Target.{Target}
 use Rattle.cs_resolver.specs.declared.line.Target.TheVariants.{Any, Ip}
 
 -- the word names the net
-abbrev pub is_named : List ℕ → Proto → Bool
-is_named word net = bytes_eq word (codes "net") || bytes_eq word (proto_name net)
+abbrev pub is_net_named : List ℕ → Proto → Bool
+is_net_named word net = bytes_eq word (codes "net") || bytes_eq word (proto_name net)
 
 -- the address as it is written
 abbrev pub target_text : Target → List ℕ

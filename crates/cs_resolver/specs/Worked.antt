@@ -4,31 +4,31 @@ use Rattle.std.specs.List.{list_all}
 use Rattle.net_base.specs.Ndb.{NdbPair}
 
 -- an attribute with its value
-abbrev pub pair : List ℕ → List ℕ → NdbPair
-pair attr value = record { attr = attr; value = value }
+abbrev pub worked_pair : List ℕ → List ℕ → NdbPair
+worked_pair attr value = record { attr = attr; value = value }
 
 -- two networks, three systems and two services
 abbrev pub worked_db : List (List (List NdbPair))
 worked_db =
-    ((pair (codes "ipnet") (codes "astro") ∷ pair (codes "ip") (codes "135.104.0.0")
-    ∷ pair (codes "ipmask") (codes "255.255.0.0") ∷ [])
-    ∷ (pair (codes "auth") (codes "bootes") ∷ []) ∷ [])
-    ∷ ((pair (codes "ipnet") (codes "astro9") ∷ pair (codes "ip") (codes "135.104.9.0")
-    ∷ pair (codes "ipmask") (codes "255.255.255.0") ∷ [])
-    ∷ (pair (codes "auth") (codes "helix") ∷ []) ∷ [])
-    ∷ ((pair (codes "sys") (codes "anna") ∷ pair (codes "ip") (codes "135.104.9.6") ∷ [])
-    ∷ (pair (codes "dom") (codes "anna.example.com") ∷ []) ∷ [])
-    ∷ ((pair (codes "sys") (codes "helix") ∷ pair (codes "dom") (codes "helix.example.com") ∷ [])
-    ∷ (pair (codes "ip") (codes "10.0.0.31") ∷ [])
-    ∷ (pair (codes "ip") (codes "135.104.9.31") ∷ []) ∷ [])
-    ∷ ((pair (codes "sys") (codes "bootes") ∷ [])
-    ∷ (pair (codes "ip") (codes "135.104.50.2") ∷ []) ∷ [])
-    ∷ ((pair (codes "il") (codes "9fs") ∷ pair (codes "port") (codes "17008") ∷ []) ∷ [])
-    ∷ ((pair (codes "udp") (codes "echo") ∷ pair (codes "port") (codes "7") ∷ []) ∷ []) ∷ []
+    ((worked_pair (codes "ipnet") (codes "astro") ∷ worked_pair (codes "ip") (codes "135.104.0.0")
+    ∷ worked_pair (codes "ipmask") (codes "255.255.0.0") ∷ [])
+    ∷ (worked_pair (codes "auth") (codes "bootes") ∷ []) ∷ [])
+    ∷ ((worked_pair (codes "ipnet") (codes "astro9") ∷ worked_pair (codes "ip") (codes "135.104.9.0")
+    ∷ worked_pair (codes "ipmask") (codes "255.255.255.0") ∷ [])
+    ∷ (worked_pair (codes "auth") (codes "helix") ∷ []) ∷ [])
+    ∷ ((worked_pair (codes "sys") (codes "anna") ∷ worked_pair (codes "ip") (codes "135.104.9.6") ∷ [])
+    ∷ (worked_pair (codes "dom") (codes "anna.example.com") ∷ []) ∷ [])
+    ∷ ((worked_pair (codes "sys") (codes "helix") ∷ worked_pair (codes "dom") (codes "helix.example.com") ∷ [])
+    ∷ (worked_pair (codes "ip") (codes "10.0.0.31") ∷ [])
+    ∷ (worked_pair (codes "ip") (codes "135.104.9.31") ∷ []) ∷ [])
+    ∷ ((worked_pair (codes "sys") (codes "bootes") ∷ [])
+    ∷ (worked_pair (codes "ip") (codes "135.104.50.2") ∷ []) ∷ [])
+    ∷ ((worked_pair (codes "il") (codes "9fs") ∷ worked_pair (codes "port") (codes "17008") ∷ []) ∷ [])
+    ∷ ((worked_pair (codes "udp") (codes "echo") ∷ worked_pair (codes "port") (codes "7") ∷ []) ∷ []) ∷ []
 
 -- a system of this name, with an address
 abbrev pub system : List ℕ → List (List NdbPair)
-system name = (pair (codes "sys") name ∷ pair (codes "ip") (codes "10.1.0.1") ∷ []) ∷ []
+system name = (worked_pair (codes "sys") name ∷ worked_pair (codes "ip") (codes "10.1.0.1") ∷ []) ∷ []
 
 -- systems of these names
 abbrev pub systems : List (List ℕ) → List (List (List NdbPair))

@@ -1,6 +1,6 @@
 //! What a query is refused for.
 ghost use Rattle.std.specs.Prelude.{◌≡◌, Some};
-ghost use Rattle.cs_resolver.specs.Errors.{number_of, text_of};
+ghost use Rattle.cs_resolver.specs.Errors.{error_number, error_text};
 ghost use Rattle.cs_resolver.specs.declared.error.CsError.TheVariants.{Memory};
 
 use std::alloc::{AllocError, AllocFailed};
@@ -27,7 +27,7 @@ pub enum CsError {
 impl CsError {
     /// The number that the error is told by, or 0 for want of memory.
     pub fn number(&self) -> u32
-        ensures { result ≡ number_of self.now }
+        ensures { result ≡ error_number self.now }
     {
         match self {
             CsError::Memory => 0,
@@ -41,7 +41,7 @@ impl CsError {
 }
 
 impl fmt::Display for CsError {
-    ghost output = { λ e. Some (text_of e) };
+    ghost output = { λ e. Some (error_text e) };
 
     fn fmt<W: fmt::Write>(&self, f: &mut fmt::Formatter<W>) -> fmt::Result {
         match self {

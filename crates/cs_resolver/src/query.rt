@@ -3,7 +3,7 @@ ghost use Rattle.std.specs.Prelude.{◌≡◌, ◌==◌, IfOk, MatchOption, None
 ghost use Rattle.std.specs.List.{list_any};
 ghost use Rattle.std.specs.Char.{is_ascii_alphabetic};
 ghost use Rattle.net_base.specs.Cs as spec;
-ghost use Rattle.cs_resolver.specs.Targets.{is_named};
+ghost use Rattle.cs_resolver.specs.Targets.{is_net_named};
 
 use net_base::Proto;
 use std::alloc::{AllocError, Global};
@@ -103,14 +103,14 @@ pub fn nets_of(alloc: Global, nets: &[Proto], word: &[u8]) -> Result<Vec<Proto>,
 
 /// Whether a word names one of these nets.
 pub fn names_some(nets: &[Proto], word: &[u8]) -> bool
-    ensures { result ≡ list_any (is_named word.now) nets.now }
+    ensures { result ≡ list_any (is_net_named word.now) nets.now }
 {
     nets.iter().any(|net| is_named(word, *net))
 }
 
 /// Whether a word names the net.
 pub fn is_named(word: &[u8], net: Proto) -> bool
-    ensures { result ≡ is_named word.now net }
+    ensures { result ≡ is_net_named word.now net }
 {
     word == b"net".as_slice() || word == proto_name(net)
 }

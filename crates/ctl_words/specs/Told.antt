@@ -6,11 +6,11 @@ use Rattle.ctl_words.specs.declared.fault.CtlError.{CtlError}
 use Rattle.ctl_words.specs.declared.fault.CtlError.TheVariants.{BadWord, BadArgument}
 
 -- the number of a fault
-abbrev pub number_of : CtlError → ℕ
-number_of BadWord = bad_word
-number_of BadArgument = bad_argument
+abbrev pub ctl_fault_number : CtlError → ℕ
+ctl_fault_number BadWord = bad_word
+ctl_fault_number BadArgument = bad_argument
 
 -- the reading with the number in the fault's place
-abbrev pub told : Result Ctl CtlError → Result Ctl ℕ
-told (Ok c) = Ok c
-told (Err fault) = Err (number_of fault)
+abbrev pub told_as_number : Result Ctl CtlError → Result Ctl ℕ
+told_as_number (Ok c) = Ok c
+told_as_number (Err fault) = Err (ctl_fault_number fault)

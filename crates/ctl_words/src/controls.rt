@@ -6,7 +6,7 @@ ghost use Rattle.std.specs.Prelude.{ℕ, List};
 ghost use Rattle.std.specs.Str.Parse.{digits_value};
 ghost use Rattle.net_base.specs.declared.names.Ctl.TheVariants as ctl;
 ghost use Rattle.net_base.specs.ControlWords as spec;
-ghost use Rattle.ctl_words.specs.Told.{told};
+ghost use Rattle.ctl_words.specs.Told.{told_as_number};
 
 use crate::fault::CtlError;
 use crate::numbers::{byte, place, port};
@@ -17,7 +17,7 @@ use words::split_first;
 
 /// The control that a text says, which a newline may end.
 pub fn read_ctl(text: &[u8]) -> Result<Ctl, CtlError>
-    ensures { told result ≡ spec.read text.now }
+    ensures { told_as_number result ≡ spec.read text.now }
 {
     if !is_word(first_word(text)) {
         return Err(CtlError::BadWord);

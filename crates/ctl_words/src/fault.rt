@@ -1,6 +1,6 @@
 //! Why a text isn't a control.
 ghost use Rattle.std.specs.Prelude.{◌≡◌};
-ghost use Rattle.ctl_words.specs.Told.{number_of};
+ghost use Rattle.ctl_words.specs.Told.{ctl_fault_number};
 
 /// Why a text isn't a control.
 #[derive(Clone, Copy, Debug, PartialEq, Eq)]
@@ -14,7 +14,7 @@ pub enum CtlError {
 impl CtlError {
     /// Its number in a reply.
     pub fn number(self) -> u32
-        ensures { result ≡ number_of self }
+        ensures { result ≡ ctl_fault_number self }
     {
         match self {
             CtlError::BadWord => 1,

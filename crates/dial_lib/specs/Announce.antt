@@ -5,7 +5,7 @@ use Rattle.net_base.specs.declared.reply.Reply.{Reply}
 use Rattle.net_base.specs.declared.world.Step.{Step}
 use Rattle.net_base.specs.declared.world.Step.TheVariants as step
 use Rattle.net_base.specs.Steps.{Names, Fid, Play, Ends, fid_of, is_bound, bind, unbind, puts_text, closes_fid, netmkaddr, reply_lines, clone_path, line_address, is_accepted, announces_line, play_of}
-use Rattle.dial_lib.specs.Lines.{first, first_line}
+use Rattle.dial_lib.specs.Lines.{first_tried, first_dial_line}
 use Rattle.dial_lib.specs.declared.announce.Announce.{Announce}
 use Rattle.dial_lib.specs.declared.announce.AnnouncePhase.{AnnouncePhase}
 use Rattle.dial_lib.specs.declared.announce.AnnouncePhase.TheVariants as phase
@@ -21,11 +21,11 @@ opens_line called None = None
 opens_line called (Some line) = Some (request.Open called (clone_path line) mode.Both)
 
 abbrev pub writes_line : List ℕ → List (List ℕ) → Request
-writes_line called lines = request.Write called (codes "announce " ++ line_address (first_line lines))
+writes_line called lines = request.Write called (codes "announce " ++ line_address (first_dial_line lines))
 
 abbrev pub asks_by : AnnouncePhase → List ℕ → List ℕ → List (List ℕ) → Names → Option Request
 asks_by phase.Fresh called address lines names = Some (begins names called address)
-asks_by phase.Open called address lines names = opens_line called (first lines)
+asks_by phase.Open called address lines names = opens_line called (first_tried lines)
 asks_by phase.Write called address lines names = Some (writes_line called lines)
 asks_by phase.Close called address lines names = Some (request.Close called)
 asks_by phase.Through called address lines names = None
@@ -52,8 +52,8 @@ after t r = record t { phase = phase_after t.phase r; lines = lines_after t.phas
 
 -- The play that it stands for.
 
-abbrev pub writing : ℕ → List ℕ → Names → Fid → List ℕ → Play
-writing h called base made line = puts_text h made made.file (codes "announce " ++ line_address line) (closes_fid h made (Ends base) (Ends base)) (Ends (bind called made base))
+abbrev pub writing_line : ℕ → List ℕ → Names → Fid → List ℕ → Play
+writing_line h called base made line = puts_text h made made.file (codes "announce " ++ line_address line) (closes_fid h made (Ends base) (Ends base)) (Ends (bind called made base))
 
 pub data Stands (h : ℕ) (called address : List ℕ) (names : Names) : AnnouncePhase → List (List ℕ) → Play → Type 0 where
   IsFresh : (lines : List (List ℕ)) → Stands h called address names phase.Fresh lines (play_of h names (step.Announce called address))
@@ -61,7 +61,7 @@ pub data Stands (h : ℕ) (called address : List ℕ) (names : Names) : Announce
   -- the name was bound already
   IsOver : Stands h called address names phase.Open [] (Ends names)
   IsWrite : (base : Names) (made : Fid) (line : List ℕ) (lines : List (List ℕ)) → is_bound base called ≡ false → names ≡ bind called made base → made.mode ≡ mode.Both
-      → Stands h called address names phase.Write (line ∷ lines) (writing h called base made line)
+      → Stands h called address names phase.Write (line ∷ lines) (writing_line h called base made line)
   IsClose : (base : Names) (made : Fid) (lines : List (List ℕ)) → fid_of called names ≡ Some made → unbind called names ≡ base
       → Stands h called address names phase.Close lines (closes_fid h made (Ends base) (Ends base))
   IsThrough : (lines : List (List ℕ)) → Stands h called address names phase.Through lines (Ends names)

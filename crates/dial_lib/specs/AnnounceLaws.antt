@@ -9,10 +9,10 @@ use Rattle.dial_lib.specs.declared.announce.Announce.{Announce}
 use Rattle.dial_lib.specs.declared.announce.AnnouncePhase.{AnnouncePhase}
 use Rattle.dial_lib.specs.declared.announce.AnnouncePhase.TheVariants as phase
 use Rattle.dial_lib.specs.Announce as spec
-use Rattle.dial_lib.specs.Announce.{Stands, IsFresh, IsOpen, IsOver, IsWrite, IsClose, IsThrough, writing}
-use Rattle.dial_lib.specs.Moves.{MovesBy, moves_from, by_test, chosen, no_lines}
+use Rattle.dial_lib.specs.Announce.{Stands, IsFresh, IsOpen, IsOver, IsWrite, IsClose, IsThrough, writing_line}
+use Rattle.dial_lib.specs.Moves.{MovesBy, moves_from, by_test, chosen_play, no_lines}
 use Rattle.dial_lib.specs.Names.{unbind_free}
-use Rattle.dial_lib.specs.Openings.{unopened_no, Gave, Opens, Refuses, gave, path_range}
+use Rattle.dial_lib.specs.Openings.{unopened_no, Gave, Opens, Refuses, gave_open, path_range}
 use Rattle.dial_lib.specs.Puts.{puts_head, put_other, announces_other}
 use Rattle.net_base.specs.declared.request.Request.{Request}
 use Rattle.net_base.specs.declared.request.Request.TheVariants as request
@@ -30,15 +30,15 @@ fresh_heads h names called address true = (_, refl, refl)
 fresh_heads h names called address false = (_, refl, refl)
 
 -- the name is bound to the file that was made
-pub found : (called : List ℕ) (base names : Names) (made : Fid) → names ≡ bind called made base → fid_of called names ≡ Some made
-found called base names made is = rw (is, same_text called) refl
+pub announce_found : (called : List ℕ) (base names : Names) (made : Fid) → names ≡ bind called made base → fid_of called names ≡ Some made
+announce_found called base names made is = rw (is, same_text called) refl
 
 -- a text goes to a file that a name is bound to
 pub writing_heads : (h : ℕ) (names : Names) (called text : List ℕ) (made : Fid) → fid_of called names ≡ Some made → made.mode ≡ mode.Both
     → (refused next : Play) → Heads h names (Some (request.Write called text)) (puts_text h made made.file text refused next)
 writing_heads h names called text made is both refused next =
     let put = puts_head h made made.file text in
-    (put.0, put.1 refused next, rw (is) (chosen (mode_writes made.mode) _ _ put.0 (ap mode_writes both) (put.1 (Ends names) (Ends names))))
+    (put.0, put.1 refused next, rw (is) (chosen_play (mode_writes made.mode) _ _ put.0 (ap mode_writes both) (put.1 (Ends names) (Ends names))))
 
 heads : (h : ℕ) (called address : List ℕ) (names : Names) (ph : AnnouncePhase) (lines : List (List ℕ)) (p : Play)
     → Stands h called address names ph lines p → Heads h names (spec.asks_by ph called address lines names) p
@@ -47,7 +47,7 @@ heads h called address names _ _ _ (IsOpen [] free) = refl
 heads h called address names _ _ _ (IsOpen (line ∷ lines) free) = (_, refl, rw free refl)
 heads h called address names _ _ _ IsOver = refl
 heads h called address names _ _ _ (IsWrite base made line lines free is both) =
-    writing_heads h names called (codes "announce " ++ line_address line) made (found called base names made is) both (closes_fid h made (Ends base) (Ends base)) (Ends (bind called made base))
+    writing_heads h names called (codes "announce " ++ line_address line) made (announce_found called base names made is) both (closes_fid h made (Ends base) (Ends base)) (Ends (bind called made base))
 heads h called address names _ _ _ (IsClose base made lines is left) = (_, refl, rw is refl)
 heads h called address names _ _ _ (IsThrough lines) = refl
 
@@ -61,7 +61,7 @@ move_fresh h called address names r true is fit = rw (no_lines r (unopened_no r 
 move_fresh h called address names r false is fit = IsOpen (reply_lines r) is
 
 move_line : (h : ℕ) (called address : List ℕ) (names : Names) (line : List ℕ) (lines : List (List ℕ)) (o : Option Fid) (r : Reply) → is_bound names called ≡ false → Gave mode.Both o r
-    → Stands h called address (bound_after called names o) (if is_opening r then phase.Write else phase.Through) (line ∷ lines) (on_fid o (Ends names) (λ (made : Fid). writing h called names made line))
+    → Stands h called address (bound_after called names o) (if is_opening r then phase.Write else phase.Through) (line ∷ lines) (on_fid o (Ends names) (λ (made : Fid). writing_line h called names made line))
 move_line h called address names line lines o r free (Opens made is both slot opening) = rw (is, opening) (IsWrite names made line lines free refl both)
 move_line h called address names line lines o r free (Refuses is opening) = rw (is, opening) (IsThrough (line ∷ lines))
 
@@ -77,7 +77,7 @@ move_write : (h : ℕ) (called address : List ℕ) (base names : Names) (made : 
 move_write h called address base names made line lines r free is =
     by_test (λ b p. Stands h called address names (if b then phase.Through else phase.Close) (line ∷ lines) p) (is_accepted r) (Ends (bind called made base)) (closes_fid h made (Ends base) (Ends base))
     (subst (λ (bound : Names). Stands h called address names phase.Through (line ∷ lines) (Ends bound)) is (IsThrough (line ∷ lines)))
-    (IsClose base made (line ∷ lines) (found called base names made is) (front_left called base names made free is))
+    (IsClose base made (line ∷ lines) (announce_found called base names made is) (front_left called base names made free is))
 
 moves : (h : ℕ) (called address : List ℕ) (names : Names) (ph : AnnouncePhase) (lines : List (List ℕ)) (p : Play) (q : Request) (r : Reply)
     → Stands h called address names ph lines p → spec.asks_by ph called address lines names ≡ Some q → fits_play p r ≡ true
@@ -87,7 +87,7 @@ moves h called address names _ _ _ q r (IsOpen [] free) asked fit = absurd (sear
 moves h called address names _ _ _ q r (IsOpen (line ∷ lines) free) asked fit =
     rw (open_settle names called (clone_path line) r free)
     (move_line h called address names line lines (opened_fid mode.Both (openable (walk (clone_path line)) mode.Both) r) r free
-    (gave (clone_path line) mode.Both (openable (walk (clone_path line)) mode.Both) r (path_range (clone_path line) mode.Both) fit))
+    (gave_open (clone_path line) mode.Both (openable (walk (clone_path line)) mode.Both) r (path_range (clone_path line) mode.Both) fit))
 moves h called address names _ _ _ q r IsOver asked fit = absurd (search (rules, asked))
 moves h called address names _ _ _ q r (IsWrite base made line lines free is both) asked fit =
     subst (λ (p : Play). Stands h called address names (spec.phase_after phase.Write r) (line ∷ lines) p)

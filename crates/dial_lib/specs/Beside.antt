@@ -18,13 +18,13 @@ abbrev pub opens_so : List ℕ → Fid → FileName → Mode → Request
 opens_so called f to m = request.Open called (path_of (node.File f.proto f.slot to)) m
 
 -- .. to read and to write
-abbrev pub opens_file : List ℕ → Fid → FileName → Request
-opens_file called f to = opens_so called f to mode.Both
+abbrev pub opens_both_ways : List ℕ → Fid → FileName → Request
+opens_both_ways called f to = opens_so called f to mode.Both
 
 -- the name that must be bound is asked for first, then the new one
 abbrev pub asks_file : FileName → List ℕ → List ℕ → Names → Option Fid → Request
 asks_file to called from names None = request.Unbound from
-asks_file to called from names (Some f) = if is_bound names called then request.Unbound called else opens_file called f to
+asks_file to called from names (Some f) = if is_bound names called then request.Unbound called else opens_both_ways called f to
 
 abbrev pub asks_beside : FileName → List ℕ → List ℕ → Names → Request
 asks_beside to called from names = asks_file to called from names (fid_of from names)

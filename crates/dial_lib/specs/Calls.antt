@@ -19,59 +19,59 @@ use Rattle.script_task.specs.Fitting.{is_opening}
 
 -- Requests.
 
-abbrev pub begins_at : List ℕ → Option Fid → Request
-begins_at called None = request.Unbound called
-begins_at called (Some f) = opens_so call_name f file.Listen mode.Both
+abbrev pub begins_at_call : List ℕ → Option Fid → Request
+begins_at_call called None = request.Unbound called
+begins_at_call called (Some f) = opens_so call_name f file.Listen mode.Both
 
 abbrev pub begins_by : List ℕ → Names → Option (List ℕ) → Request
 begins_by called names (Some used) = request.Unbound used
-begins_by called names None = begins_at called (fid_of called names)
+begins_by called names None = begins_at_call called (fid_of called names)
 
 -- a call is taken at the conversation of the name, where none is open
 abbrev pub begins : List ℕ → Names → Request
 begins called names = begins_by called names (taken_name names)
 
 -- a file of the call is opened
-abbrev pub opens_file : List ℕ → FileName → Mode → Option Fid → Request
-opens_file called to m None = request.Unbound call_name
-opens_file called to m (Some f) = opens_so called f to m
+abbrev pub opens_call_file : List ℕ → FileName → Mode → Option Fid → Request
+opens_call_file called to m None = request.Unbound call_name
+opens_call_file called to m (Some f) = opens_so called f to m
 
-abbrev pub tells : List ℕ → Request
-tells called = request.Read called 64
+abbrev pub tells_call : List ℕ → Request
+tells_call called = request.Read called 64
 
-abbrev pub closes : List ℕ → Request
-closes called = request.Close called
+abbrev pub closes_call : List ℕ → Request
+closes_call called = request.Close called
 
 -- what is asked for in a phase, where a read and an answer ask for this
 abbrev pub asks_by : CallPhase → List ℕ → Option Request → Names → Option Request
 asks_by phase.Fresh called own names = Some (begins called names)
-asks_by phase.Data called own names = Some (opens_file data_name file.Data mode.Both (fid_of call_name names))
-asks_by phase.Remote called own names = Some (opens_file remote_name file.Remote mode.Read (fid_of call_name names))
-asks_by phase.TellRemote called own names = Some (tells remote_name)
-asks_by phase.CloseRemote called own names = Some (closes remote_name)
-asks_by phase.Local called own names = Some (opens_file local_name file.Local mode.Read (fid_of call_name names))
-asks_by phase.TellLocal called own names = Some (tells local_name)
-asks_by phase.CloseLocal called own names = Some (closes local_name)
+asks_by phase.Data called own names = Some (opens_call_file data_name file.Data mode.Both (fid_of call_name names))
+asks_by phase.Remote called own names = Some (opens_call_file remote_name file.Remote mode.Read (fid_of call_name names))
+asks_by phase.TellRemote called own names = Some (tells_call remote_name)
+asks_by phase.CloseRemote called own names = Some (closes_call remote_name)
+asks_by phase.Local called own names = Some (opens_call_file local_name file.Local mode.Read (fid_of call_name names))
+asks_by phase.TellLocal called own names = Some (tells_call local_name)
+asks_by phase.CloseLocal called own names = Some (closes_call local_name)
 asks_by phase.Read called own names = own
 asks_by phase.Answer called own names = own
-asks_by phase.LeaveData called own names = Some (closes data_name)
-asks_by phase.LeaveCall called own names = Some (closes call_name)
-asks_by phase.ShutRemote called own names = Some (closes remote_name)
-asks_by phase.ShutLocal called own names = Some (closes local_name)
-asks_by phase.ShutData called own names = Some (closes data_name)
-asks_by phase.ShutCall called own names = Some (closes call_name)
+asks_by phase.LeaveData called own names = Some (closes_call data_name)
+asks_by phase.LeaveCall called own names = Some (closes_call call_name)
+asks_by phase.ShutRemote called own names = Some (closes_call remote_name)
+asks_by phase.ShutLocal called own names = Some (closes_call local_name)
+asks_by phase.ShutData called own names = Some (closes_call data_name)
+asks_by phase.ShutCall called own names = Some (closes_call call_name)
 asks_by phase.Through called own names = None
 
 -- the file that is closed in a phase, in those that close one
 abbrev pub closes_by : CallPhase → Option Request
-closes_by phase.CloseRemote = Some (closes remote_name)
-closes_by phase.CloseLocal = Some (closes local_name)
-closes_by phase.LeaveData = Some (closes data_name)
-closes_by phase.LeaveCall = Some (closes call_name)
-closes_by phase.ShutRemote = Some (closes remote_name)
-closes_by phase.ShutLocal = Some (closes local_name)
-closes_by phase.ShutData = Some (closes data_name)
-closes_by phase.ShutCall = Some (closes call_name)
+closes_by phase.CloseRemote = Some (closes_call remote_name)
+closes_by phase.CloseLocal = Some (closes_call local_name)
+closes_by phase.LeaveData = Some (closes_call data_name)
+closes_by phase.LeaveCall = Some (closes_call call_name)
+closes_by phase.ShutRemote = Some (closes_call remote_name)
+closes_by phase.ShutLocal = Some (closes_call local_name)
+closes_by phase.ShutData = Some (closes_call data_name)
+closes_by phase.ShutCall = Some (closes_call call_name)
 closes_by _ = None
 
 -- Phases.
@@ -171,47 +171,47 @@ abbrev pub data_play : ℕ → Next → Names → Proto → ℕ → ℕ → Play
 data_play h next base p n g = call_play h next base (call_fid p n g)
 
 -- a file that tells an address is open, and is read
-abbrev pub told_by : ℕ → Names → Proto → ℕ → ℕ → ℕ → FileName → (Addr → Play) → Fid → Play
-told_by h base p n g k to next f =
+abbrev pub call_told_by : ℕ → Names → Proto → ℕ → ℕ → ℕ → FileName → (Addr → Play) → Fid → Play
+call_told_by h base p n g k to next f =
     Asks (conversation_of h f) (event.File f.generation to 64) (λ (r : Reply).
     if_accepted r (closes_file h f (shuts_data h base p n g k) (next (address_told (bytes_in r)))) (closes_all h (f ∷ data_fid p n k ∷ call_fid p n g ∷ []) (Ends base)))
 
 abbrev pub telling : ℕ → Names → Proto → ℕ → ℕ → ℕ → ℕ → FileName → (Addr → Play) → Play
-telling h base p n g k j to next = told_by h base p n g k to next (told_fid p n j to)
+telling h base p n g k j to next = call_told_by h base p n g k to next (told_fid p n j to)
 
-abbrev pub told : ℕ → Names → Proto → ℕ → ℕ → ℕ → ℕ → FileName → Play → Play
-told h base p n g k j to next = closes_file h (told_fid p n j to) (shuts_data h base p n g k) next
+abbrev pub told_call : ℕ → Names → Proto → ℕ → ℕ → ℕ → ℕ → FileName → Play → Play
+told_call h base p n g k j to next = closes_file h (told_fid p n j to) (shuts_data h base p n g k) next
 
 -- the play that a phase stands for under names
-pub data Takes (h : ℕ) (called : List ℕ) (next : Next) : Names → CallPhase → Addr → Addr → Play → Type 0 where
+pub data TakesCall (h : ℕ) (called : List ℕ) (next : Next) : Names → CallPhase → Addr → Addr → Play → Type 0 where
   IsFresh : (names : Names) (remote local : Addr) → HaveSlots names
-      → Takes h called next names phase.Fresh remote local (with_call h called names (next names))
+      → TakesCall h called next names phase.Fresh remote local (with_call h called names (next names))
   IsData : (base : Names) (p : Proto) (n g : ℕ) (remote local : Addr) → AreFree base → n < 32
-      → Takes h called next (taken_names base p n g) phase.Data remote local (data_play h next base p n g)
+      → TakesCall h called next (taken_names base p n g) phase.Data remote local (data_play h next base p n g)
   IsRemote : (base : Names) (p : Proto) (n g k : ℕ) (remote local : Addr) → AreFree base → n < 32
-      → Takes h called next (open_names base p n g k) phase.Remote remote local (remote_play h next base p n g k)
+      → TakesCall h called next (open_names base p n g k) phase.Remote remote local (remote_play h next base p n g k)
   IsTellRemote : (base : Names) (p : Proto) (n g k j : ℕ) (remote local : Addr) → AreFree base → n < 32
-      → Takes h called next (bind remote_name (told_fid p n j file.Remote) (open_names base p n g k)) phase.TellRemote remote local
+      → TakesCall h called next (bind remote_name (told_fid p n j file.Remote) (open_names base p n g k)) phase.TellRemote remote local
       (telling h base p n g k j file.Remote (λ (a : Addr). local_play h next base p n g k a))
   IsCloseRemote : (base : Names) (p : Proto) (n g k j : ℕ) (remote local : Addr) → AreFree base → n < 32
-      → Takes h called next (bind remote_name (told_fid p n j file.Remote) (open_names base p n g k)) phase.CloseRemote remote local
-      (told h base p n g k j file.Remote (local_play h next base p n g k remote))
+      → TakesCall h called next (bind remote_name (told_fid p n j file.Remote) (open_names base p n g k)) phase.CloseRemote remote local
+      (told_call h base p n g k j file.Remote (local_play h next base p n g k remote))
   IsLocal : (base : Names) (p : Proto) (n g k : ℕ) (remote local : Addr) → AreFree base → n < 32
-      → Takes h called next (open_names base p n g k) phase.Local remote local (local_play h next base p n g k remote)
+      → TakesCall h called next (open_names base p n g k) phase.Local remote local (local_play h next base p n g k remote)
   IsTellLocal : (base : Names) (p : Proto) (n g k j : ℕ) (remote local : Addr) → AreFree base
-      → Takes h called next (bind local_name (told_fid p n j file.Local) (open_names base p n g k)) phase.TellLocal remote local
+      → TakesCall h called next (bind local_name (told_fid p n j file.Local) (open_names base p n g k)) phase.TellLocal remote local
       (telling h base p n g k j file.Local (λ (a : Addr). next base (call_fid p n g) (data_fid p n k) remote a))
   IsCloseLocal : (base : Names) (p : Proto) (n g k j : ℕ) (remote local : Addr) → AreFree base
-      → Takes h called next (bind local_name (told_fid p n j file.Local) (open_names base p n g k)) phase.CloseLocal remote local
-      (told h base p n g k j file.Local (next base (call_fid p n g) (data_fid p n k) remote local))
+      → TakesCall h called next (bind local_name (told_fid p n j file.Local) (open_names base p n g k)) phase.CloseLocal remote local
+      (told_call h base p n g k j file.Local (next base (call_fid p n g) (data_fid p n k) remote local))
   IsRead : (base : Names) (p : Proto) (n g k : ℕ) (remote local : Addr) → AreFree base
-      → Takes h called next (open_names base p n g k) phase.Read remote local (next base (call_fid p n g) (data_fid p n k) remote local)
+      → TakesCall h called next (open_names base p n g k) phase.Read remote local (next base (call_fid p n g) (data_fid p n k) remote local)
   IsShutRemote : (base : Names) (p : Proto) (n g k j : ℕ) (remote local : Addr) → AreFree base
-      → Takes h called next (bind remote_name (told_fid p n j file.Remote) (open_names base p n g k)) phase.ShutRemote remote local (shuts_told h base p n g k j file.Remote)
+      → TakesCall h called next (bind remote_name (told_fid p n j file.Remote) (open_names base p n g k)) phase.ShutRemote remote local (shuts_told h base p n g k j file.Remote)
   IsShutLocal : (base : Names) (p : Proto) (n g k j : ℕ) (remote local : Addr) → AreFree base
-      → Takes h called next (bind local_name (told_fid p n j file.Local) (open_names base p n g k)) phase.ShutLocal remote local (shuts_told h base p n g k j file.Local)
+      → TakesCall h called next (bind local_name (told_fid p n j file.Local) (open_names base p n g k)) phase.ShutLocal remote local (shuts_told h base p n g k j file.Local)
   IsShutData : (base : Names) (p : Proto) (n g k : ℕ) (remote local : Addr) → AreFree base
-      → Takes h called next (open_names base p n g k) phase.ShutData remote local (shuts_data h base p n g k)
+      → TakesCall h called next (open_names base p n g k) phase.ShutData remote local (shuts_data h base p n g k)
   IsShutCall : (base : Names) (p : Proto) (n g : ℕ) (remote local : Addr) → AreFree base
-      → Takes h called next (taken_names base p n g) phase.ShutCall remote local (shuts_call h base p n g)
-  IsThrough : (names : Names) (remote local : Addr) → Takes h called next names phase.Through remote local (Ends names)
+      → TakesCall h called next (taken_names base p n g) phase.ShutCall remote local (shuts_call h base p n g)
+  IsThrough : (names : Names) (remote local : Addr) → TakesCall h called next names phase.Through remote local (Ends names)

@@ -3,9 +3,9 @@ use Rattle.std.proofs.Common.{◌≡◌, ℕ, Bool, true, false, List, [], ◌�
 use Rattle.net_base.specs.declared.names.FileName.TheVariants as file
 use Rattle.net_base.specs.Steps.{Names, Fid, Play, fid_of, is_bound, bind, uses, asks_cs, closes_last, connected, dials, netmkaddr, dotted_name, line_address}
 use Rattle.dial_lib.specs.declared.dial.DialPhase.{DialPhase}
-use Rattle.dial_lib.specs.AnnounceLaws.{found, writing_heads}
+use Rattle.dial_lib.specs.AnnounceLaws.{announce_found, writing_heads}
 use Rattle.dial_lib.specs.BesideLaws.{opens_head}
-use Rattle.dial_lib.specs.Dials.{Stands, IsFresh, IsOpen, IsOver, IsWrite, IsWait, IsRetry, IsData, IsClose, IsThrough, Holds, asks_by, retrying}
+use Rattle.dial_lib.specs.Dials.{Stands, IsFresh, IsOpen, IsOver, IsWrite, IsWait, IsRetry, IsData, IsClose, IsThrough, HoldsCtl, asks_by, retrying}
 use Rattle.dial_lib.specs.Names.{apart}
 use Rattle.net_base.specs.declared.request.Request.TheVariants as request
 use Rattle.script_task.specs.Task.{Heads}
@@ -18,10 +18,10 @@ fresh h names called dotted address next false true = (_, refl, refl)
 fresh h names called dotted address next false false = (_, refl, refl)
 
 -- the dotted name is bound in front
-pub made_found : (called : List ℕ) (base names : Names) (made : Fid) → Holds called base names made → fid_of (dotted_name called) names ≡ Some made
-made_found called base names made holds = found (dotted_name called) base names made holds.names_are
+pub made_found : (called : List ℕ) (base names : Names) (made : Fid) → HoldsCtl called base names made → fid_of (dotted_name called) names ≡ Some made
+made_found called base names made holds = announce_found (dotted_name called) base names made holds.names_are
 
-pub still_free : (called : List ℕ) (base names : Names) (made : Fid) → Holds called base names made → is_bound names called ≡ false
+pub still_free : (called : List ℕ) (base names : Names) (made : Fid) → HoldsCtl called base names made → is_bound names called ≡ false
 still_free called base names made holds = rw (holds.names_are, apart called) holds.free.name
 
 pub dial_asks : (h : ℕ) (called address : List ℕ) (names : Names) (ph : DialPhase) (lines : List (List ℕ)) (p : Play)

@@ -11,17 +11,17 @@ use Rattle.dial_lib.specs.declared.dial.DialPhase.TheVariants as phase
 use Rattle.dial_lib.specs.AnnounceLaws.{front_left, open_settle}
 use Rattle.dial_lib.specs.BesideLaws.{opens_settle}
 use Rattle.dial_lib.specs.DialAsks.{made_found, still_free}
-use Rattle.dial_lib.specs.Dials.{Stands, IsFresh, IsOpen, IsOver, IsWrite, IsWait, IsRetry, IsData, IsClose, IsThrough, Free, Holds, asks_by, begins, opens_data, connecting, retrying, phase_after, lines_after}
+use Rattle.dial_lib.specs.Dials.{Stands, IsFresh, IsOpen, IsOver, IsWrite, IsWait, IsRetry, IsData, IsClose, IsThrough, Free, HoldsCtl, asks_by, begins, opens_data, connecting, retrying, phase_after, dial_lines_after}
 use Rattle.dial_lib.specs.Moves.{by_test, no_lines}
 use Rattle.dial_lib.specs.Names.{apart_too}
-use Rattle.dial_lib.specs.Openings.{unopened_no, Gave, Opens, Refuses, gave, path_range}
+use Rattle.dial_lib.specs.Openings.{unopened_no, Gave, Opens, Refuses, gave_open, path_range}
 use Rattle.dial_lib.specs.Puts.{Put, Waits, Goes, put}
 use Rattle.net_base.specs.declared.request.Request.{Request}
 use Rattle.script_task.specs.Fitting.{is_opening}
 use Rattle.net_base.specs.Requests.{settled, settles, bound_after}
 use Rattle.script_task.specs.Task.{follow, fits_play}
 
-unbind_front : (called : List ℕ) (base names : Names) (made : Fid) → Holds called base names made → unbind (dotted_name called) names ≡ base
+unbind_front : (called : List ℕ) (base names : Names) (made : Fid) → HoldsCtl called base names made → unbind (dotted_name called) names ≡ base
 unbind_front called base names made holds = front_left (dotted_name called) base names made holds.free.dotted holds.names_are
 
 move_fresh : (h : ℕ) (called address : List ℕ) (names : Names) (r : Reply) (b c : Bool) → is_bound names called ≡ b → is_bound names (dotted_name called) ≡ c
@@ -43,18 +43,18 @@ move_line h called address names line lines free o r (Opens made is both slot op
 move_line h called address names line lines free o r (Refuses is opening) = rw (is, opening) (IsOpen lines free)
 
 -- a connect is accepted, or isn't
-move_connect : (h : ℕ) (called address : List ℕ) (base names : Names) (made : Fid) (line : List ℕ) (lines : List (List ℕ)) → Holds called base names made → (b : Bool)
+move_connect : (h : ℕ) (called address : List ℕ) (base names : Names) (made : Fid) (line : List ℕ) (lines : List (List ℕ)) → HoldsCtl called base names made → (b : Bool)
     → Stands h called address names (if b then phase.Data else phase.Retry) (line ∷ lines) (if b then connected h called base made else retrying h called base made lines)
 move_connect h called address base names made line lines holds true = IsData base made (line ∷ lines) holds
 move_connect h called address base names made line lines holds false = IsRetry base made line lines holds
 
-move_put : (h : ℕ) (called address : List ℕ) (base names : Names) (made : Fid) (line : List ℕ) (lines : List (List ℕ)) → Holds called base names made → (r : Reply) (p : Play)
+move_put : (h : ℕ) (called address : List ℕ) (base names : Names) (made : Fid) (line : List ℕ) (lines : List (List ℕ)) → HoldsCtl called base names made → (r : Reply) (p : Play)
     → Put h made r (retrying h called base made lines) (connected h called base made) p
     → Stands h called address names (phase_after phase.Write r) (line ∷ lines) p
 move_put h called address base names made line lines holds r p (Waits granted is) = rw (granted, is) (IsWait base made line lines holds)
 move_put h called address base names made line lines holds r p (Goes granted is) = rw (granted, is) (move_connect h called address base names made line lines holds (is_accepted r))
 
-move_data : (h : ℕ) (called address : List ℕ) (base names : Names) (made : Fid) (lines : List (List ℕ)) → Holds called base names made → (o : Option Fid)
+move_data : (h : ℕ) (called address : List ℕ) (base names : Names) (made : Fid) (lines : List (List ℕ)) → HoldsCtl called base names made → (o : Option Fid)
     → Stands h called address (bound_after called names o) phase.Close lines (on_fid o (closes_last h made base) (λ (data_file : Fid). closes_last h made (bind called data_file base)))
 move_data h called address base names made lines holds None = IsClose base made lines (made_found called base names made holds) (unbind_front called base names made holds)
 move_data h called address base names made lines holds (Some d) =
@@ -66,14 +66,14 @@ settle_data names called dotted made r is = ap (λ o. settled names (opens_data 
 
 pub dial_moves : (h : ℕ) (called address : List ℕ) (names : Names) (ph : DialPhase) (lines : List (List ℕ)) (p : Play) (q : Request) (r : Reply)
     → Stands h called address names ph lines p → asks_by ph called address lines names ≡ Some q → fits_play p r ≡ true
-    → Stands h called address (settles names (asks_by ph called address lines names) r) (phase_after ph r) (lines_after ph r lines) (follow p r)
+    → Stands h called address (settles names (asks_by ph called address lines names) r) (phase_after ph r) (dial_lines_after ph r lines) (follow p r)
 dial_moves h called address names _ _ _ q r (IsFresh lines) asked fit =
     rw (settle_fresh names called (dotted_name called) address r _ _ refl refl) (move_fresh h called address names r _ _ refl refl fit)
 dial_moves h called address names _ _ _ q r (IsOpen [] free) asked fit = absurd (search (rules, asked))
 dial_moves h called address names _ _ _ q r (IsOpen (line ∷ lines) free) asked fit =
     rw (open_settle names (dotted_name called) (clone_path line) r free.dotted)
     (move_line h called address names line lines free (opened_fid mode.Both (openable (walk (clone_path line)) mode.Both) r) r
-    (gave (clone_path line) mode.Both (openable (walk (clone_path line)) mode.Both) r (path_range (clone_path line) mode.Both) fit))
+    (gave_open (clone_path line) mode.Both (openable (walk (clone_path line)) mode.Both) r (path_range (clone_path line) mode.Both) fit))
 dial_moves h called address names _ _ _ q r IsOver asked fit = absurd (search (rules, asked))
 dial_moves h called address names _ _ _ q r (IsWrite base made line lines holds) asked fit =
     move_put h called address base names made line lines holds r _ (put h made made.file (codes "connect " ++ line_address line) r (retrying h called base made lines) (connected h called base made) fit)

@@ -7,8 +7,8 @@ use Rattle.net_base.specs.declared.reply.Reply.{Reply}
 use Rattle.net_base.specs.declared.world.Step.{Step}
 use Rattle.net_base.specs.declared.world.Step.TheVariants as step
 use Rattle.net_base.specs.Steps.{Names, Fid, Play, Asks, Ends, fid_of, is_bound, bind, unbind, is_accepted, if_accepted, conversation_of, puts_text, closes_fid, closes_last, connected, dials, netmkaddr, reply_lines, clone_path, line_address, dotted_name, play_of}
-use Rattle.dial_lib.specs.Beside.{opens_file}
-use Rattle.dial_lib.specs.Lines.{first, first_line, other_lines}
+use Rattle.dial_lib.specs.Beside.{opens_both_ways}
+use Rattle.dial_lib.specs.Lines.{first_tried, first_dial_line, other_lines}
 use Rattle.dial_lib.specs.declared.dial.DialPhase.{DialPhase}
 use Rattle.dial_lib.specs.declared.dial.DialPhase.TheVariants as phase
 use Rattle.net_base.specs.declared.request.Request.{Request}
@@ -30,21 +30,21 @@ begins names called dotted address =
     then request.Unbound called
     else (if is_bound names dotted then request.Unbound dotted else request.Cs (netmkaddr address (codes "net") (codes "9fs")))
 
-abbrev pub opens_line : List ℕ → Option (List ℕ) → Option Request
-opens_line dotted None = None
-opens_line dotted (Some line) = Some (request.Open dotted (clone_path line) mode.Both)
+abbrev pub dial_opens_line : List ℕ → Option (List ℕ) → Option Request
+dial_opens_line dotted None = None
+dial_opens_line dotted (Some line) = Some (request.Open dotted (clone_path line) mode.Both)
 
 abbrev pub opens_data : List ℕ → List ℕ → Option Fid → Request
 opens_data called dotted None = request.Unbound dotted
-opens_data called dotted (Some f) = opens_file called f file.Data
+opens_data called dotted (Some f) = opens_both_ways called f file.Data
 
-abbrev pub connects : List ℕ → List (List ℕ) → Request
-connects dotted lines = request.Write dotted (codes "connect " ++ line_address (first_line lines))
+abbrev pub connect_request : List ℕ → List (List ℕ) → Request
+connect_request dotted lines = request.Write dotted (codes "connect " ++ line_address (first_dial_line lines))
 
 abbrev pub asks_by : DialPhase → List ℕ → List ℕ → List (List ℕ) → Names → Option Request
 asks_by phase.Fresh called address lines names = Some (begins names called (dotted_name called) address)
-asks_by phase.Open called address lines names = opens_line (dotted_name called) (first lines)
-asks_by phase.Write called address lines names = Some (connects (dotted_name called) lines)
+asks_by phase.Open called address lines names = dial_opens_line (dotted_name called) (first_tried lines)
+asks_by phase.Write called address lines names = Some (connect_request (dotted_name called) lines)
 asks_by phase.Wait called address lines names = Some (request.Wait (dotted_name called))
 asks_by phase.Retry called address lines names = Some (request.Close (dotted_name called))
 asks_by phase.Data called address lines names = Some (opens_data called (dotted_name called) (fid_of (dotted_name called) names))
@@ -66,15 +66,15 @@ phase_after phase.Data r = phase.Close
 phase_after phase.Close r = phase.Through
 phase_after phase.Through r = phase.Through
 
-abbrev pub lines_after : DialPhase → Reply → List (List ℕ) → List (List ℕ)
-lines_after phase.Fresh r lines = reply_lines r
-lines_after phase.Open r lines = if is_opening r then lines else other_lines lines
-lines_after phase.Retry r lines = other_lines lines
-lines_after _ r lines = lines
+abbrev pub dial_lines_after : DialPhase → Reply → List (List ℕ) → List (List ℕ)
+dial_lines_after phase.Fresh r lines = reply_lines r
+dial_lines_after phase.Open r lines = if is_opening r then lines else other_lines lines
+dial_lines_after phase.Retry r lines = other_lines lines
+dial_lines_after _ r lines = lines
 
 -- the dial after a reply
 abbrev pub after : Dialling → Reply → Dialling
-after d r = record d { phase = phase_after d.phase r; lines = lines_after d.phase r d.lines }
+after d r = record d { phase = phase_after d.phase r; lines = dial_lines_after d.phase r d.lines }
 
 -- The play that it stands for.
 
@@ -84,7 +84,7 @@ pub record Free (called : List ℕ) (base : Names) : Type 0 where
   pub dotted : is_bound base (dotted_name called) ≡ false
 
 -- the ctl file of a line is bound in front of the names
-pub record Holds (called : List ℕ) (base names : Names) (made : Fid) : Type 0 where
+pub record HoldsCtl (called : List ℕ) (base names : Names) (made : Fid) : Type 0 where
   pub free : Free called base
   pub names_are : names ≡ bind (dotted_name called) made base
   pub both : made.mode ≡ mode.Both
@@ -108,13 +108,13 @@ pub data Stands (h : ℕ) (called address : List ℕ) (names : Names) : DialPhas
   IsOpen : (lines : List (List ℕ)) → Free called names → Stands h called address names phase.Open lines (dials h called names lines)
   -- one of the names was bound already
   IsOver : Stands h called address names phase.Open [] (Ends names)
-  IsWrite : (base : Names) (made : Fid) (line : List ℕ) (lines : List (List ℕ)) → Holds called base names made
+  IsWrite : (base : Names) (made : Fid) (line : List ℕ) (lines : List (List ℕ)) → HoldsCtl called base names made
       → Stands h called address names phase.Write (line ∷ lines) (connecting h called base made line lines)
-  IsWait : (base : Names) (made : Fid) (line : List ℕ) (lines : List (List ℕ)) → Holds called base names made
+  IsWait : (base : Names) (made : Fid) (line : List ℕ) (lines : List (List ℕ)) → HoldsCtl called base names made
       → Stands h called address names phase.Wait (line ∷ lines) (waiting h called base made lines)
-  IsRetry : (base : Names) (made : Fid) (line : List ℕ) (lines : List (List ℕ)) → Holds called base names made
+  IsRetry : (base : Names) (made : Fid) (line : List ℕ) (lines : List (List ℕ)) → HoldsCtl called base names made
       → Stands h called address names phase.Retry (line ∷ lines) (retrying h called base made lines)
-  IsData : (base : Names) (made : Fid) (lines : List (List ℕ)) → Holds called base names made
+  IsData : (base : Names) (made : Fid) (lines : List (List ℕ)) → HoldsCtl called base names made
       → Stands h called address names phase.Data lines (connected h called base made)
   IsClose : (base : Names) (made : Fid) (lines : List (List ℕ)) → fid_of (dotted_name called) names ≡ Some made → unbind (dotted_name called) names ≡ base
       → Stands h called address names phase.Close lines (closes_last h made base)

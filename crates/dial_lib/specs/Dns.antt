@@ -20,12 +20,12 @@ writes_by None = request.Close data_name
 writes_by (Some text) = request.Write data_name text
 
 -- the answer to what was read is written, or the call is closed where there is none
-abbrev pub writes : List ℕ → Names → Request
-writes message names = writes_by (dns_answer names.zone message)
+abbrev pub writes_answer : List ℕ → Names → Request
+writes_answer message names = writes_by (dns_answer names.zone message)
 
 -- what is asked for where a call is read, or answered
 abbrev pub own_request : CallPhase → List ℕ → Names → Option Request
-own_request phase.Answer message names = Some (writes message names)
+own_request phase.Answer message names = Some (writes_answer message names)
 own_request _ message names = Some (request.Read data_name 8192)
 
 abbrev pub asks_by : CallPhase → List ℕ → List ℕ → Names → Option Request
@@ -40,13 +40,13 @@ abbrev pub read_phase : List ℕ → CallPhase
 read_phase message = calls.if_so (is_answered message) phase.Answer phase.LeaveData
 
 -- a call is closed, and nothing else of it is open
-abbrev pub is_last : CallPhase → Bool
-is_last phase.LeaveCall = true
-is_last _ = false
+abbrev pub is_last_answer : CallPhase → Bool
+is_last_answer phase.LeaveCall = true
+is_last_answer _ = false
 
 -- where calls are left, the next one is taken when one is closed
 abbrev pub phase_by : CallPhase → ℕ → Reply → CallPhase
-phase_by ph more r = calls.if_so (is_last ph && (is_accepted r && nat_lt 0 more)) phase.Fresh (calls.phase_after ph (read_phase (bytes_in r)) r)
+phase_by ph more r = calls.if_so (is_last_answer ph && (is_accepted r && nat_lt 0 more)) phase.Fresh (calls.phase_after ph (read_phase (bytes_in r)) r)
 
 abbrev pub phase_after : Dns → Reply → CallPhase
 phase_after t r = phase_by t.phase t.more r
@@ -79,7 +79,7 @@ serves_next h called more base call data_file remote local =
 
 pub data Stands (h : ℕ) (called : List ℕ) : Names → CallPhase → ℕ → List ℕ → Play → Type 0 where
   IsTaking : (names : Names) (ph : CallPhase) (more : ℕ) (message : List ℕ) (remote local : Addr) (p : Play)
-      → calls.Takes h called (serves_next h called more) names ph remote local p → Stands h called names ph more message p
+      → calls.TakesCall h called (serves_next h called more) names ph remote local p → Stands h called names ph more message p
   IsAnswer : (base : Names) (p : Proto) (n g k : ℕ) (more : ℕ) (message : List ℕ) → calls.AreFree base → is_answered message ≡ true
       → Stands h called (calls.open_names base p n g k) phase.Answer more message
       (answers_call h (calls.call_fid p n g) (calls.data_fid p n k) (dns_answer base.zone message) (Ends base) (then_more h called more base))

@@ -13,7 +13,7 @@ use Rattle.net_base.specs.Versions.{Tuples}
 use Rattle.dial_lib.specs.declared.call.CallPhase.{CallPhase}
 use Rattle.dial_lib.specs.declared.call.CallPhase.TheVariants as phase
 use Rattle.dial_lib.specs.declared.dns.Dns.{Dns}
-use Rattle.dial_lib.specs.Calls.{Takes, IsFresh, IsData, IsRemote, IsTellRemote, IsCloseRemote, IsLocal, IsTellLocal, IsCloseLocal, IsRead, IsShutRemote, IsShutLocal, IsShutData, IsShutCall, IsThrough, AreFree, asks_by, if_so, call_fid, data_fid, open_names, taken_names, shuts_data, shuts_call}
+use Rattle.dial_lib.specs.Calls.{TakesCall, IsFresh, IsData, IsRemote, IsTellRemote, IsCloseRemote, IsLocal, IsTellLocal, IsCloseLocal, IsRead, IsShutRemote, IsShutLocal, IsShutData, IsShutCall, IsThrough, AreFree, asks_by, if_so, call_fid, data_fid, open_names, taken_names, shuts_data, shuts_call}
 use Rattle.dial_lib.specs.CallLaws as laws
 use Rattle.dial_lib.specs.Dns as spec
 use Rattle.dial_lib.specs.Dns.{Stands, IsTaking, IsAnswer, IsLeaveData, IsLeaveCall}
@@ -54,7 +54,7 @@ begun_so h names called more slots = begins h names called more [] slots
 
 -- what a call asks for itself is a read
 own_is : (h : ℕ) (called : List ℕ) (more : ℕ) (message : List ℕ) (names : Names) (ph : CallPhase) (remote local : Addr) (p : Play)
-    → Takes h called (spec.serves_next h called more) names ph remote local p → asks_by ph called (Some (request.Read data_name 8192)) names ≡ spec.asks_by ph called message names
+    → TakesCall h called (spec.serves_next h called more) names ph remote local p → asks_by ph called (Some (request.Read data_name 8192)) names ≡ spec.asks_by ph called message names
 own_is h called more message _ _ _ _ _ (IsFresh names remote local slots) = refl
 own_is h called more message _ _ _ _ _ (IsData base p n g remote local free low) = refl
 own_is h called more message _ _ _ _ _ (IsRemote base p n g k remote local free low) = refl
@@ -71,7 +71,7 @@ own_is h called more message _ _ _ _ _ (IsShutCall base p n g remote local free)
 own_is h called more message _ _ _ _ _ (IsThrough names remote local) = refl
 
 heads_taking : (h : ℕ) (called : List ℕ) (more : ℕ) (message : List ℕ) (names : Names) (ph : CallPhase) (remote local : Addr) (p : Play)
-    → Takes h called (spec.serves_next h called more) names ph remote local p → Heads h names (spec.asks_by ph called message names) p
+    → TakesCall h called (spec.serves_next h called more) names ph remote local p → Heads h names (spec.asks_by ph called message names) p
 heads_taking h called more message names ph remote local p takes =
     subst (λ (o : Option Request). Heads h names o p) (own_is h called more message names ph remote local p takes)
     (laws.call_heads h called (spec.serves_next h called more) (λ (a b : Addr). Some (request.Read data_name 8192)) (λ base q n g k a b. (_, refl, refl)) names ph remote local p takes)
@@ -108,7 +108,7 @@ moved_told h called more base p n g k message remote local free true = moved_rea
 moved_told h called more base p n g k message remote local free false = IsTaking _ _ more message _ _ _ (IsShutData base p n g k remote local free)
 
 moved_taking : (h : ℕ) (called : List ℕ) (more : ℕ) (message : List ℕ) (names : Names) (ph : CallPhase) (remote local : Addr) (p : Play) (r : Reply)
-    → Takes h called (spec.serves_next h called more) names ph remote local p → fits_play p r ≡ true
+    → TakesCall h called (spec.serves_next h called more) names ph remote local p → fits_play p r ≡ true
     → Stands h called (settles names (asks_by ph called (Some (request.Read data_name 8192)) names) r) (spec.phase_by ph more r) (spec.more_after ph more) (spec.message_after ph r message) (follow p r)
 moved_taking h called more message _ _ _ _ _ r (IsFresh names remote local slots) fit = IsTaking _ _ more message _ _ _ (laws.moved_fresh h called (spec.serves_next h called more) names remote local r (taken_name names) refl slots fit)
 moved_taking h called more message _ _ _ _ _ r (IsData base p n g remote local free low) fit = IsTaking _ _ more message _ _ _ (laws.moved_data h called (spec.serves_next h called more) base p n g remote local r free low fit)

@@ -20,12 +20,12 @@ abbrev pub reads_so : List ℕ → ℕ → Addr → Addr → Request
 reads_so called count remote local = request.Hear data_name count (heard_so called remote local)
 
 -- the datagram is read
-abbrev pub reads : Hread → Request
-reads t = reads_so t.name t.count t.remote t.local
+abbrev pub reads_datagram : Hread → Request
+reads_datagram t = reads_so t.name t.count t.remote t.local
 
 -- the next request under these names
 abbrev pub asks : Hread → Names → Option Request
-asks t names = calls.asks_by t.phase t.name (Some (reads t)) names
+asks t names = calls.asks_by t.phase t.name (Some (reads_datagram t)) names
 
 -- the task after a reply
 abbrev pub after : Hread → Reply → Hread
@@ -40,7 +40,7 @@ abbrev pub hears_next : ℕ → List ℕ → ℕ → calls.Next
 hears_next h called count base call data_file remote local = hears_call h base count call data_file (heard_so called remote local)
 
 abbrev pub StandsFor : ℕ → Names → Hread → Play → Type 0
-StandsFor h names t p = calls.Takes h t.name (hears_next h t.name t.count) names t.phase t.remote t.local p
+StandsFor h names t p = calls.TakesCall h t.name (hears_next h t.name t.count) names t.phase t.remote t.local p
 
 -- an hread that has recorded nothing yet
 abbrev pub begun : List ℕ → ℕ → Hread

@@ -9,7 +9,7 @@ use Rattle.net_base.specs.Steps.{Names, Play, Ends, hearing, is_accepted, taken_
 use Rattle.dial_lib.specs.declared.call.CallPhase.{CallPhase}
 use Rattle.dial_lib.specs.declared.call.CallPhase.TheVariants as phase
 use Rattle.dial_lib.specs.declared.hread.Hread.{Hread}
-use Rattle.dial_lib.specs.Calls.{Takes, IsFresh, IsData, IsRemote, IsTellRemote, IsCloseRemote, IsLocal, IsTellLocal, IsCloseLocal, IsRead, IsShutRemote, IsShutLocal, IsShutData, IsShutCall, IsThrough, AreFree, asks_by, if_so, open_names, phase_after, remote_after, local_after, shuts_data}
+use Rattle.dial_lib.specs.Calls.{TakesCall, IsFresh, IsData, IsRemote, IsTellRemote, IsCloseRemote, IsLocal, IsTellLocal, IsCloseLocal, IsRead, IsShutRemote, IsShutLocal, IsShutData, IsShutCall, IsThrough, AreFree, asks_by, if_so, open_names, phase_after, remote_after, local_after, shuts_data}
 use Rattle.dial_lib.specs.CallLaws as laws
 use Rattle.dial_lib.specs.Hread as spec
 use Rattle.dial_lib.specs.Moves.{MovesBy, moves_from}
@@ -32,14 +32,14 @@ asks_so h names t p stands =
     laws.call_heads h t.name (spec.hears_next h t.name t.count) (λ (remote local : Addr). Some (spec.reads_so t.name t.count remote local)) (λ base q n g k remote local. (_, refl, refl)) names t.phase t.remote t.local p stands
 
 read_moves : (h : ℕ) (called : List ℕ) (count : ℕ) (base : Names) (p : Proto) (n g k : ℕ) (remote local : Addr) → AreFree base → (b : Bool)
-    → Takes h called (spec.hears_next h called count) (open_names (hearing (spec.heard_so called remote local) base) p n g k) (if_so b phase.Through phase.ShutData) remote local
+    → TakesCall h called (spec.hears_next h called count) (open_names (hearing (spec.heard_so called remote local) base) p n g k) (if_so b phase.Through phase.ShutData) remote local
     (if b then Ends (open_names (hearing (spec.heard_so called remote local) base) p n g k) else shuts_data h (hearing (spec.heard_so called remote local) base) p n g k)
 read_moves h called count base p n g k remote local free true = IsThrough (open_names (hearing (spec.heard_so called remote local) base) p n g k) remote local
 read_moves h called count base p n g k remote local free false = IsShutData (hearing (spec.heard_so called remote local) base) p n g k remote local (still_free called remote local base free)
 
 moves : (h : ℕ) (called : List ℕ) (count : ℕ) (names : Names) (ph : CallPhase) (remote local : Addr) (p : Play) (r : Reply)
-    → Takes h called (spec.hears_next h called count) names ph remote local p → fits_play p r ≡ true
-    → Takes h called (spec.hears_next h called count) (settles names (asks_by ph called (Some (spec.reads_so called count remote local)) names) r)
+    → TakesCall h called (spec.hears_next h called count) names ph remote local p → fits_play p r ≡ true
+    → TakesCall h called (spec.hears_next h called count) (settles names (asks_by ph called (Some (spec.reads_so called count remote local)) names) r)
     (phase_after ph phase.Through r) (remote_after ph r remote) (local_after ph r local) (follow p r)
 moves h called count _ _ _ _ _ r (IsFresh names remote local slots) fit = laws.moved_fresh h called (spec.hears_next h called count) names remote local r (taken_name names) refl slots fit
 moves h called count _ _ _ _ _ r (IsData base p n g remote local free low) fit = laws.moved_data h called (spec.hears_next h called count) base p n g remote local r free low fit
@@ -66,4 +66,4 @@ moves_so = moves_from Hread spec.asks spec.after spec.StandsFor moves_by
 pub fresh : (h : ℕ) (names : Names) (called name : List ℕ) (count : ℕ) (remote local : Addr) → name ≡ called → HaveSlots names
     → spec.StandsFor h names (record { name = name; count = count; phase = phase.Fresh; remote = remote; local = local }) (play_of h names (step.Hread called count))
 fresh h names called name count remote local is slots =
-    subst (λ (x : List ℕ). Takes h x (spec.hears_next h x count) names phase.Fresh remote local (play_of h names (step.Hread called count))) (sym is) (IsFresh names remote local slots)
+    subst (λ (x : List ℕ). TakesCall h x (spec.hears_next h x count) names phase.Fresh remote local (play_of h names (step.Hread called count))) (sym is) (IsFresh names remote local slots)

@@ -13,16 +13,16 @@ use Rattle.net_base.specs.declared.request.Request.{Request}
 use Rattle.net_base.specs.declared.request.Request.TheVariants as request
 use Rattle.script_task.specs.Fitting.{is_unopened}
 
-abbrev pub writes_by : List ℕ → Names → Option Fid → Request
-writes_by bytes names None = request.Unbound data_name
-writes_by bytes names (Some f) = if is_answer bytes names.heard then request.Write data_name (text_behind bytes) else request.Misuse data_name
+abbrev pub hwrites_by : List ℕ → Names → Option Fid → Request
+hwrites_by bytes names None = request.Unbound data_name
+hwrites_by bytes names (Some f) = if is_answer bytes names.heard then request.Write data_name (text_behind bytes) else request.Misuse data_name
 
 -- the text is written, where the call is open and the headers are its own
 abbrev pub writes_so : List ℕ → List ℕ → Names → Request
-writes_so called bytes names = writes_by bytes names (open_call called names)
+writes_so called bytes names = hwrites_by bytes names (open_call called names)
 
-abbrev pub writes : Hwrite → Names → Request
-writes t names = writes_so t.name t.bytes names
+abbrev pub writes_datagram : Hwrite → Names → Request
+writes_datagram t names = writes_so t.name t.bytes names
 
 abbrev pub asks_by : HwritePhase → List ℕ → List ℕ → Names → Option Request
 asks_by phase.Write called bytes names = Some (writes_so called bytes names)

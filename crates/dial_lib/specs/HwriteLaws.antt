@@ -63,11 +63,11 @@ abbrev written : ℕ → Names → List ℕ → Option Fid → Play
 written h names bytes o =
     on_fid o (uses h data_name names) (λ (f : Fid). if is_answer bytes names.heard then answers h names (text_behind bytes) f else misuses h data_name names)
 
-heads_answer : (h : ℕ) (names : Names) (bytes : List ℕ) (f : Fid) → IsCall names f → (b : Bool) → is_answer bytes names.heard ≡ b → Heads h names (Some (spec.writes_by bytes names (Some f))) (written h names bytes (Some f))
+heads_answer : (h : ℕ) (names : Names) (bytes : List ℕ) (f : Fid) → IsCall names f → (b : Bool) → is_answer bytes names.heard ≡ b → Heads h names (Some (spec.hwrites_by bytes names (Some f))) (written h names bytes (Some f))
 heads_answer h names bytes f call true is = rw is (_, refl, rw (call.found, call.both, call.file_is) refl)
 heads_answer h names bytes f call false is = rw is (_, refl, refl)
 
-heads_open : (h : ℕ) (called bytes : List ℕ) (names : Names) (o : Option Fid) → open_call called names ≡ o → Heads h names (Some (spec.writes_by bytes names o)) (written h names bytes o)
+heads_open : (h : ℕ) (called bytes : List ℕ) (names : Names) (o : Option Fid) → open_call called names ≡ o → Heads h names (Some (spec.hwrites_by bytes names o)) (written h names bytes o)
 heads_open h called bytes names None is = (_, refl, refl)
 heads_open h called bytes names (Some f) is = heads_answer h names bytes f (open_is called names f is) (is_answer bytes names.heard) refl
 
@@ -95,7 +95,7 @@ moved_answer h called bytes names f r is true fit = rw ((written_free r fit).1) 
 moved_answer h called bytes names f r is false fit = rw fit (IsThrough names)
 
 moved_open : (h : ℕ) (called bytes : List ℕ) (names : Names) (o : Option Fid) (r : Reply) → open_call called names ≡ o → fits_play (written h names bytes o) r ≡ true
-    → Stands h called bytes (settled names (spec.writes_by bytes names o) r) (spec.phase_after phase.Write r) (follow (written h names bytes o) r)
+    → Stands h called bytes (settled names (spec.hwrites_by bytes names o) r) (spec.phase_after phase.Write r) (follow (written h names bytes o) r)
 moved_open h called bytes names None r is fit = rw fit (IsThrough names)
 moved_open h called bytes names (Some f) r is fit = moved_answer h called bytes names f r (open_is called names f is).found (is_answer bytes names.heard) fit
 

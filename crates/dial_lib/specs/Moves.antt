@@ -11,7 +11,7 @@ use Rattle.script_task.specs.Fitting.{fits}
 use Rattle.net_base.specs.Requests.{head, request_play, settled, settles, bound_after}
 use Rattle.script_task.specs.Task.{Heads, MovesSo, follow, fits_play}
 use Rattle.dial_lib.specs.Names.{bind_slots, unbind_slots}
-use Rattle.dial_lib.specs.Openings.{Gave, Opens, Refuses, gave, path_range}
+use Rattle.dial_lib.specs.Openings.{Gave, Opens, Refuses, gave_open, path_range}
 use Rattle.dial_lib.specs.Slots.{HaveSlots}
 
 -- after a reply to its request, if it has one, a task stands for the rest of the play
@@ -32,9 +32,9 @@ by_test P true next refused yes_so no_so = yes_so
 by_test P false next refused yes_so no_so = no_so
 
 -- a branch of a test
-pub chosen : (b : Bool) (p other : Play) (ask : Ask) → b ≡ true → head p ≡ Some ask → head (if b then p else other) ≡ Some ask
-chosen true p other ask is heads = heads
-chosen false p other ask is heads = absurd (search (rules, is))
+pub chosen_play : (b : Bool) (p other : Play) (ask : Ask) → b ≡ true → head p ≡ Some ask → head (if b then p else other) ≡ Some ask
+chosen_play true p other ask is heads = heads
+chosen_play false p other ask is heads = absurd (search (rules, is))
 
 -- a reply without lines
 pub no_lines : (r : Reply) → is_accepted r ≡ false → reply_lines r ≡ []
@@ -63,7 +63,7 @@ open_slots : (h : ℕ) (names : Names) (called path : List ℕ) (m : Mode) (r : 
     → fits_play (if b then uses h called names else opens h path m (Ends names) (λ (f : Fid). Ends (bind called f names))) r ≡ true
     → HaveSlots (if b then names else bound_after called names (opened_fid m (openable (walk path) m) r))
 open_slots h names called path m r true slots fit = slots
-open_slots h names called path m r false slots fit = opened_slots called names m (opened_fid m (openable (walk path) m) r) r slots (gave path m (openable (walk path) m) r (path_range path m) fit)
+open_slots h names called path m r false slots fit = opened_slots called names m (opened_fid m (openable (walk path) m) r) r slots (gave_open path m (openable (walk path) m) r (path_range path m) fit)
 
 -- names keep their slots
 pub settle_slots : (h : ℕ) (names : Names) (q : Request) (r : Reply) → HaveSlots names → fits_play (request_play h names q) r ≡ true → HaveSlots (settled names q r)

@@ -72,8 +72,8 @@ slot_among called (b ∷ bs) f slots is =
     each false low is ih = ih is
 
 -- the file that a name is bound to is in a slot that there is
-pub slot_of : (called : List ℕ) (names : Names) (f : Fid) → HaveSlots names → fid_of called names ≡ Some f → f.slot < 32
-slot_of called names f slots is = slot_among called names.bound f slots is
+pub bound_slot : (called : List ℕ) (names : Names) (f : Fid) → HaveSlots names → fid_of called names ≡ Some f → f.slot < 32
+bound_slot called names f slots is = slot_among called names.bound f slots is
 
 pub bind_slots : (called : List ℕ) (f : Fid) (names : Names) → f.slot < 32 → HaveSlots names → HaveSlots (bind called f names)
 bind_slots called f names low slots = rw (in_range f.slot low) slots

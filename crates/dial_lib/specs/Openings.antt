@@ -59,20 +59,20 @@ gave_file m p n f r lt fit = Refuses refl (not-true (is_opening r) fit)
 abbrev pub Ranged : Option Node → Type 0
 Ranged o = (n : Node) → o ≡ Some n → node_in_range n ≡ true
 
-pub gave : (path : List ℕ) (m : Mode) (o : Option Node) (r : Reply) → Ranged o → fits (open_event path m o) r ≡ true → Gave m (opened_fid m o r) r
-gave path m None r range fit = Refuses refl (not-true (is_opening r) fit)
-gave path m (Some node.Root) r range fit = Refuses refl (not-true (is_opening r) fit)
-gave path m (Some node.Cs) r range fit = Refuses refl (not-true (is_opening r) fit)
-gave path m (Some (node.Proto p)) r range fit = Refuses refl (not-true (is_opening r) fit)
-gave path m (Some (node.Dir p n)) r range fit = Refuses refl (not-true (is_opening r) fit)
-gave path m (Some (node.Clone p)) r range fit = gave_clone m p r fit
-gave path m (Some (node.File p n file.Listen)) r range fit = gave_listen m p n r fit
-gave path m (Some (node.File p n file.Ctl)) r range fit = gave_file m p n file.Ctl r (below n (range _ refl)) fit
-gave path m (Some (node.File p n file.Data)) r range fit = gave_file m p n file.Data r (below n (range _ refl)) fit
-gave path m (Some (node.File p n file.Err)) r range fit = gave_file m p n file.Err r (below n (range _ refl)) fit
-gave path m (Some (node.File p n file.Local)) r range fit = gave_file m p n file.Local r (below n (range _ refl)) fit
-gave path m (Some (node.File p n file.Remote)) r range fit = gave_file m p n file.Remote r (below n (range _ refl)) fit
-gave path m (Some (node.File p n file.Status)) r range fit = gave_file m p n file.Status r (below n (range _ refl)) fit
+pub gave_open : (path : List ℕ) (m : Mode) (o : Option Node) (r : Reply) → Ranged o → fits (open_event path m o) r ≡ true → Gave m (opened_fid m o r) r
+gave_open path m None r range fit = Refuses refl (not-true (is_opening r) fit)
+gave_open path m (Some node.Root) r range fit = Refuses refl (not-true (is_opening r) fit)
+gave_open path m (Some node.Cs) r range fit = Refuses refl (not-true (is_opening r) fit)
+gave_open path m (Some (node.Proto p)) r range fit = Refuses refl (not-true (is_opening r) fit)
+gave_open path m (Some (node.Dir p n)) r range fit = Refuses refl (not-true (is_opening r) fit)
+gave_open path m (Some (node.Clone p)) r range fit = gave_clone m p r fit
+gave_open path m (Some (node.File p n file.Listen)) r range fit = gave_listen m p n r fit
+gave_open path m (Some (node.File p n file.Ctl)) r range fit = gave_file m p n file.Ctl r (below n (range _ refl)) fit
+gave_open path m (Some (node.File p n file.Data)) r range fit = gave_file m p n file.Data r (below n (range _ refl)) fit
+gave_open path m (Some (node.File p n file.Err)) r range fit = gave_file m p n file.Err r (below n (range _ refl)) fit
+gave_open path m (Some (node.File p n file.Local)) r range fit = gave_file m p n file.Local r (below n (range _ refl)) fit
+gave_open path m (Some (node.File p n file.Remote)) r range fit = gave_file m p n file.Remote r (below n (range _ refl)) fit
+gave_open path m (Some (node.File p n file.Status)) r range fit = gave_file m p n file.Status r (below n (range _ refl)) fit
 
 checked_range : (path : List ℕ) (o : Option Node) → Ranged (checked_node path o)
 checked_range path None n is = absurd (none-some n is)

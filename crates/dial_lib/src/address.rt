@@ -1,7 +1,7 @@
 //! Addresses and the nets and services that complete them.
 ghost use Rattle.std.specs.Prelude.{◌≡◌, ◌==◌, ◌≤◌, ◌+◌, ◌++◌, codes, count_by, drop, length, take, IfOk};
 ghost use Rattle.net_base.specs.Steps as steps;
-ghost use Rattle.dial_lib.specs.Written.{Lays, written};
+ghost use Rattle.dial_lib.specs.Written.{LaysCall, call_written};
 
 use net_base::Octets;
 use std::alloc::{AllocError, Global};
@@ -39,8 +39,8 @@ fn bangs(address: &[u8]) -> usize
 
 // Writes texts in a row at the front, and gives their length.
 fn put_all(out: &mut [u8], texts: &[&[u8]]) -> usize
-    requires { length (written texts.now) ≤ length out.old }
-    ensures { Lays (written texts.now) out.old out.new result }
+    requires { length (call_written texts.now) ≤ length out.old }
+    ensures { LaysCall (call_written texts.now) out.old out.new result }
 {
     let mut at = 0;
     for text in texts {

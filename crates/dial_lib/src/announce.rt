@@ -69,7 +69,7 @@ impl Announce {
 
     // The line that is announced, or an empty one where there is none.
     fn line(&self) -> &[u8]
-        ensures { result.now ≡ lines.first_line self.now.lines }
+        ensures { result.now ≡ lines.first_dial_line self.now.lines }
     {
         match self.lines.as_slice().first() {
             Some(line) => line.as_slice(),
@@ -121,7 +121,7 @@ impl Announce {
 
     // Opens the clone file of the line.
     fn open_line(&self, alloc: Global) -> Result<Option<Request>, AllocError>
-        ensures { IfOk result (λ asked. asked ≡ spec.opens_line self.now.name (lines.first self.now.lines)) }
+        ensures { IfOk result (λ asked. asked ≡ spec.opens_line self.now.name (lines.first_tried self.now.lines)) }
     {
         match self.lines.as_slice().first() {
             None => Ok(None),

@@ -4,7 +4,7 @@ ghost use Rattle.net_base.specs.Paths as paths;
 ghost use Rattle.net_base.specs.declared.names.FileName.TheVariants as files;
 ghost use Rattle.net_base.specs.declared.names.Node.TheVariants as node;
 ghost use Rattle.net_base.specs.declared.world.Step.TheVariants as step;
-ghost use Rattle.net_tree.specs.Bindings.{file_of};
+ghost use Rattle.net_tree.specs.Bindings.{bound_file};
 ghost use Rattle.dial_lib.specs.Beside as spec;
 
 use net_base::{FileName, Mode, Octets, Proto, Reply};
@@ -113,7 +113,7 @@ pub fn open_beside(
     fid: Fid,
     file: FileName,
 ) -> Result<Request, AllocError>
-    ensures { IfOk result (λ q. q ≡ spec.opens_file name.now (file_of fid) file) }
+    ensures { IfOk result (λ q. q ≡ spec.opens_both_ways name.now (bound_file fid) file) }
 {
     open_file(alloc, name, fid, file, Mode::Both)
 }
@@ -126,7 +126,7 @@ pub fn open_file(
     file: FileName,
     mode: Mode,
 ) -> Result<Request, AllocError>
-    ensures { IfOk result (λ q. q ≡ spec.opens_so name.now (file_of fid) file mode) }
+    ensures { IfOk result (λ q. q ≡ spec.opens_so name.now (bound_file fid) file mode) }
 {
     Ok(Request::Open {
         name: name.clone()?,

@@ -197,7 +197,7 @@ fn open(
     file: FileName,
     mode: Mode,
 ) -> Result<Request, AllocError>
-    ensures { IfOk result (λ q. q ≡ spec.opens_file name.now file mode (steps.fid_of steps.call_name fids.now.names)) }
+    ensures { IfOk result (λ q. q ≡ spec.opens_call_file name.now file mode (steps.fid_of steps.call_name fids.now.names)) }
 {
     match fids.get(b".c") {
         Some(fid) => open_file(alloc, &Octets::from_slice(alloc, name)?, fid, file, mode),
@@ -209,7 +209,7 @@ fn open(
 
 // Reads the address that a file tells.
 fn tell(alloc: Global, name: &[u8]) -> Result<Request, AllocError>
-    ensures { IfOk result (λ q. q ≡ spec.tells name.now) }
+    ensures { IfOk result (λ q. q ≡ spec.tells_call name.now) }
 {
     Ok(Request::Read {
         name: Octets::from_slice(alloc, name)?,
@@ -218,7 +218,7 @@ fn tell(alloc: Global, name: &[u8]) -> Result<Request, AllocError>
 }
 
 pub(crate) fn close(alloc: Global, name: &[u8]) -> Result<Request, AllocError>
-    ensures { IfOk result (λ q. q ≡ spec.closes name.now) }
+    ensures { IfOk result (λ q. q ≡ spec.closes_call name.now) }
 {
     Ok(Request::Close {
         name: Octets::from_slice(alloc, name)?,

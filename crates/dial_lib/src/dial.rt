@@ -165,7 +165,7 @@ impl Dial {
 
     // Opens the clone file of the line that is tried now.
     fn open_line(&self, alloc: Global, dotted: Octets) -> Result<Option<Request>, AllocError>
-        ensures { IfOk result (λ asked. asked ≡ spec.opens_line dotted (lines.first self.now.lines)) }
+        ensures { IfOk result (λ asked. asked ≡ spec.dial_opens_line dotted (lines.first_tried self.now.lines)) }
     {
         match self.lines.as_slice().get(self.tried) {
             None => Ok(None),
@@ -179,7 +179,7 @@ impl Dial {
 
     // Writes the address of that line.
     fn connect(&self, alloc: Global, dotted: Octets) -> Result<Request, AllocError>
-        ensures { IfOk result (λ q. q ≡ spec.connects dotted self.now.lines) }
+        ensures { IfOk result (λ q. q ≡ spec.connect_request dotted self.now.lines) }
     {
         Ok(Request::Write {
             name: dotted,
@@ -189,7 +189,7 @@ impl Dial {
 
     // The line that is tried now, or an empty one where none is left.
     fn line(&self) -> &[u8]
-        ensures { result.now ≡ lines.first_line self.now.lines }
+        ensures { result.now ≡ lines.first_dial_line self.now.lines }
     {
         match self.lines.as_slice().get(self.tried) {
             Some(line) => line.as_slice(),

@@ -39,7 +39,7 @@ impl Dns {
 
     // Writes the answer to what was read, or closes the call where there is none.
     fn answer(&self, alloc: Global, fids: &Names) -> Result<Request, AllocError>
-        ensures { IfOk result (λ q. q ≡ spec.writes self.now.message fids.now.names) }
+        ensures { IfOk result (λ q. q ≡ spec.writes_answer self.now.message fids.now.names) }
     {
         let name = Octets::from_slice(alloc, b".d")?;
         match dns_answer(alloc, fids.zone(), self.message.as_slice())? {
@@ -74,7 +74,7 @@ impl Dns {
 
 // Whether a call is closed, and nothing else of it is open.
 fn is_last(phase: CallPhase) -> bool
-    ensures { result ≡ spec.is_last phase }
+    ensures { result ≡ spec.is_last_answer phase }
 {
     matches!(phase, CallPhase::LeaveCall)
 }

@@ -37,7 +37,7 @@ impl Hread {
 
     // Reads the datagram.
     fn read(&self, alloc: Global) -> Result<Request, AllocError>
-        ensures { IfOk result (λ q. q ≡ spec.reads self.now) }
+        ensures { IfOk result (λ q. q ≡ spec.reads_datagram self.now) }
     {
         Ok(Request::Hear {
             name: Octets::from_slice(alloc, b".d")?,

@@ -64,7 +64,7 @@ impl Hwrite {
 
     // Writes the text, where the call is open and the headers are its own.
     fn write(&self, alloc: Global, fids: &Names) -> Result<Request, AllocError>
-        ensures { IfOk result (λ q. q ≡ spec.writes self.now fids.now.names) }
+        ensures { IfOk result (λ q. q ≡ spec.writes_datagram self.now fids.now.names) }
     {
         let name = Octets::from_slice(alloc, b".d")?;
         if fids.open_call(self.name.as_slice()).is_none() {

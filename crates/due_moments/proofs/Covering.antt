@@ -5,7 +5,7 @@ use Rattle.net_base.specs.declared.actor.ActorName.{ActorName}
 use Rattle.net_base.specs.declared.actor.ActorName.TheVariants as name
 use Rattle.net_base.specs.declared.noted.Noted.{Noted}
 use Rattle.net_base.specs.Stamped.{In, same_actor, same_proto}
-use Rattle.due_moments.specs.Marks.{Covers, Marks, is_among, is_conversation}
+use Rattle.due_moments.specs.Marks.{Covers, Marks, is_marked_among, is_conversation}
 use Rattle.net_base.proofs.Shared.{number_itself, same_proto_itself}
 
 pub in_either : {A : Type 0} (xs ys : List A) (x : A) → In x (xs ++ ys) → In x xs ⊎ In x ys
@@ -20,20 +20,20 @@ itself (name.Dir h p) is = absurd (true≢false (sym is))
 itself (name.Medium m) is = absurd (true≢false (sym is))
 itself name.Clock is = absurd (true≢false (sym is))
 
-among_front : (as' : List ActorName) (a b : ActorName) → is_among as' b ≡ true → is_among (as' ++ a ∷ []) b ≡ true
+among_front : (as' : List ActorName) (a b : ActorName) → is_marked_among as' b ≡ true → is_marked_among (as' ++ a ∷ []) b ≡ true
 among_front [] a b is = absurd (true≢false (sym is))
 among_front (k ∷ as') a b is = by_test (same_actor k b) is (among_front as' a b)
   where
-    by_test : (t : Bool) → (t || is_among as' b) ≡ true → (is_among as' b ≡ true → is_among (as' ++ a ∷ []) b ≡ true)
-        → (t || is_among (as' ++ a ∷ []) b) ≡ true
+    by_test : (t : Bool) → (t || is_marked_among as' b) ≡ true → (is_marked_among as' b ≡ true → is_marked_among (as' ++ a ∷ []) b ≡ true)
+        → (t || is_marked_among (as' ++ a ∷ []) b) ≡ true
     by_test true is rest = refl
     by_test false is rest = rest is
 
-among_last : (as' : List ActorName) (a : ActorName) → is_conversation a ≡ true → is_among (as' ++ a ∷ []) a ≡ true
+among_last : (as' : List ActorName) (a : ActorName) → is_conversation a ≡ true → is_marked_among (as' ++ a ∷ []) a ≡ true
 among_last [] a is = ap (λ (t : Bool). t || false) (itself a is)
 among_last (k ∷ as') a is = by_test (same_actor k a) (among_last as' a is)
   where
-    by_test : (t : Bool) → is_among (as' ++ a ∷ []) a ≡ true → (t || is_among (as' ++ a ∷ []) a) ≡ true
+    by_test : (t : Bool) → is_marked_among (as' ++ a ∷ []) a ≡ true → (t || is_marked_among (as' ++ a ∷ []) a) ≡ true
     by_test true rest = refl
     by_test false rest = rest
 
@@ -56,7 +56,7 @@ module _ (own : List (ℕ × Noted)) (x : Noted) (a : ActorName) (stamp : ℕ) (
       not_this y (inr none) is = none
 
   module _ (m' : Marks) (since : m'.since ≡ m.since) (last : m.last ≤ m'.last) (passes : stamp ≤ m'.last)
-      (keeps : (b : ActorName) → is_among m.actors b ≡ true → is_among m'.actors b ≡ true) (there_now : is_among m'.actors a ≡ true) where
+      (keeps : (b : ActorName) → is_marked_among m.actors b ≡ true → is_marked_among m'.actors b ≡ true) (there_now : is_marked_among m'.actors a ≡ true) where
     pub covers_more : Covers (own ++ (stamp, x) ∷ []) m'
     covers_more = record {
       each = λ y there is from. elim (in_either own ((stamp, x) ∷ []) y there) [
@@ -69,8 +69,8 @@ module _ (own : List (ℕ × Noted)) (x : Noted) (a : ActorName) (stamp : ℕ) (
       ];
     }
       where
-        this : (y : ℕ × Noted) → In y ((stamp, x) ∷ []) → is_among m'.actors y.1.entry.actor ≡ true
-        this y (inl same) = ap (λ (z : ℕ × Noted). is_among m'.actors z.1.entry.actor) same ∙ (ap (is_among m'.actors) at ∙ there_now)
+        this : (y : ℕ × Noted) → In y ((stamp, x) ∷ []) → is_marked_among m'.actors y.1.entry.actor ≡ true
+        this y (inl same) = ap (λ (z : ℕ × Noted). is_marked_among m'.actors z.1.entry.actor) same ∙ (ap (is_marked_among m'.actors) at ∙ there_now)
         this y (inr none) = absurd none
 
         this_within : (y : ℕ × Noted) → In y ((stamp, x) ∷ []) → y.0 ≤ m'.last
@@ -79,7 +79,7 @@ module _ (own : List (ℕ × Noted)) (x : Noted) (a : ActorName) (stamp : ℕ) (
 
 -- at a conversation that is noted already
 pub covers_again : (own : List (ℕ × Noted)) (x : Noted) (a : ActorName) (stamp : ℕ) (m : Marks) (last room : ℕ) → Covers own m → x.entry.actor ≡ a
-    → m.last ≤ last → stamp ≤ last → is_among m.actors a ≡ true → Covers (own ++ (stamp, x) ∷ []) (record { actors = m.actors; since = m.since; last = last; room = room })
+    → m.last ≤ last → stamp ≤ last → is_marked_among m.actors a ≡ true → Covers (own ++ (stamp, x) ∷ []) (record { actors = m.actors; since = m.since; last = last; room = room })
 covers_again own x a stamp m last room covers at le passes is =
     covers_more own x a stamp m covers at (record { actors = m.actors; since = m.since; last = last; room = room }) refl le passes (λ b among. among) is
 
@@ -88,5 +88,5 @@ pub covers_new : (own : List (ℕ × Noted)) (x : Noted) (a : ActorName) (stamp 
     → m.last ≤ last → stamp ≤ last → is_conversation a ≡ true → actors ≡ m.actors ++ a ∷ [] → Covers (own ++ (stamp, x) ∷ []) (record { actors = actors; since = m.since; last = last; room = room })
 covers_new own x a stamp m actors last room covers at le passes is adds =
     covers_more own x a stamp m covers at (record { actors = actors; since = m.since; last = last; room = room }) refl le passes
-    (λ b among. ap (λ (l : List ActorName). is_among l b) adds ∙ among_front m.actors a b among)
-    (ap (λ (l : List ActorName). is_among l a) adds ∙ among_last m.actors a is)
+    (λ b among. ap (λ (l : List ActorName). is_marked_among l b) adds ∙ among_front m.actors a b among)
+    (ap (λ (l : List ActorName). is_marked_among l a) adds ∙ among_last m.actors a is)

@@ -11,11 +11,11 @@ use Rattle.net_base.specs.declared.world.World.{World}
 use Rattle.net_base.specs.Duties.{conversations, slots_of}
 use Rattle.net_base.specs.Stamped.{In, same_actor, same_proto}
 use Rattle.duties.specs.declared.due.Due.{Due}
-use Rattle.due_moments.specs.Places.{AreOwn, place, place_of, put_at, rank}
+use Rattle.due_moments.specs.Places.{AreOwnPlaces, conversation_place, due_place, put_at, rank}
 use Rattle.due_moments.proofs.Covering.{in_either}
 
 abbrev number : ActorName → ℕ
-number (name.Conv h p n) = place h p n
+number (name.Conv h p n) = conversation_place h p n
 number _ = 0
 
 -- each comes before those behind it
@@ -36,7 +36,7 @@ ascends_append (x ∷ xs) ys one other across = (
 abbrev slots : ℕ → Proto → ℕ → ℕ → List ActorName
 slots h p a n = map (λ (k : ℕ). name.Conv h p k) (range_with_len a n)
 
-slot_within : (h : ℕ) (p : Proto) (a n : ℕ) (b : ActorName) → In b (slots h p a n) → (place h p a ≤ number b) × (number b < place h p a + n)
+slot_within : (h : ℕ) (p : Proto) (a n : ℕ) (b : ActorName) → In b (slots h p a n) → (conversation_place h p a ≤ number b) × (number b < conversation_place h p a + n)
 slot_within h p a zero b there = absurd there
 slot_within h p a (suc n) b (inl is) = (omega (arith, ap number is), omega (arith, ap number is))
 slot_within h p a (suc n) b (inr there) =
@@ -85,7 +85,7 @@ same_rank proto.Udp proto.Udp is = refl
 same_rank proto.Il proto.Udp is = absurd (true≢false (sym is))
 same_rank proto.Udp proto.Il is = absurd (true≢false (sym is))
 
-same_place : (b : ActorName) (h : ℕ) (p : Proto) (n : ℕ) → same_actor (name.Conv h p n) b ≡ true → place h p n ≡ number b
+same_place : (b : ActorName) (h : ℕ) (p : Proto) (n : ℕ) → same_actor (name.Conv h p n) b ≡ true → conversation_place h p n ≡ number b
 same_place (name.Conv i q m) h p n is =
     let outer = and_parts ((h == i) && same_proto p q) (n == m) is in
     let inner = and_parts (h == i) (same_proto p q) outer.0 in
@@ -95,7 +95,7 @@ same_place (name.Dir i q) h p n is = absurd (true≢false (sym is))
 same_place (name.Medium i) h p n is = absurd (true≢false (sym is))
 same_place name.Clock h p n is = absurd (true≢false (sym is))
 
-apart : (b : ActorName) (h : ℕ) (p : Proto) (n : ℕ) → (place h p n ≡ number b → ⊥) → same_actor (name.Conv h p n) b ≡ false
+apart : (b : ActorName) (h : ℕ) (p : Proto) (n : ℕ) → (conversation_place h p n ≡ number b → ⊥) → same_actor (name.Conv h p n) b ≡ false
 apart b h p n other = by_test (same_actor (name.Conv h p n) b) refl
   where
     by_test : (t : Bool) → same_actor (name.Conv h p n) b ≡ t → same_actor (name.Conv h p n) b ≡ false
@@ -106,15 +106,15 @@ cons_is : (o : Option Due) (ds : List Due) → cons_option o ds ≡ option_to_li
 cons_is None ds = refl
 cons_is (Some d) ds = refl
 
-module _ (h : ℕ) (p : Proto) (n : ℕ) (before after : ActorName → Option Due) (own : AreOwn before)
+module _ (h : ℕ) (p : Proto) (n : ℕ) (before after : ActorName → Option Due) (own : AreOwnPlaces before)
     (same : (b : ActorName) → same_actor (name.Conv h p n) b ≡ false → after b ≡ before b) where
   abbrev k : ℕ
-  k = place h p n
+  k = conversation_place h p n
 
   abbrev o : Option Due
   o = after (name.Conv h p n)
 
-  place_own : (b : ActorName) (d : Due) → before b ≡ Some d → place_of d ≡ number b
+  place_own : (b : ActorName) (d : Due) → before b ≡ Some d → due_place d ≡ number b
   place_own b d is = sym (ap number (own b d is))
 
   -- those behind the conversation are the same
@@ -124,8 +124,8 @@ module _ (h : ℕ) (p : Proto) (n : ℕ) (before after : ActorName → Option Du
       ap (λ (x : Option Due). cons_option x (filter_map after bs)) (same b (apart b h p n (λ e. omega (arith, e, above b (inl refl)))))
       ∙ ap (cons_option (before b)) (past_same bs (λ c there. above c (inr there)))
 
-  stop : (d : Due) (ds : List Due) → k < place_of d → put_at k o (d ∷ ds) ≡ option_to_list o ++ d ∷ ds
-  stop d ds lt = by_tests (nat_lt (place_of d) k) (place_of d == k) (grind (arith, nat_tests, lt)) (grind (arith, nat_tests, lt))
+  stop : (d : Due) (ds : List Due) → k < due_place d → put_at k o (d ∷ ds) ≡ option_to_list o ++ d ∷ ds
+  stop d ds lt = by_tests (nat_lt (due_place d) k) (due_place d == k) (grind (arith, nat_tests, lt)) (grind (arith, nat_tests, lt))
     where
       by_tests : (s t : Bool) → s ≡ false → t ≡ false
           → (if s then d ∷ put_at k o ds else option_to_list o ++ (if t then ds else d ∷ ds)) ≡ option_to_list o ++ d ∷ ds
@@ -147,8 +147,8 @@ module _ (h : ℕ) (p : Proto) (n : ℕ) (before after : ActorName → Option Du
       by_due None is rest = rest
       by_due (Some d) is rest = stop d (filter_map before bs) (omega (arith, place_own b d is, above b (inl refl)))
 
-  instead : (d : Due) (ds : List Due) → place_of d ≡ k → put_at k o (d ∷ ds) ≡ option_to_list o ++ ds
-  instead d ds at = by_tests (nat_lt (place_of d) k) (place_of d == k) (grind (arith, nat_tests, at)) (grind (arith, nat_tests, at))
+  instead : (d : Due) (ds : List Due) → due_place d ≡ k → put_at k o (d ∷ ds) ≡ option_to_list o ++ ds
+  instead d ds at = by_tests (nat_lt (due_place d) k) (due_place d == k) (grind (arith, nat_tests, at)) (grind (arith, nat_tests, at))
     where
       by_tests : (s t : Bool) → s ≡ false → t ≡ true
           → (if s then d ∷ put_at k o ds else option_to_list o ++ (if t then ds else d ∷ ds)) ≡ option_to_list o ++ ds
@@ -156,10 +156,10 @@ module _ (h : ℕ) (p : Proto) (n : ℕ) (before after : ActorName → Option Du
       by_tests true t a b = absurd (true≢false a)
       by_tests false false a b = absurd (true≢false (sym b))
 
-  goes_on : (d : Due) (ds : List Due) → place_of d < k → put_at k o (d ∷ ds) ≡ d ∷ put_at k o ds
-  goes_on d ds lt = by_test (nat_lt (place_of d) k) (lt-ltb (place_of d) k lt)
+  goes_on : (d : Due) (ds : List Due) → due_place d < k → put_at k o (d ∷ ds) ≡ d ∷ put_at k o ds
+  goes_on d ds lt = by_test (nat_lt (due_place d) k) (lt-ltb (due_place d) k lt)
     where
-      by_test : (s : Bool) → s ≡ true → (if s then d ∷ put_at k o ds else option_to_list o ++ (if place_of d == k then ds else d ∷ ds)) ≡ d ∷ put_at k o ds
+      by_test : (s : Bool) → s ≡ true → (if s then d ∷ put_at k o ds else option_to_list o ++ (if due_place d == k then ds else d ∷ ds)) ≡ d ∷ put_at k o ds
       by_test true is = refl
       by_test false is = absurd (true≢false (sym is))
 
@@ -197,7 +197,7 @@ module _ (h : ℕ) (p : Proto) (n : ℕ) (before after : ActorName → Option Du
   puts_in (b ∷ bs) asc (inl is) = put_here b bs is asc.0
   puts_in (b ∷ bs) asc (inr there) = put_later b bs (asc.0 (name.Conv h p n) there) (puts_in bs asc.1 there)
 
-pub puts : (w : World) (h : ℕ) (p : Proto) (n : ℕ) (before after : ActorName → Option Due) → In (name.Conv h p n) (conversations w) → AreOwn before
+pub puts : (w : World) (h : ℕ) (p : Proto) (n : ℕ) (before after : ActorName → Option Due) → In (name.Conv h p n) (conversations w) → AreOwnPlaces before
     → ((b : ActorName) → same_actor (name.Conv h p n) b ≡ false → after b ≡ before b)
-    → filter_map after (conversations w) ≡ put_at (place h p n) (after (name.Conv h p n)) (filter_map before (conversations w))
+    → filter_map after (conversations w) ≡ put_at (conversation_place h p n) (after (name.Conv h p n)) (filter_map before (conversations w))
 puts w h p n before after there own same = puts_in h p n before after own same (conversations w) (hosts_ascend 0 (length w.hosts)) there

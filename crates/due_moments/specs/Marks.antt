@@ -20,13 +20,13 @@ is_conversation (name.Conv h p n) = true
 is_conversation _ = false
 
 -- the actor is one of these
-abbrev pub is_among : List ActorName → ActorName → Bool
-is_among as' a = list_any (λ (b : ActorName). same_actor b a) as'
+abbrev pub is_marked_among : List ActorName → ActorName → Bool
+is_marked_among as' a = list_any (λ (b : ActorName). same_actor b a) as'
 
 -- of the caller's entries these are the conversations from the stamp on
 pub record Covers (own : List (ℕ × Noted)) (m : Marks) : Type 0 where
   pub each : (x : ℕ × Noted) → In x own → is_conversation x.1.entry.actor ≡ true → m.since ≤ x.0
-      → is_among m.actors x.1.entry.actor ≡ true
+      → is_marked_among m.actors x.1.entry.actor ≡ true
   pub within : (x : ℕ × Noted) → In x own → is_conversation x.1.entry.actor ≡ true → x.0 ≤ m.last
 
 -- they are the same, but for the room
@@ -36,10 +36,10 @@ pub record AreAlike (old new : Marks) : Type 0 where
   pub last_is : new.last ≡ old.last
 
 -- with an entry more at an actor
-abbrev pub noted : ActorName → ℕ → Marks → Marks
-noted a stamp m =
+abbrev pub marks_noted : ActorName → ℕ → Marks → Marks
+marks_noted a stamp m =
     if is_conversation a
-    then record m { actors = if is_among m.actors a then m.actors else m.actors ++ a ∷ []; last = max m.last stamp }
+    then record m { actors = if is_marked_among m.actors a then m.actors else m.actors ++ a ∷ []; last = max m.last stamp }
     else m
 
 -- without those that come before a stamp, where no other is known

@@ -20,32 +20,32 @@ rank proto.Il = 0
 rank proto.Udp = 1
 
 -- the number of a conversation in the order of all
-abbrev pub place : ℕ → Proto → ℕ → ℕ
-place h p n = 64 * h + (32 * rank p + n)
+abbrev pub conversation_place : ℕ → Proto → ℕ → ℕ
+conversation_place h p n = 64 * h + (32 * rank p + n)
 
-abbrev pub place_of : Due → ℕ
-place_of d = place d.host d.proto d.slot
+abbrev pub due_place : Due → ℕ
+due_place d = conversation_place d.host d.proto d.slot
 
 -- what is due at one place is this, or nothing
 abbrev pub put_at : ℕ → Option Due → List Due → List Due
 put_at k o [] = option_to_list o
 put_at k o (d ∷ ds) =
-    if nat_lt (place_of d) k
+    if nat_lt (due_place d) k
     then d ∷ put_at k o ds
-    else option_to_list o ++ (if place_of d == k then ds else d ∷ ds)
+    else option_to_list o ++ (if due_place d == k then ds else d ∷ ds)
 
 -- how many come before a place
 abbrev pub before : ℕ → List Due → ℕ
 before k [] = 0
-before k (d ∷ ds) = if nat_lt (place_of d) k then suc (before k ds) else 0
+before k (d ∷ ds) = if nat_lt (due_place d) k then suc (before k ds) else 0
 
-abbrev pub is_at : ℕ → Option Due → Bool
-is_at k o = option_map_or (λ (d : Due). place_of d == k) o false
+abbrev pub is_due_at : ℕ → Option Due → Bool
+is_due_at k o = option_map_or (λ (d : Due). due_place d == k) o false
 
 -- with what is due at the place put into the new list, where it would stand
-abbrev pub Holds : ℕ → ℕ → List Due → List Due → Type 0
-Holds k from old new = (o : Option Due) → put_at k o old ≡ take from new ++ option_to_list o ++ drop from new
+abbrev pub HoldsPut : ℕ → ℕ → List Due → List Due → Type 0
+HoldsPut k from old new = (o : Option Due) → put_at k o old ≡ take from new ++ option_to_list o ++ drop from new
 
 -- each due moment is that of the actor for which it is given
-abbrev pub AreOwn : (ActorName → Option Due) → Type 0
-AreOwn look = (a : ActorName) (d : Due) → look a ≡ Some d → a ≡ name.Conv d.host d.proto d.slot
+abbrev pub AreOwnPlaces : (ActorName → Option Due) → Type 0
+AreOwnPlaces look = (a : ActorName) (d : Due) → look a ≡ Some d → a ≡ name.Conv d.host d.proto d.slot

@@ -1,7 +1,7 @@
 //! When conversations are due, in the order of these.
 ghost use Rattle.std.specs.Prelude.{◌≡◌, ◌+◌, ◌<◌, ◌≤◌, ◌++◌, ◌∷◌, ◌==◌, [], length, take, drop, slice_get, OnErr, OnOk};
 ghost use Rattle.due_moments.specs.Places as spec;
-ghost use Rattle.due_moments.specs.Places.{Moments, before, is_at, place_of, put_at, Holds};
+ghost use Rattle.due_moments.specs.Places.{Moments, before, is_due_at, due_place, put_at, HoldsPut};
 
 use duties::Due;
 use net_base::Proto;
@@ -53,7 +53,7 @@ impl DueMoments {
     /// A conversation is due then, or not at all. It takes no memory.
     pub fn put(&mut self, host: u32, proto: Proto, slot: u32, due: Option<Due>)
         requires { 0 < self.old.room }
-        ensures list { self.new.list ≡ put_at (spec.place host proto slot) due self.old.list }
+        ensures list { self.new.list ≡ put_at (spec.conversation_place host proto slot) due self.old.list }
         ensures room { self.old.room ≤ self.new.room + 1 }
     {
         let from = self.clear(place(host, proto, slot));
@@ -65,7 +65,7 @@ impl DueMoments {
     // Nothing is due at this place. The answer is where it would stand.
     fn clear(&mut self, place: u64) -> usize
         ensures within { result ≤ length self.new.list }
-        ensures list { Holds place result self.old.list self.new.list }
+        ensures list { HoldsPut place result self.old.list self.new.list }
         ensures room { self.old.room ≤ self.new.room }
     {
         let from = before(self.dues.as_slice(), place);
@@ -88,7 +88,7 @@ impl DueMoments {
 
 // The number of a conversation in the order of all.
 fn place(host: u32, proto: Proto, slot: u32) -> u64
-    ensures value { result ≡ spec.place host proto slot }
+    ensures value { result ≡ spec.conversation_place host proto slot }
 {
     let rank = match proto {
         Proto::Il => 0,
@@ -98,7 +98,7 @@ fn place(host: u32, proto: Proto, slot: u32) -> u64
 }
 
 fn place_of(due: &Due) -> u64
-    ensures { result ≡ place_of due.now }
+    ensures { result ≡ due_place due.now }
 {
     place(due.host, due.proto, due.slot)
 }
@@ -119,7 +119,7 @@ fn before(dues: &[Due], place: u64) -> usize
 
 // Whether the due moment with this number is the one of the place.
 fn is_at(dues: &[Due], number: usize, place: u64) -> bool
-    ensures { result ≡ is_at place (slice_get dues.now number) }
+    ensures { result ≡ is_due_at place (slice_get dues.now number) }
 {
     match dues.get(number) {
         Some(due) => place_of(due) == place,

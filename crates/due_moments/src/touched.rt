@@ -1,7 +1,7 @@
 //! At which conversations a caller recorded something.
 ghost use Rattle.std.specs.Prelude.{◌≡◌, ℕ, ◌<◌, ◌++◌, ◌∷◌, [], List, IfOk, OnErr, OnOk};
 ghost use Rattle.net_base.specs.declared.noted.Noted.{Noted};
-ghost use Rattle.due_moments.specs.Marks.{AreAlike, Covers, forgot, is_among, is_conversation, noted};
+ghost use Rattle.due_moments.specs.Marks.{AreAlike, Covers, forgot, is_marked_among, is_conversation, marks_noted};
 
 use net_base::{ActorName, same_actor};
 use std::alloc::{AllocError, Global};
@@ -65,7 +65,7 @@ impl Touched {
     /// An entry of this stamp was recorded at an actor, which is noted where it's a conversation. It takes no memory.
     pub fn note(&mut self, actor: ActorName, stamp: u64)
         requires { 0 < self.old.room }
-        ensures value { AreAlike (noted actor stamp self.old) self.new }
+        ensures value { AreAlike (marks_noted actor stamp self.old) self.new }
         ensures covers { (own : List (ℕ × Noted)) (x : Noted) → Covers own self.old → x.entry.actor ≡ actor
             → Covers (own ++ (stamp, x) ∷ []) self.new }
     {
@@ -104,7 +104,7 @@ impl Touched {
 
     // Whether an actor is one of them.
     fn has(&self, actor: ActorName) -> bool
-        ensures { result ≡ is_among self.now.actors actor }
+        ensures { result ≡ is_marked_among self.now.actors actor }
     {
         self.actors.iter().any(|one| same_actor(*one, actor))
     }

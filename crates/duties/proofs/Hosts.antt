@@ -2,7 +2,7 @@
 use Rattle.std.proofs.Common.{◌≡◌, ℕ, zero, suc, ◌≤◌, false, List, [], ◌∷◌, length, Option, Some, None, slice_get, refl, sym, ap, ◌∙◌, arith}
 use Rattle.std.specs.Option.{option_map_or, option_and_then}
 use Rattle.std.proofs.lemmas.Option.{none-some, slice_get_past}
-use Rattle.ip_route.specs.Kept.{AreWaysOf, HostWays, is_own, way_to}
+use Rattle.ip_route.specs.Kept.{AreWaysOf, HostWays, is_own_address, way_to}
 use Rattle.net_base.specs.declared.world.World.{World}
 use Rattle.net_base.specs.Routes.{way, has_address}
 use Rattle.duties.specs.WaysOf.{AreWaysOfWorld, way_at, has_at}
@@ -25,7 +25,7 @@ at_host : (w : World) (ks : List HostWays) (h ip : ℕ) (o : Option HostWays) �
 unfolding AreWaysOf
 at_host w ks h ip (Some k) is count all = (
   ap (λ (o : Option HostWays). option_and_then (λ (k : HostWays). way_to k ip) o) is ∙ (all h k is ip).0,
-  ap (λ (o : Option HostWays). option_map_or (λ (k : HostWays). is_own k ip) o false) is ∙ (all h k is ip).1,
+  ap (λ (o : Option HostWays). option_map_or (λ (k : HostWays). is_own_address k ip) o false) is ∙ (all h k is ip).1,
 )
 at_host w ks h ip None is count all =
     let none : slice_get w.hosts h ≡ None = slice_get_past w.hosts h (beyond ks h is (length w.hosts) count) in

@@ -12,7 +12,7 @@ use Rattle.net_base.specs.Actors.{Actor, has_actor}
 use Rattle.net_base.specs.Duties.{Duty, courier_duty, duties, emitted_put, follow_up, release, owed_ticks}
 use Rattle.net_base.specs.Legal.{IsMove}
 use Rattle.duties.proofs.Ends.{given_when, release_is}
-use Rattle.duties.specs.Owing.{Gives}
+use Rattle.duties.specs.Owing.{GivesStep}
 use Rattle.duties.specs.Releasing.{released}
 
 -- what is no move owes no ticks
@@ -31,7 +31,7 @@ before_release w a s work o = emitted_put w a s o.emit ++ follow_up a s work.eve
 
 -- they are all that the step owes
 pub parts_are : (w : World) (actors : ActorName → Actor) (a : ActorName) (s : ℕ) (work : Work) (o : Outcome) (step : Step Actor)
-    → Gives w a work o step → (IsMove a work.event → ⊥) → parts w a s work o ≡ duties w actors a s work step
+    → GivesStep w a work o step → (IsMove a work.event → ⊥) → parts w a s work o ≡ duties w actors a s work step
 parts_are w actors a s work o step gives none =
     ap (λ (p : Outcome). parts w a s work p) (sym gives.outcome)
     ∙ (ap (λ (ds : List Duty). before_release w a s work step.outcome ++ ds) (sym (release_is w a s gives.before gives.now work step (given_when (has_actor w a) _ step gives.gives)))
@@ -41,7 +41,7 @@ parts_are w actors a s work o step gives none =
 
 -- behind what was owed before, in turn
 pub in_turn : (w : World) (actors : ActorName → Actor) (a : ActorName) (s : ℕ) (work : Work) (o : Outcome) (step : Step Actor) (old put followed copied new : List Duty)
-    → Gives w a work o step → (IsMove a work.event → ⊥) → put ≡ old ++ emitted_put w a s o.emit → followed ≡ put ++ follow_up a s work.event work.with o.reply
+    → GivesStep w a work o step → (IsMove a work.event → ⊥) → put ≡ old ++ emitted_put w a s o.emit → followed ≡ put ++ follow_up a s work.event work.with o.reply
     → copied ≡ followed ++ courier_duty w a s o.taken → new ≡ copied ++ released a s work.event o.ended → new ≡ old ++ duties w actors a s work step
 in_turn w actors a s work o step old put followed copied new gives none one two three four =
     four

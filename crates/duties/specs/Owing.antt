@@ -11,7 +11,7 @@ use Rattle.net_base.specs.ActorStep.{Step}
 use Rattle.net_base.specs.Actors.{Actor, actor_step}
 use Rattle.net_base.specs.Duties.{Duty, duties}
 use Rattle.net_base.specs.Legal.{IsMove}
-use Rattle.duties.specs.Queue.{Queue, Adds}
+use Rattle.duties.specs.Queue.{Queue, AddsDuty}
 use Rattle.duties.specs.WaysOf.{AreWaysOfWorld}
 
 -- the outcome, its copy aside
@@ -19,7 +19,7 @@ abbrev pub without_copy : Outcome → Outcome
 without_copy o = record o { copy = None }
 
 -- the step is one that the actor's table gives to the work, and its outcome, the copy aside, is this one
-pub record Gives (w : World) (a : ActorName) (work : Work) (o : Outcome) (step : Step Actor) : Type 0 where
+pub record GivesStep (w : World) (a : ActorName) (work : Work) (o : Outcome) (step : Step Actor) : Type 0 where
   pub before : Actor
   pub now : ℕ
   pub gives : actor_step w a before now work ≡ Some step
@@ -30,11 +30,11 @@ pub record Gives (w : World) (a : ActorName) (work : Work) (o : Outcome) (step :
 abbrev pub Owes : List HostWays → ActorName → ℕ → Work → Outcome → Queue → Queue → Type 0
 Owes ks a stamp work o old new =
     (w : World) → AreWaysOfWorld w ks → (actors : ActorName → Actor) (step : Step Actor)
-    → Gives w a work o step → (IsMove a work.event → ⊥) → Adds old new (duties w actors a stamp work step)
+    → GivesStep w a work o step → (IsMove a work.event → ⊥) → AddsDuty old new (duties w actors a stamp work step)
 
 -- a part of what is owed is added, in each world of which the ways are
 abbrev pub AddsIn : List HostWays → Queue → Queue → (World → List Duty) → Type 0
-AddsIn ks old new added = (w : World) → AreWaysOfWorld w ks → Adds old new (added w)
+AddsIn ks old new added = (w : World) → AreWaysOfWorld w ks → AddsDuty old new (added w)
 
 -- How much is owed at most.
 

@@ -13,5 +13,5 @@ abbrev pub work_of_duty : Duty → Work
 work_of_duty d = record { event = d.event; with = d.with }
 
 -- these duties are owed after those that were owed before
-abbrev pub Adds : Queue → Queue → List Duty → Type 0
-Adds old new added = new.list ≡ old.list ++ added
+abbrev pub AddsDuty : Queue → Queue → List Duty → Type 0
+AddsDuty old new added = new.list ≡ old.list ++ added

@@ -11,7 +11,7 @@ use Rattle.net_base.specs.declared.world.World.{World}
 use Rattle.net_base.specs.ActorStep.{Step}
 use Rattle.net_base.specs.Actors.{Actor, actor_step}
 use Rattle.net_base.specs.Duties.{Duty, duties, one_duty, conversations, due_of, generation_of, owed_ticks}
-use Rattle.duties.specs.Queue.{Queue, Adds}
+use Rattle.duties.specs.Queue.{Queue, AddsDuty}
 
 -- the tick of a conversation whose due moment has come
 abbrev pub tick_of : ℕ → ℕ → Due → List Duty
@@ -45,4 +45,4 @@ MoveOwes w actors stamp now =
 abbrev pub AddsTicks : ℕ → ℕ → List Due → Queue → Queue → Type 0
 AddsTicks stamp now dues old new =
     (w : World) (actors : ActorName → Actor) → dues ≡ dues_of w actors
-    → Adds old new (owed_ticks w actors name.Clock stamp (event.Move now))
+    → AddsDuty old new (owed_ticks w actors name.Clock stamp (event.Move now))

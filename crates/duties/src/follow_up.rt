@@ -4,9 +4,9 @@ ghost use Rattle.net_base.specs.declared.address.Addr.{Addr as AnyAddr};
 ghost use Rattle.net_base.specs.declared.event.Event.TheVariants as event;
 ghost use Rattle.net_base.specs.declared.history.With.{With as AnyWith};
 ghost use Rattle.net_base.specs.Duties.{close_calls, follow_up};
-ghost use Rattle.duties.specs.Following.{AddsAsked, asks, leaves, owes_at};
+ghost use Rattle.duties.specs.Following.{AddsAsked, asks, leaves_slot, owes_at};
 ghost use Rattle.duties.specs.Owing.{most_following};
-ghost use Rattle.duties.specs.Queue.{Adds};
+ghost use Rattle.duties.specs.Queue.{AddsDuty};
 
 use crate::queue::Duties;
 use net_base::{ActorName, Call, Event, Proto, Reply, With};
@@ -21,7 +21,7 @@ pub fn owe_follow_up(
     owed: &mut Duties,
 )
     requires { most_following reply.now ≤ owed.old.room }
-    ensures list { Adds owed.old owed.new (follow_up actor stamp event.now with reply.now) }
+    ensures list { AddsDuty owed.old owed.new (follow_up actor stamp event.now with reply.now) }
     ensures room { owed.old.room ≤ owed.new.room + most_following reply.now }
 {
     match actor {
@@ -49,7 +49,7 @@ impl Home {
     // An event at a conversation is owed.
     fn at_conversation(self, slot: u32, event: Event, with: With, owed: &mut Duties)
         requires { 1 ≤ owed.old.room }
-        ensures list { Adds owed.old owed.new (owes_at self slot event with) }
+        ensures list { AddsDuty owed.old owed.new (owes_at self slot event with) }
         ensures room { owed.old.room ≤ owed.new.room + 1 }
     {
         let conversation = ActorName::Conv(self.host, self.proto, slot);
@@ -59,7 +59,7 @@ impl Home {
     // A listener that was left withdraws.
     fn withdraws(self, slot: u32, event: &Event, reply: &Reply, owed: &mut Duties)
         requires { most_following reply.now ≤ owed.old.room }
-        ensures list { (with : AnyWith) → Adds owed.old owed.new (leaves self slot event.now with reply.now) }
+        ensures list { (with : AnyWith) → AddsDuty owed.old owed.new (leaves_slot self slot event.now with reply.now) }
         ensures room { owed.old.room ≤ owed.new.room + most_following reply.now }
     {
         let Event::Hangup { generation } = event else {
@@ -79,7 +79,7 @@ impl Home {
     // What the reply of the directory asks of its conversations.
     fn follows(self, event: &Event, with: With, reply: &Reply, owed: &mut Duties)
         requires { most_following reply.now ≤ owed.old.room }
-        ensures list { Adds owed.old owed.new (asks self event.now with reply.now) }
+        ensures list { AddsDuty owed.old owed.new (asks self event.now with reply.now) }
         ensures room { owed.old.room ≤ owed.new.room + most_following reply.now }
     {
         match event {
@@ -190,7 +190,7 @@ impl Home {
     // A packet arrives at its conversation, or bears one.
     fn arrives(self, with: With, reply: &Reply, owed: &mut Duties)
         requires { most_following reply.now ≤ owed.old.room }
-        ensures list { Adds owed.old owed.new (asks self event.Arrive with reply.now) }
+        ensures list { AddsDuty owed.old owed.new (asks self event.Arrive with reply.now) }
         ensures room { owed.old.room ≤ owed.new.room + most_following reply.now }
     {
         let With::Packet(packet) = with else {
@@ -238,7 +238,7 @@ impl Home {
     // Each call is closed.
     fn close_calls(self, calls: &[Call], owed: &mut Duties)
         requires { length calls.now ≤ owed.old.room }
-        ensures list { Adds owed.old owed.new (close_calls self.host self.proto self.stamp calls.now) }
+        ensures list { AddsDuty owed.old owed.new (close_calls self.host self.proto self.stamp calls.now) }
         ensures room { owed.old.room ≤ owed.new.room + length calls.now }
     {
         for call in calls {

@@ -1,7 +1,7 @@
 //! What a caller owes, in order.
 ghost use Rattle.std.specs.Prelude.{◌≡◌, ◌+◌, ◌<◌, ◌≤◌, ◌==◌, [], ◌∷◌, drop, length, option_copied, slice_get, OnErr, OnOk};
 ghost use Rattle.net_base.specs.Duties.{one_duty};
-ghost use Rattle.duties.specs.Queue.{Adds};
+ghost use Rattle.duties.specs.Queue.{AddsDuty};
 
 use crate::duty::Duty;
 use net_base::{ActorName, Event, With, Work};
@@ -78,7 +78,7 @@ impl Duties {
     /// A duty is owed after the others. It takes no memory.
     pub fn push(&mut self, duty: Duty)
         requires { 0 < self.old.room }
-        ensures list { Adds self.old self.new (duty ∷ []) }
+        ensures list { AddsDuty self.old self.new (duty ∷ []) }
         ensures room { self.new.room + 1 ≡ self.old.room }
     {
         self.queue.push_back_reserved(duty);
@@ -86,7 +86,7 @@ impl Duties {
     /// An event is owed at an actor after the others. It takes no memory.
     pub fn owe(&mut self, cites: u64, actor: ActorName, event: Event, with: With)
         requires { 0 < self.old.room }
-        ensures list { Adds self.old self.new (one_duty cites actor event with) }
+        ensures list { AddsDuty self.old self.new (one_duty cites actor event with) }
         ensures room { self.new.room + 1 ≡ self.old.room }
     {
         self.push(Duty {

@@ -1,6 +1,6 @@
 //! The release of a conversation that ended.
 ghost use Rattle.std.specs.Prelude.{◌≡◌, ◌+◌, ◌≤◌, if◌then◌else◌};
-ghost use Rattle.duties.specs.Queue.{Adds};
+ghost use Rattle.duties.specs.Queue.{AddsDuty};
 ghost use Rattle.duties.specs.Releasing.{released};
 ghost use Rattle.table_laws.specs.ConvRows.{generation_in};
 
@@ -10,7 +10,7 @@ use net_base::{ActorName, Event, With};
 /// A conversation that ended in this event is released at its directory.
 pub fn owe_release(actor: ActorName, stamp: u64, event: &Event, ended: bool, owed: &mut Duties)
     requires { (if ended then 1 else 0) ≤ owed.old.room }
-    ensures list { Adds owed.old owed.new (released actor stamp event.now ended) }
+    ensures list { AddsDuty owed.old owed.new (released actor stamp event.now ended) }
     ensures room { owed.old.room ≤ owed.new.room + (if ended then 1 else 0) }
 {
     if !ended {

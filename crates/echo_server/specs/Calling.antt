@@ -10,19 +10,19 @@ use Rattle.dial_lib.specs.Dials as dial
 use Rattle.echo_server.specs.declared.client.EchoClient.{EchoClient}
 use Rattle.echo_server.specs.declared.client.Stage.{Stage}
 use Rattle.echo_server.specs.declared.client.Stage.TheVariants as stage
-use Rattle.echo_server.specs.Serving.{closes, reads, writes}
+use Rattle.echo_server.specs.Serving.{closes_echo, reads_call, writes_back}
 
 -- what it sends next
-abbrev pub message : EchoClient → Option (List ℕ)
-message c = slice_get c.messages c.echoed
+abbrev pub sent_next : EchoClient → Option (List ℕ)
+sent_next c = slice_get c.messages c.echoed
 
 -- where nobody answered, or all is closed, nothing more is asked
 abbrev pub asks_at : Stage → EchoClient → Names → Option Request
 asks_at stage.Wait c names = Some (request.Until 10)
 asks_at stage.Dial c names = dial.asks c.dial names
-asks_at stage.Write c names = if is_bound names (codes "d") then option_map writes (message c) else None
-asks_at stage.Read c names = Some reads
-asks_at stage.Close c names = if is_bound names (codes "d") then Some (closes (codes "d")) else None
+asks_at stage.Write c names = if is_bound names (codes "d") then option_map writes_back (sent_next c) else None
+asks_at stage.Read c names = Some reads_call
+asks_at stage.Close c names = if is_bound names (codes "d") then Some (closes_echo (codes "d")) else None
 
 abbrev pub asks : EchoClient → Names → Option Request
 asks c names = asks_at c.stage c names
@@ -31,12 +31,12 @@ abbrev pub is_well : EchoClient → Bool
 is_well c = nat_le (length c.messages) c.echoed
 
 -- the message came back
-abbrev pub is_text : Option (List ℕ) → List ℕ → Bool
-is_text None bytes = false
-is_text (Some text) bytes = bytes_eq text bytes
+abbrev pub came_back : Option (List ℕ) → List ℕ → Bool
+came_back None bytes = false
+came_back (Some text) bytes = bytes_eq text bytes
 
 abbrev pub is_echo : EchoClient → Reply → Bool
-is_echo c (reply.Bytes bytes) = is_text (message c) bytes
+is_echo c (reply.Bytes bytes) = came_back (sent_next c) bytes
 is_echo c _ = false
 
 abbrev pub is_counted : Reply → Bool

@@ -8,10 +8,10 @@ use Rattle.whole_script.specs.declared.either.EitherTask.TheVariants as either
 use Rattle.echo_server.specs.declared.client.EchoClient.{EchoClient}
 use Rattle.echo_server.specs.declared.server.EchoServer.{EchoServer}
 use Rattle.echo_server.specs.Calling.{is_well}
-use Rattle.echo_server.specs.Echoes.{AreAmong, texts}
+use Rattle.echo_server.specs.Echoes.{AreEchoesAmong, echo_texts}
 
 -- each client that ended well has read each of its messages, in order, in the replies to its own entries
 abbrev pub HaveRead : List Entry → List (Option (EitherTask EchoServer EchoClient)) → Type 0
 HaveRead h tasks =
     (c : ℕ) (client : EchoClient) → task_at tasks c ≡ Some (either.Other client) → is_well client ≡ true
-    → AreAmong client.messages (texts (own_replies h c))
+    → AreEchoesAmong client.messages (echo_texts (own_replies h c))

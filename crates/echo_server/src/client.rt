@@ -36,7 +36,7 @@ pub struct EchoClient {
 impl EchoClient {
     /// Calls this address, and sends these messages.
     pub fn new(alloc: Global, address: &[u8], messages: Lines) -> Result<EchoClient, AllocError>
-        ensures { IfOk result (λ c. echoes.Keeps c []) }
+        ensures { IfOk result (λ c. echoes.KeepsEchoes c []) }
     {
         Ok(EchoClient {
             stage: Stage::Wait,
@@ -54,7 +54,7 @@ impl EchoClient {
     }
 
     fn message(&self) -> Option<&Octets>
-        ensures { MatchOption result (spec.message self.now ≡ None) (λ text. spec.message self.now ≡ Some text.now) }
+        ensures { MatchOption result (spec.sent_next self.now ≡ None) (λ text. spec.sent_next self.now ≡ Some text.now) }
     {
         self.messages.as_slice().get(self.echoed)
     }
@@ -87,7 +87,7 @@ impl OwnTask for EchoClient {
 
     ghost after = { spec.after };
 
-    ghost Keeps = { echoes.Keeps };
+    ghost Keeps = { echoes.KeepsEchoes };
 
     ghost keeps_on = { echoes.keeps_on };
 

@@ -1,6 +1,6 @@
 //! The server: it announces, listens, and answers each message of a call with itself.
 ghost use Rattle.std.specs.Prelude.{◌≡◌, Some, IfOk, OnErr, unwrap_or};
-ghost use Rattle.echo_server.specs.Serving.{after_read, closes, reads, stage_after, writes};
+ghost use Rattle.echo_server.specs.Serving.{stage_after_read, closes_echo, reads_call, echo_stage_after, writes_back};
 
 use agenda::OwnTask;
 use dial_lib::{Announce, Beside};
@@ -72,7 +72,7 @@ impl OwnTask for EchoServer {
 
 // The stage behind this one, where the reply ends it. Without memory this one is as it was.
 fn behind(alloc: Global, stage: &mut Stage, reply: Reply) -> Result<Option<Stage>, AllocError>
-    ensures ok { IfOk result (λ then. unwrap_or then stage.new ≡ stage_after stage.old reply) }
+    ensures ok { IfOk result (λ then. unwrap_or then stage.new ≡ echo_stage_after stage.old reply) }
     ensures err { OnErr result (stage.new ≡ stage.old) }
 {
     match stage {
@@ -93,7 +93,7 @@ fn behind(alloc: Global, stage: &mut Stage, reply: Reply) -> Result<Option<Stage
 
 // What was read is written. Nothing is read once the caller has hung up.
 fn behind_read(reply: Reply) -> Stage
-    ensures { result ≡ after_read reply }
+    ensures { result ≡ stage_after_read reply }
 {
     let Reply::Bytes { bytes } = reply else {
         return Stage::CloseData;
@@ -106,7 +106,7 @@ fn behind_read(reply: Reply) -> Stage
 
 /// Reads a message of the call.
 pub fn read(alloc: Global) -> Result<Option<Request>, AllocError>
-    ensures { IfOk result (λ asked. asked ≡ Some reads) }
+    ensures { IfOk result (λ asked. asked ≡ Some reads_call) }
 {
     let name = Octets::from_slice(alloc, b"d")?;
     Ok(Some(Request::Read { name, count: COUNT }))
@@ -114,7 +114,7 @@ pub fn read(alloc: Global) -> Result<Option<Request>, AllocError>
 
 /// Writes a message to the call.
 pub fn write(alloc: Global, text: &Octets) -> Result<Option<Request>, AllocError>
-    ensures { IfOk result (λ asked. asked ≡ Some (writes text.now)) }
+    ensures { IfOk result (λ asked. asked ≡ Some (writes_back text.now)) }
 {
     let (name, text) = (Octets::from_slice(alloc, b"d")?, text.clone()?);
     Ok(Some(Request::Write { name, text }))
@@ -122,7 +122,7 @@ pub fn write(alloc: Global, text: &Octets) -> Result<Option<Request>, AllocError
 
 /// Closes the file of this name.
 pub fn close(alloc: Global, name: &[u8]) -> Result<Option<Request>, AllocError>
-    ensures { IfOk result (λ asked. asked ≡ Some (closes name.now)) }
+    ensures { IfOk result (λ asked. asked ≡ Some (closes_echo name.now)) }
 {
     let name = Octets::from_slice(alloc, name)?;
     Ok(Some(Request::Close { name }))

@@ -9,26 +9,26 @@ use Rattle.net_base.specs.Paths.{file_name}
 use Rattle.net_base.specs.StateWords.{state_word, cause_text}
 use Rattle.net_base.specs.Transcript.{event_words, reply_words}
 
-abbrev pub first_word : List (List ℕ) → List ℕ
-first_word [] = []
-first_word (word ∷ words) = word
+abbrev pub first_of_words : List (List ℕ) → List ℕ
+first_of_words [] = []
+first_of_words (word ∷ words) = word
 
 -- a word with a number behind it
 abbrev pub numbered : List ℕ → ℕ → List ℕ
 numbered word n = word ++ codes " " ++ numeral n
 
 -- a word with another one behind it
-abbrev pub beside : List ℕ → List ℕ → List ℕ
-beside word other = word ++ codes " " ++ other
+abbrev pub word_beside : List ℕ → List ℕ → List ℕ
+word_beside word other = word ++ codes " " ++ other
 
 -- bytes that are written or asked for, moments in ms, the name of a file
 abbrev pub event_label : Event → List ℕ
 event_label (event.Until m) = numbered (codes "until") m
-event_label (event.Open f m) = beside (codes "open") (file_name f)
-event_label (event.File g f count) = beside (codes "read") (file_name f)
+event_label (event.Open f m) = word_beside (codes "open") (file_name f)
+event_label (event.File g f count) = word_beside (codes "read") (file_name f)
 event_label (event.Read g count) = numbered (codes "read") count
 event_label (event.Write g text) = numbered (codes "write") (length text)
-event_label e = first_word (event_words e)
+event_label e = first_of_words (event_words e)
 
 -- lines, names, calls and bytes by how many there are; why a conversation is hung up
 abbrev pub reply_label : Reply → List ℕ
@@ -37,7 +37,7 @@ reply_label (reply.CsRefused n) = numbered (codes "csrefused") n
 reply_label (reply.Names names) = numbered (codes "names") (length names)
 reply_label (reply.Version n) = numbered (codes "version") n
 reply_label (reply.Slot n g) = numbered (codes "slot") n
-reply_label (reply.WrongState s) = beside (codes "wrong") (state_word s)
+reply_label (reply.WrongState s) = word_beside (codes "wrong") (state_word s)
 reply_label (reply.PairUsed k) = numbered (codes "pairused") k
 reply_label (reply.PortTaken n) = numbered (codes "taken") n
 reply_label (reply.Call n g) = numbered (codes "call") n
@@ -51,4 +51,4 @@ reply_label (reply.TooLong length limit) = numbered (codes "toolong") length
 reply_label (reply.BadCtl n) = numbered (codes "badctl") n
 reply_label (reply.Laid k) = numbered (codes "laid") k
 reply_label (reply.Copy k) = numbered (codes "copy") k
-reply_label r = first_word (reply_words r)
+reply_label r = first_of_words (reply_words r)

@@ -1,6 +1,6 @@
 //! A word with what stands behind it.
 ghost use Rattle.std.specs.Prelude.{◌≡◌, ◌++◌, OnOk};
-ghost use Rattle.entry_labels.specs.Labels.{beside, numbered};
+ghost use Rattle.entry_labels.specs.Labels.{word_beside, numbered};
 
 use net_base::Octets;
 use std::alloc::AllocError;
@@ -15,7 +15,7 @@ pub fn put_numbered(out: &mut Octets, word: &[u8], n: u64) -> Result<(), AllocEr
 }
 
 pub fn put_beside(out: &mut Octets, word: &[u8], other: &[u8]) -> Result<(), AllocError>
-    ensures { OnOk result (out.new ≡ out.old ++ beside word.now other.now) }
+    ensures { OnOk result (out.new ≡ out.old ++ word_beside word.now other.now) }
 {
     out.append(word)?;
     out.append(b" ")?;

@@ -17,7 +17,7 @@ use Rattle.net_base.specs.Stamped.{at, at_from}
 use Rattle.journal.proofs.Shared.{at-append}
 use Rattle.history_laws.specs.Apart as apart
 use Rattle.guest_laws.specs.Works.{step_by, noted_after, next_noted, noted_from, noted_net, owed_in, entries}
-use Rattle.guest_laws.specs.Own.{IsTurnOf, IsNextOf, IsTimelyIn, OwnFrom, EachOwn, StandsStill, Gains}
+use Rattle.guest_laws.specs.Own.{IsTurnOf, IsNextOf, IsTimelyIn, OwnFrom, EachOwn, OwnStandsStill, OwnGains}
 use Rattle.guest_laws.proofs.Nets.{noted_from-append, noted_push}
 use Rattle.net_base.proofs.Members.{no_cons}
 
@@ -95,7 +95,7 @@ module _ (w : World) (c : ℕ) (K : Net → Noted → Type 0) where
   own_push log x m is = own-append (opening_net w) log (x ∷ []) m (λ same. is, tt)
 
 -- with one entry more
-pub gains : (w : World) (c : ℕ) (log : List Noted) (x : Noted) → Gains w c log x (log ++ x ∷ [])
+pub gains : (w : World) (c : ℕ) (log : List Noted) (x : Noted) → OwnGains w c log x (log ++ x ∷ [])
 gains w c log x = record { turns = own_push w c (IsTurnOf w) log x; nexts = λ ts. own_push w c (IsNextOf ts w) log x; timely = λ ts. own_push w c (IsTimelyIn ts w) log x }
 
 -- a later history of entries with the same of a caller's
@@ -103,7 +103,7 @@ abbrev pub LaterStands : Type 0
 LaterStands = (w : World) (h l : List Entry) (c : ℕ) → IsPrefix h l → by l c ≡ by h c → apart.StandsStill w c h l
 
 pub stands_by : LaterStands → (w : World) (c : ℕ) (log more : List Noted) → at (number.Caller c) log ≡ at (number.Caller c) (log ++ more)
-    → StandsStill w c log (log ++ more)
+    → OwnStandsStill w c log (log ++ more)
 stands_by still w c log more same =
     let none = none_between (number.Caller c) log more same in
     let recorded : by (entries (log ++ more)) c ≡ by (entries log) c = by_from 0 c (log ++ more) ∙ (ap (map own) (sym same) ∙ sym (by_from 0 c log)) in
@@ -118,6 +118,6 @@ stands_by still w c log more same =
 
 -- what a caller owes, what comes next for it and what its entries are stay while it records nothing
 pub stands_still : LaterStands → (w : World) (c : ℕ) (earlier later : List Noted) → IsPrefix earlier later
-    → at (number.Caller c) earlier ≡ at (number.Caller c) later → StandsStill w c earlier later
+    → at (number.Caller c) earlier ≡ at (number.Caller c) later → OwnStandsStill w c earlier later
 stands_still still w c earlier later front same =
-    subst (λ (l : List Noted). StandsStill w c earlier l) front.1 (stands_by still w c earlier front.0 (same ∙ ap (at (number.Caller c)) (sym front.1)))
+    subst (λ (l : List Noted). OwnStandsStill w c earlier l) front.1 (stands_by still w c earlier front.0 (same ∙ ap (at (number.Caller c)) (sym front.1)))

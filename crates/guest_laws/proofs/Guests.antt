@@ -25,11 +25,11 @@ use Rattle.journal.specs.declared.tokens.Sight.{Sight}
 use Rattle.journal.specs.Rule.{Held, gain}
 use Rattle.journal.specs.Tokens.{Looked, Met}
 use Rattle.journal.proofs.Shared.{at-snoc, in-gain}
-use Rattle.locked.specs.Acts.{made, state_at, without_copy}
-use Rattle.guest_laws.specs.Named.{Named, named, named_step, opening, answer_in}
+use Rattle.locked.specs.Acts.{made, state_at, act_without_copy}
+use Rattle.guest_laws.specs.Named.{Named, named, named_step, named_opening, answer_in}
 use Rattle.guest_laws.specs.Works.{noted_net, owed_in, entries}
-use Rattle.guest_laws.specs.Own.{AreNext, AreTimely, AreTurns, IsAskedButOfScripts, IsNextOf, IsTurnOf, StandsStill}
-use Rattle.guest_laws.specs.Guests.{IsGuest, IsTurn, Records, StaysGuest, HasRecorded}
+use Rattle.guest_laws.specs.Own.{AreNext, AreTimely, AreTurns, IsAskedButOfScripts, IsNextOf, IsTurnOf, OwnStandsStill}
+use Rattle.guest_laws.specs.Guests.{IsGuest, IsGuestTurn, GuestRecords, StaysGuest, HasRecorded}
 use Rattle.guest_laws.proofs.Nets.{past_is}
 use Rattle.guest_laws.proofs.Apart.{LaterStands, stands_still, owed_push, gains}
 use Rattle.net_base.proofs.Shared.{number_itself, in_front, in_back}
@@ -72,16 +72,16 @@ module _ (still : LaterStands) (w : World) (r : Roster) (c : ℕ) (p p' : Sight)
 
 -- an entry of its own
 module _ (still : LaterStands)
-    (state_is : (w : World) (log : List Noted) (a : ActorName) → state_at (opening w) (answer_in w) a log ≡ named a ((noted_net w log).actors a))
+    (state_is : (w : World) (log : List Noted) (a : ActorName) → state_at (named_opening w) (answer_in w) a log ≡ named a ((noted_net w log).actors a))
     (w : World) (r : Roster) (c : ℕ) (p p' : Sight) (ds : List Duty) (a : ActorName) (now : ℕ) (work : Work) (cites : Option ℕ) (stamp : ℕ) (o : Outcome)
-    (g : IsGuest w r c p ds) (t : IsTurn w c p ds a work cites) (d : Records w r a c now work cites p stamp o p') where
+    (g : IsGuest w r c p ds) (t : IsGuestTurn w c p ds a work cites) (d : GuestRecords w r a c now work cites p stamp o p') where
   abbrev the : Noted
   the = made a c now work cites o
 
   same : at (number.Caller c) d.past ≡ g.list
   same = d.lists (number.Caller c) g.list g.held
 
-  stands : StandsStill w c p.seen d.past
+  stands : OwnStandsStill w c p.seen d.past
   stands = stands_still still w c p.seen d.past d.before (g.all ∙ sym same)
 
   owes : owed_in w d.past c ≡ ds
@@ -141,7 +141,7 @@ module _ (still : LaterStands)
   has_recorded = record {
     step = stepped.0;
     stepped = stepped.1;
-    outcome = d.outcome ∙ ap without_copy stepped.2;
+    outcome = d.outcome ∙ ap act_without_copy stepped.2;
     guest = record {
       list = list';
       held = held';

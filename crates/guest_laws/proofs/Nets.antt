@@ -16,7 +16,7 @@ use Rattle.net_base.specs.Net.{Net, opening_net, moment_after, stepped_to}
 use Rattle.net_base.specs.Stamped as stamped
 use Rattle.net_base.specs.Stamped.{same_actor, at_from, clock, latest}
 use Rattle.locked.specs.Acts.{left_by, state, state_at}
-use Rattle.guest_laws.specs.Named.{Named, named, named_step, opening, answer_in}
+use Rattle.guest_laws.specs.Named.{Named, named, named_step, named_opening, answer_in}
 use Rattle.guest_laws.specs.Works.{step_by, moment_by, noted_after, next_noted, noted_from, noted_net, entries}
 
 pub named_left : (a : ActorName) (s : Actor) (t : Option (Step Actor)) → left_by (named a s) (option_map (named_step a) t) ≡ named a (stepped_to s t)
@@ -45,21 +45,21 @@ module _ (w : World) (equal : (a b : ActorName) → same_actor a b ≡ true → 
       ∙ ap (named a) (ap (λ (t : Option (Step Actor)). stepped_to (net.actors a) t) step ∙ sym (moved net x a (step_by w net x) same))
 
   state_more : (net : Net) (n : ℕ) (x : Noted) (rest : List (ℕ × Noted)) (a : ActorName) (end : Named) (b : Bool) → same_actor x.entry.actor a ≡ b
-      → state (opening w) (answer_in w) (named a ((next_noted w net x).actors a)) rest ≡ end
-      → state (opening w) (answer_in w) (named a (net.actors a)) (if b then (n, x) ∷ rest else rest) ≡ end
-  state_more net n x rest a end true same rec = ap (λ (s : Named). state (opening w) (answer_in w) s rest) (named_moved net x a same) ∙ rec
+      → state (named_opening w) (answer_in w) (named a ((next_noted w net x).actors a)) rest ≡ end
+      → state (named_opening w) (answer_in w) (named a (net.actors a)) (if b then (n, x) ∷ rest else rest) ≡ end
+  state_more net n x rest a end true same rec = ap (λ (s : Named). state (named_opening w) (answer_in w) s rest) (named_moved net x a same) ∙ rec
   state_more net n x rest a end false other rec =
-      ap (λ (s : Actor). state (opening w) (answer_in w) (named a s) rest) (sym (unmoved net x a (step_by w net x) other)) ∙ rec
+      ap (λ (s : Actor). state (named_opening w) (answer_in w) (named a s) rest) (sym (unmoved net x a (step_by w net x) other)) ∙ rec
 
   state_from : (net : Net) (n : ℕ) (xs : List Noted) (a : ActorName)
-      → state (opening w) (answer_in w) (named a (net.actors a)) (at_from (number.Actor a) n xs) ≡ named a ((noted_from w net xs).actors a)
+      → state (named_opening w) (answer_in w) (named a (net.actors a)) (at_from (number.Actor a) n xs) ≡ named a ((noted_from w net xs).actors a)
   state_from net n [] a = refl
   state_from net n (x ∷ xs) a =
       state_more net n x (at_from (number.Actor a) (n + 1) xs) a (named a ((noted_from w (next_noted w net x) xs).actors a)) (same_actor x.entry.actor a) refl
       (state_from (next_noted w net x) (n + 1) xs a)
 
   -- what lies under an actor's lock is that actor of the net
-  pub state_is : (log : List Noted) (a : ActorName) → state_at (opening w) (answer_in w) a log ≡ named a ((noted_net w log).actors a)
+  pub state_is : (log : List Noted) (a : ActorName) → state_at (named_opening w) (answer_in w) a log ≡ named a ((noted_net w log).actors a)
   state_is log a = state_from (opening_net w) 0 log a
 
 module _ (w : World) where

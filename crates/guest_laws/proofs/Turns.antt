@@ -14,11 +14,11 @@ use Rattle.journal.specs.declared.tokens.Sight.{Sight}
 use Rattle.locked.specs.Acts.{made}
 use Rattle.guest_laws.specs.Works.{entries}
 use Rattle.guest_laws.specs.Own.{IsAskedButOfScripts}
-use Rattle.guest_laws.specs.Guests.{IsTurn}
+use Rattle.guest_laws.specs.Guests.{IsGuestTurn}
 
 -- any event of a script that owes nothing
 pub script_turn : (w : World) (c : ℕ) (p : Sight) (s : Script) (a : ActorName) (work : Work) → caller_of w c ≡ IsScript s → work.with ≡ given.Nothing
-    → IsTurn w c p [] a work None
+    → IsGuestTurn w c p [] a work None
 script_turn w c p s a work is nothing = record {
   given = nothing;
   cites_it = refl;
@@ -27,12 +27,12 @@ script_turn w c p s a work is nothing = record {
 
 -- the first duty
 pub duty_turn : (w : World) (c : ℕ) (p : Sight) (d : Duty) (ds : List Duty)
-    → IsTurn w c p (d ∷ ds) d.actor (record { event = d.event; with = d.with }) (Some d.cites)
+    → IsGuestTurn w c p (d ∷ ds) d.actor (record { event = d.event; with = d.with }) (Some d.cites)
 duty_turn w c p d ds = record { given = refl; cites_it = refl; asked = λ now o. refl }
 
 -- a copy that a courier takes of its medium
 pub courier_turn : (w : World) (c : ℕ) (p : Sight) (m : ℕ) → caller_of w c ≡ IsCourier m
-    → IsTurn w c p [] (name.Medium m) (record { event = event.Take; with = given.Nothing }) None
+    → IsGuestTurn w c p [] (name.Medium m) (record { event = event.Take; with = given.Nothing }) None
 courier_turn w c p m is = record {
   given = refl;
   cites_it = refl;
@@ -42,7 +42,7 @@ courier_turn w c p m is = record {
 
 -- a move of the clock
 pub clock_turn : (w : World) (c : ℕ) (p : Sight) (m : ℕ) → caller_of w c ≡ IsClock
-    → IsTurn w c p [] name.Clock (record { event = event.Move m; with = given.Nothing }) None
+    → IsGuestTurn w c p [] name.Clock (record { event = event.Move m; with = given.Nothing }) None
 clock_turn w c p m is = record {
   given = refl;
   cites_it = refl;

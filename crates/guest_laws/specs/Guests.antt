@@ -19,10 +19,10 @@ use Rattle.journal.specs.declared.law.Roster.{Roster}
 use Rattle.journal.specs.declared.tokens.Sight.{Sight}
 use Rattle.journal.specs.Rule.{Held, Lawful, same_number}
 use Rattle.journal.specs.Tokens.{Met}
-use Rattle.locked.specs.Acts.{IsDone, made, without_copy}
+use Rattle.locked.specs.Acts.{IsDone, made, act_without_copy}
 use Rattle.guest_laws.specs.Works.{entries, noted_net, owed_in}
-use Rattle.guest_laws.specs.Own.{AreNext, AreTimely, AreTurns, IsAskedButOfScripts, StandsStill}
-use Rattle.guest_laws.specs.Named.{answer_in, opening}
+use Rattle.guest_laws.specs.Own.{AreNext, AreTimely, AreTurns, IsAskedButOfScripts, OwnStandsStill}
+use Rattle.guest_laws.specs.Named.{answer_in, named_opening}
 
 -- the pass holds the caller's number, the caller owes these, and each of its entries is a turn of it
 pub record IsGuest (w : World) (r : Roster) (c : ℕ) (p : Sight) (ds : List Duty) : Type 0 where
@@ -34,7 +34,7 @@ pub record IsGuest (w : World) (r : Roster) (c : ℕ) (p : Sight) (ds : List Dut
   pub turns : AreTurns w c p.seen
 
 -- the event at the actor, with what is given to it and the stamp that it cites, is a turn of the caller that owes these
-pub record IsTurn (w : World) (c : ℕ) (p : Sight) (ds : List Duty) (a : ActorName) (work : Work)
+pub record IsGuestTurn (w : World) (c : ℕ) (p : Sight) (ds : List Duty) (a : ActorName) (work : Work)
     (cites : Option ℕ) : Type 0 where
   pub given : work.with ≡ with_of ds
   pub cites_it : cites ≡ cites_of ds
@@ -42,13 +42,13 @@ pub record IsTurn (w : World) (c : ℕ) (p : Sight) (ds : List Duty) (a : ActorN
       IsAskedButOfScripts ds (caller_of w c) (next_recorded w (entries p.seen) c) (made a c now work cites o).entry
 
 -- one entry of the caller was recorded at the actor's lock
-abbrev pub Records : World → Roster → ActorName → ℕ → ℕ → Work → Option ℕ → Sight → ℕ → Outcome → Sight → Type 0
-Records w r a c now work cites p stamp o p' = IsDone (opening w) (answer_in w) r a c now work cites p stamp o p'
+abbrev pub GuestRecords : World → Roster → ActorName → ℕ → ℕ → Work → Option ℕ → Sight → ℕ → Outcome → Sight → Type 0
+GuestRecords w r a c now work cites p stamp o p' = IsDone (named_opening w) (answer_in w) r a c now work cites p stamp o p'
 
 -- after the later pass the caller stands as it stood after the earlier one, and is a guest of the same duties
 pub record StaysGuest (w : World) (r : Roster) (c : ℕ) (p : Sight) (ds : List Duty) (p' : Sight) : Type 0 where
   pub guest : IsGuest w r c p' ds
-  pub stands : StandsStill w c p.seen p'.seen
+  pub stands : OwnStandsStill w c p.seen p'.seen
 
 -- the entry was a step of its actor in the net of the past, and the caller is a guest still. Its first duty is done,
 -- and the duties of the entry are owed after the others
@@ -56,7 +56,7 @@ pub record HasRecorded (w : World) (r : Roster) (a : ActorName) (c now : ℕ) (w
     (past : List Noted) (p : Sight) (ds : List Duty) (stamp : ℕ) (o : Outcome) (p' : Sight) : Type 0 where
   pub step : Step Actor
   pub stepped : actor_step w a ((noted_net w past).actors a) now work ≡ Some step
-  pub outcome : o ≡ without_copy step.outcome
+  pub outcome : o ≡ act_without_copy step.outcome
   pub guest : IsGuest w r c p' (drop 1 ds ++ duties w (noted_net w past).actors a stamp work step)
   pub nexts : (ts : Tasks) → IsAsked ds (caller_of w c) (next_by ts w (entries p.seen) c) (made a c now work cites o).entry →
       AreNext ts w c p.seen → AreNext ts w c p'.seen

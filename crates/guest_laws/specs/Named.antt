@@ -16,8 +16,8 @@ abbrev pub named : ActorName → Actor → Named
 named a s = record { name = a; actor = s }
 
 -- the actor of this name, to which nothing has happened
-abbrev pub opening : World → ActorName → Named
-opening w a = named a (opening_actor w.timers a)
+abbrev pub named_opening : World → ActorName → Named
+named_opening w a = named a (opening_actor w.timers a)
 
 -- the step of an actor, which keeps its name
 abbrev pub named_step : ActorName → Step Actor → Step Named
@@ -27,8 +27,8 @@ named_step a t = record { state = named a t.state; outcome = t.outcome }
 abbrev pub answer_in : World → Named → ℕ → Work → Option (Step Named)
 answer_in w s now work = option_map (named_step s.name) (actor_step w s.name s.actor now work)
 
-abbrev pub due_of : Named → Option ℕ
-due_of s = duties.due_of s.actor
+abbrev pub named_due : Named → Option ℕ
+named_due s = duties.due_of s.actor
 
-abbrev pub generation_of : Named → ℕ
-generation_of s = duties.generation_of s.actor
+abbrev pub named_generation : Named → ℕ
+named_generation s = duties.generation_of s.actor

@@ -61,7 +61,7 @@ abbrev pub AreTimely : Tasks → World → ℕ → List Noted → Type 0
 AreTimely ts w c log = EachOwn w c (IsTimelyIn ts w) log
 
 -- after the later entries the caller stands as it stood after the earlier ones, whoever plays a task
-pub record StandsStill (w : World) (c : ℕ) (earlier later : List Noted) : Type 0 where
+pub record OwnStandsStill (w : World) (c : ℕ) (earlier later : List Noted) : Type 0 where
   pub owes : owed_in w later c ≡ owed_in w earlier c
   pub comes_next : (ts : Tasks) → next_by ts w (entries later) c ≡ next_by ts w (entries earlier) c
   pub turns : AreTurns w c earlier → AreTurns w c later
@@ -69,7 +69,7 @@ pub record StandsStill (w : World) (c : ℕ) (earlier later : List Noted) : Type
   pub timely : (ts : Tasks) → AreTimely ts w c earlier → AreTimely ts w c later
 
 -- with an entry of its own more
-pub record Gains (w : World) (c : ℕ) (past : List Noted) (x : Noted) (later : List Noted) : Type 0 where
+pub record OwnGains (w : World) (c : ℕ) (past : List Noted) (x : Noted) (later : List Noted) : Type 0 where
   pub turns : AreTurns w c past → IsTurnOf w (noted_net w past) x → AreTurns w c later
   pub nexts : (ts : Tasks) → AreNext ts w c past → IsNextOf ts w (noted_net w past) x → AreNext ts w c later
   pub timely : (ts : Tasks) → AreTimely ts w c past → IsTimelyIn ts w (noted_net w past) x → AreTimely ts w c later

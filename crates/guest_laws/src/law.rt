@@ -28,9 +28,9 @@ ghost use Rattle.journal.specs.declared.tokens.Sight.{Sight};
 ghost use Rattle.journal.specs.Tokens.{Looked, Met};
 ghost use Rattle.locked.specs.Acts.{state_at};
 ghost use Rattle.guest_laws.specs.Works.{noted_net, next_noted, entries, owed_in};
-ghost use Rattle.guest_laws.specs.Own.{AreNext, AreTimely, DoScriptsGoOn, Gains, IsLegalButScripts, StandsStill};
-ghost use Rattle.guest_laws.specs.Named.{answer_in, due_of, generation_of, named, opening};
-ghost use Rattle.guest_laws.specs.Guests.{HandsOver, HasRecorded, IsGuest, IsOfGuests, IsTurn, Records, StaysGuest};
+ghost use Rattle.guest_laws.specs.Own.{AreNext, AreTimely, DoScriptsGoOn, OwnGains, IsLegalButScripts, OwnStandsStill};
+ghost use Rattle.guest_laws.specs.Named.{answer_in, named_due, named_generation, named, named_opening};
+ghost use Rattle.guest_laws.specs.Guests.{HandsOver, HasRecorded, IsGuest, IsOfGuests, IsGuestTurn, GuestRecords, StaysGuest};
 
 use history_laws::{callers_are_apart, histories_grow, same_actors_are_equal};
 
@@ -45,14 +45,14 @@ pub fn nets_of_works_grow()
 /// What lies under an actor's lock is that actor of the net of the works.
 pub fn locks_keep_actors()
     ensures state { (w : World) (log : List Noted) (a : ActorName)
-        → state_at (opening w) (answer_in w) a log ≡ named a ((noted_net w log).actors a) }
+        → state_at (named_opening w) (answer_in w) a log ≡ named a ((noted_net w log).actors a) }
     ensures ready { (w : World) (log : List Noted) (a : ActorName) (now : ℕ) (work : Work)
-        → is_some (answer_in w (state_at (opening w) (answer_in w) a log) now work)
+        → is_some (answer_in w (state_at (named_opening w) (answer_in w) a log) now work)
         ≡ is_some (actor_step w a ((noted_net w log).actors a) now work) }
     ensures due { (w : World) (log : List Noted) (a : ActorName)
-        → due_of (state_at (opening w) (answer_in w) a log) ≡ duties.due_of ((noted_net w log).actors a) }
+        → named_due (state_at (named_opening w) (answer_in w) a log) ≡ duties.due_of ((noted_net w log).actors a) }
     ensures generation { (w : World) (log : List Noted) (a : ActorName)
-        → generation_of (state_at (opening w) (answer_in w) a log) ≡ duties.generation_of ((noted_net w log).actors a) }
+        → named_generation (state_at (named_opening w) (answer_in w) a log) ≡ duties.generation_of ((noted_net w log).actors a) }
 {
     same_actors_are_equal();
 }
@@ -82,27 +82,27 @@ pub fn no_duty_is_the_clocks()
 /// What a caller owes, what comes next for it and what its own entries are stay when others record.
 pub fn others_leave_a_caller()
     ensures { (w : World) (c : ℕ) (earlier later : List Noted) → IsPrefix earlier later
-        → at (number.Caller c) earlier ≡ at (number.Caller c) later → StandsStill w c earlier later }
+        → at (number.Caller c) earlier ≡ at (number.Caller c) later → OwnStandsStill w c earlier later }
 {
     callers_are_apart();
 }
 
 /// What is known of a caller's entries is known with one entry more of which it is known.
 pub fn an_own_entry_is_gained()
-    ensures { (w : World) (c : ℕ) (past : List Noted) (x : Noted) → Gains w c past x (past ++ x ∷ []) }
+    ensures { (w : World) (c : ℕ) (past : List Noted) (x : Noted) → OwnGains w c past x (past ++ x ∷ []) }
 {}
 
 /// Turns are the first duty, any event of a script that owes nothing, a copy that a courier takes of its medium, a move
 /// of the clock.
 pub fn turns_are_these()
     ensures duty { (w : World) (c : ℕ) (p : Sight) (d : Duty) (ds : List Duty)
-        → IsTurn w c p (d ∷ ds) d.actor (record { event = d.event; with = d.with }) (Some d.cites) }
+        → IsGuestTurn w c p (d ∷ ds) d.actor (record { event = d.event; with = d.with }) (Some d.cites) }
     ensures script { (w : World) (c : ℕ) (p : Sight) (s : Script) (a : ActorName) (work : Work)
-        → caller_of w c ≡ IsScript s → work.with ≡ given.Nothing → IsTurn w c p [] a work None }
+        → caller_of w c ≡ IsScript s → work.with ≡ given.Nothing → IsGuestTurn w c p [] a work None }
     ensures courier { (w : World) (c : ℕ) (p : Sight) (m : ℕ) → caller_of w c ≡ IsCourier m
-        → IsTurn w c p [] (name.Medium m) (record { event = event.Take; with = given.Nothing }) None }
+        → IsGuestTurn w c p [] (name.Medium m) (record { event = event.Take; with = given.Nothing }) None }
     ensures clock { (w : World) (c : ℕ) (p : Sight) (m : ℕ) → caller_of w c ≡ IsClock
-        → IsTurn w c p [] name.Clock (record { event = event.Move m; with = given.Nothing }) None }
+        → IsGuestTurn w c p [] name.Clock (record { event = event.Move m; with = given.Nothing }) None }
 {}
 
 /// A caller whose pass has seen nothing is a guest that owes nothing, and all of its entries are as they should be.
@@ -117,8 +117,8 @@ pub fn guests_begin()
 /// A caller whose turn was recorded owes the duties of the entry after the others, its first duty being done.
 pub fn guests_record()
     ensures { (w : World) (r : Roster) (a : ActorName) (c now : ℕ) (work : Work) (cites : Option ℕ) (p : Sight)
-        (ds : List Duty) (stamp : ℕ) (o : Outcome) (p' : Sight) → IsGuest w r c p ds → IsTurn w c p ds a work cites
-        → (d : Records w r a c now work cites p stamp o p')
+        (ds : List Duty) (stamp : ℕ) (o : Outcome) (p' : Sight) → IsGuest w r c p ds → IsGuestTurn w c p ds a work cites
+        → (d : GuestRecords w r a c now work cites p stamp o p')
         → HasRecorded w r a c now work cites d.past p ds stamp o p' }
 {
     callers_are_apart();
@@ -137,7 +137,7 @@ pub fn guests_look()
 pub fn guests_stay_by_others()
     ensures { (w : World) (r : Roster) (a : ActorName) (c e now : ℕ) (work : Work) (cites : Option ℕ) (p : Sight)
         (ds : List Duty) (stamp : ℕ) (o : Outcome) (p' : Sight) → IsGuest w r e p ds → (c == e) ≡ false
-        → Records w r a c now work cites p stamp o p' → StaysGuest w r e p ds p' }
+        → GuestRecords w r a c now work cites p stamp o p' → StaysGuest w r e p ds p' }
 {
     callers_are_apart();
 }

@@ -28,8 +28,8 @@ use Rattle.net_base.specs.StateWords.{state_word}
 use Rattle.net_base.specs.Transcript.{actor_word, addr_word, cause_number, ip_or_star, ip_word, kind_word, mode_word, number_or_dash, number_or_star}
 use Rattle.words.proofs.Shared.{addresses_alike, decimal_is_numeral, numeral_by_steps}
 use Rattle.history_reader.specs.Fields as spec
-use Rattle.history_reader.specs.Fields.{Words, Read, both, made, one}
-use Rattle.history_reader.specs.Wide.{IfAny, IsLong, IsNarrow, IsOctet, IsPlace, IsPort, IsWideActor}
+use Rattle.history_reader.specs.Fields.{Words, Read, both_fields, read_as, one}
+use Rattle.history_reader.specs.Wide.{IfAny, IsLongField, IsNarrow, IsOctet, IsPlace, IsPort, IsWideActor}
 use Rattle.history_reader.proofs.Clean.{IsFree, AreFree, free_address, free_both, free_numeral, one_part, parts_back}
 use Rattle.history_reader.proofs.Exact.{AreBare, AreRows, Exact, ExactWord, IsBare, bare_row, exact_as, exact_both, exact_made, exact_one, exact_parts, exact_spelled, made_told, row, rows_sound}
 use Rattle.net_base.proofs.Shared.{number_in-spelled, number-back, within-is, address-dotted, address-back}
@@ -60,9 +60,9 @@ numbers n = numeral n ∷ []
 number_reads : (most : ℕ) → most < 2 ^ 64 → Exact ℕ (one (number_in 0 most)) numbers (λ n. n ≤ most)
 number_reads most fits = exact_one (number_in 0 most) numeral (λ n. n ≤ most) (number_exact most fits)
 
-pub long_exact : Exact ℕ spec.long numbers IsLong
+pub long_exact : Exact ℕ spec.long numbers IsLongField
 long_exact =
-    exact_as spec.long numbers (λ n. n ≤ 18446744073709551615) IsLong (number_reads 18446744073709551615 (omega arith)) (λ n h. omega (arith, h)) (λ n h. omega (arith, h))
+    exact_as spec.long numbers (λ n. n ≤ 18446744073709551615) IsLongField (number_reads 18446744073709551615 (omega arith)) (λ n h. omega (arith, h)) (λ n h. omega (arith, h))
 
 pub narrow_exact : Exact ℕ spec.narrow numbers IsNarrow
 narrow_exact = exact_as spec.narrow numbers (λ n. n ≤ 4294967295) IsNarrow (number_reads 4294967295 (omega arith)) (λ n h. omega (arith, h)) (λ n h. omega (arith, h))
@@ -97,7 +97,7 @@ spell_or mark spell None = mark
 spell_or mark spell (Some n) = spell n
 
 marked_sound : (mark : List ℕ) (read : List ℕ → Option ℕ) (spell : ℕ → List ℕ) (P : ℕ → Type 0) → ExactWord ℕ read spell P
-    → (word : List ℕ) (n : Option ℕ) → spec.marked mark read word ≡ Some n → (word ≡ spell_or mark spell n) × IfAny P n
+    → (word : List ℕ) (n : Option ℕ) → spec.read_marked mark read word ≡ Some n → (word ≡ spell_or mark spell n) × IfAny P n
 marked_sound mark read spell P exact word n e = by (bytes_eq word mark) refl e
   where
     some : (o : Option ℕ) → read word ≡ o → option_map (λ (k : ℕ). Some k) o ≡ Some n → (word ≡ spell_or mark spell n) × IfAny P n
@@ -114,7 +114,7 @@ marked_sound mark read spell P exact word n e = by (bytes_eq word mark) refl e
     by false is f = some (read word) refl f
 
 marked_told : (mark : List ℕ) (read : List ℕ → Option ℕ) (spell : ℕ → List ℕ) (P : ℕ → Type 0) → ExactWord ℕ read spell P → bytes_eq mark mark ≡ true
-    → ((n : ℕ) → bytes_eq (spell n) mark ≡ false) → (n : Option ℕ) → IfAny P n → spec.marked mark read (spell_or mark spell n) ≡ Some n
+    → ((n : ℕ) → bytes_eq (spell n) mark ≡ false) → (n : Option ℕ) → IfAny P n → spec.read_marked mark read (spell_or mark spell n) ≡ Some n
 marked_told mark read spell P exact self other None fits = ap (λ v. if v then Some None else option_map (λ (k : ℕ). Some k) (read mark)) self
 marked_told mark read spell P exact self other (Some n) fits =
     ap (λ v. if v then Some None else option_map (λ (k : ℕ). Some k) (read (spell n))) (other n) ∙ ap (option_map (λ (k : ℕ). Some k)) (exact.told n fits)
@@ -125,7 +125,7 @@ marked_bare mark read spell P exact is None fits = is
 marked_bare mark read spell P exact is (Some n) fits = exact.bare n fits
 
 marked_exact : (mark : List ℕ) (read : List ℕ → Option ℕ) (spell : ℕ → List ℕ) (P : ℕ → Type 0) → ExactWord ℕ read spell P → bytes_eq mark mark ≡ true
-    → ((n : ℕ) → bytes_eq (spell n) mark ≡ false) → IsBare mark → ExactWord (Option ℕ) (spec.marked mark read) (spell_or mark spell) (IfAny P)
+    → ((n : ℕ) → bytes_eq (spell n) mark ≡ false) → IsBare mark → ExactWord (Option ℕ) (spec.read_marked mark read) (spell_or mark spell) (IfAny P)
 marked_exact mark read spell P exact self other is =
     record {
       sound = marked_sound mark read spell P exact;
@@ -158,10 +158,10 @@ as_any P Q go None fits = tt
 as_any P Q go (Some n) fits = go n fits
 
 option_reads : (mark most : ℕ) (P : ℕ → Type 0) → most < 2 ^ 64 → mark < 48 → bytes_eq (mark ∷ []) (mark ∷ []) ≡ true → IsBare (mark ∷ []) → ((n : ℕ) → n ≤ most → P n) → ((n : ℕ) → P n → n ≤ most)
-    → Exact (Option ℕ) (one (spec.marked (mark ∷ []) (number_in 0 most))) (λ n. spell_or (mark ∷ []) numeral n ∷ []) (IfAny P)
+    → Exact (Option ℕ) (one (spec.read_marked (mark ∷ []) (number_in 0 most))) (λ n. spell_or (mark ∷ []) numeral n ∷ []) (IfAny P)
 option_reads mark most P fits low self is there back' =
-    exact_as (one (spec.marked (mark ∷ []) (number_in 0 most))) (λ n. spell_or (mark ∷ []) numeral n ∷ []) (IfAny (λ n. n ≤ most)) (IfAny P)
-    (exact_one (spec.marked (mark ∷ []) (number_in 0 most)) (spell_or (mark ∷ []) numeral) (IfAny (λ n. n ≤ most))
+    exact_as (one (spec.read_marked (mark ∷ []) (number_in 0 most))) (λ n. spell_or (mark ∷ []) numeral n ∷ []) (IfAny (λ n. n ≤ most)) (IfAny P)
+    (exact_one (spec.read_marked (mark ∷ []) (number_in 0 most)) (spell_or (mark ∷ []) numeral) (IfAny (λ n. n ≤ most))
     (marked_exact (mark ∷ []) (number_in 0 most) numeral (λ n. n ≤ most) (number_exact most fits) self (λ n. no_mark_alone n mark low) is))
     (as_any (λ n. n ≤ most) P there) (as_any P (λ n. n ≤ most) back')
 
@@ -179,10 +179,10 @@ dashes n = number_or_dash n ∷ []
 abbrev pub stars : Option ℕ → Words
 stars n = number_or_star n ∷ []
 
-pub long_or_dash_exact : Exact (Option ℕ) spec.long_or_dash dashes (IfAny IsLong)
+pub long_or_dash_exact : Exact (Option ℕ) spec.long_or_dash dashes (IfAny IsLongField)
 long_or_dash_exact =
-    exact_spelled spec.long_or_dash (λ n. spell_or (codes "-") numeral n ∷ []) dashes (IfAny IsLong)
-    (option_reads 45 18446744073709551615 IsLong (omega arith) (omega arith) refl (bare (codes "-") refl refl) (λ n h. omega (arith, h)) (λ n h. omega (arith, h))) dash_is
+    exact_spelled spec.long_or_dash (λ n. spell_or (codes "-") numeral n ∷ []) dashes (IfAny IsLongField)
+    (option_reads 45 18446744073709551615 IsLongField (omega arith) (omega arith) refl (bare (codes "-") refl refl) (λ n h. omega (arith, h)) (λ n h. omega (arith, h))) dash_is
 
 pub narrow_or_dash_exact : Exact (Option ℕ) spec.narrow_or_dash dashes (IfAny IsNarrow)
 narrow_or_dash_exact =
@@ -224,10 +224,10 @@ ip_star_is (Some n) = refl
 abbrev pub ip_stars : Option ℕ → Words
 ip_stars n = ip_or_star n ∷ []
 
-pub ip_or_star_exact : Exact (Option ℕ) spec.ip_or_star ip_stars (IfAny IsNarrow)
+pub ip_or_star_exact : Exact (Option ℕ) spec.read_ip_or_star ip_stars (IfAny IsNarrow)
 ip_or_star_exact =
-    exact_spelled spec.ip_or_star (λ n. spell_or (codes "*") ip_word n ∷ []) ip_stars (IfAny IsNarrow)
-    (exact_one (spec.marked (codes "*") address_in) (spell_or (codes "*") ip_word) (IfAny IsNarrow)
+    exact_spelled spec.read_ip_or_star (λ n. spell_or (codes "*") ip_word n ∷ []) ip_stars (IfAny IsNarrow)
+    (exact_one (spec.read_marked (codes "*") address_in) (spell_or (codes "*") ip_word) (IfAny IsNarrow)
     (marked_exact (codes "*") address_in ip_word IsNarrow address_exact refl no_star (bare (codes "*") refl refl))) ip_star_is
 
 abbrev place_pieces : Addr → Words
@@ -239,9 +239,9 @@ of_place a = (a.ip, a.port)
 abbrev addresses : ℕ → Words
 addresses ip = ip_word ip ∷ []
 
-place_fields : Exact Addr (made (both (one address_in) spec.port) spec.to_place) place_pieces IsPlace
+place_fields : Exact Addr (read_as (both_fields (one address_in) spec.port) spec.to_place) place_pieces IsPlace
 place_fields =
-    exact_made (both (one address_in) spec.port) (λ f. addresses f.0 ++ numbers f.1) (λ f. IsNarrow f.0 × IsPort f.1)
+    exact_made (both_fields (one address_in) spec.port) (λ f. addresses f.0 ++ numbers f.1) (λ f. IsNarrow f.0 × IsPort f.1)
     (exact_both (one address_in) spec.port addresses numbers IsNarrow IsPort (exact_one address_in ip_word IsNarrow address_exact) port_exact)
     spec.to_place of_place (λ f. refl) (λ a. refl)
 
@@ -259,10 +259,10 @@ place_bare a = (
 abbrev pub places : Addr → Words
 places a = addr_word a ∷ []
 
-pub place_exact : Exact Addr spec.place places IsPlace
+pub place_exact : Exact Addr spec.read_place places IsPlace
 place_exact =
-    exact_one spec.place_in addr_word IsPlace
-    (exact_parts 33 (made (both (one address_in) spec.port) spec.to_place) place_pieces IsPlace place_fields addr_word place_is
+    exact_one spec.field_place addr_word IsPlace
+    (exact_parts 33 (read_as (both_fields (one address_in) spec.port) spec.to_place) place_pieces IsPlace place_fields addr_word place_is
     (λ a. parts_back 33 (ip_word a.ip) (numeral a.port ∷ []) (free_address 33 a.ip (omega arith), (free_numeral 33 a.port (omega arith), tt))) place_bare)
 
 -- Names.
@@ -272,11 +272,11 @@ abbrev AreNamed : {X : Type 0} → (X → List ℕ) → List (List ℕ × X) →
 AreNamed spell [] = Unit {0}
 AreNamed spell (row ∷ rows) = (row.0 ≡ spell row.1) × AreNamed spell rows
 
-named_sound : {X : Type 0} (spell : X → List ℕ) (rows : List (List ℕ × X)) → AreNamed spell rows → (word : List ℕ) (x : X) → spec.named rows word ≡ Some x → word ≡ spell x
+named_sound : {X : Type 0} (spell : X → List ℕ) (rows : List (List ℕ × X)) → AreNamed spell rows → (word : List ℕ) (x : X) → spec.row_named rows word ≡ Some x → word ≡ spell x
 named_sound spell [] are word x e = absurd (none-some x e)
 named_sound {X} spell (row ∷ rows) are word x e = by (bytes_eq word row.0) refl e (named_sound spell rows are.1 word x)
   where
-    by : (v : Bool) → bytes_eq word row.0 ≡ v → (if v then Some row.1 else spec.named rows word) ≡ Some x → (spec.named rows word ≡ Some x → word ≡ spell x) → word ≡ spell x
+    by : (v : Bool) → bytes_eq word row.0 ≡ v → (if v then Some row.1 else spec.row_named rows word) ≡ Some x → (spec.row_named rows word ≡ Some x → word ≡ spell x) → word ≡ spell x
     by true is f later = (bytes_eq-Decides word row.0).0 is ∙ are.0 ∙ ap spell (same_Some row.1 x f)
     by false is f later = later f
 
@@ -325,7 +325,7 @@ kind_sound = named_sound (λ (y : IlKind). kind_word y) spec.kind_names (refl, (
 abbrev pub kinds : IlKind → Words
 kinds x = kind_word x ∷ []
 
-pub kind_exact : Exact IlKind spec.kind_of kinds (λ x. Unit {0})
+pub kind_exact : Exact IlKind spec.kind_read kinds (λ x. Unit {0})
 kind_exact =
     exact_one spec.kind_in kind_word (λ x. Unit {0})
     (record { sound = λ word x e. (kind_sound word x e, tt); told = λ x fits. kind_told x; bare = λ x fits. kind_bare x })
@@ -364,7 +364,7 @@ state_sound = named_sound (λ (y : StateName). state_word y) spec.state_names (r
 abbrev pub states : StateName → Words
 states x = state_word x ∷ []
 
-pub state_exact : Exact StateName spec.state_of states (λ x. Unit {0})
+pub state_exact : Exact StateName spec.state_read states (λ x. Unit {0})
 state_exact =
     exact_one spec.state_in state_word (λ x. Unit {0})
     (record { sound = λ word x e. (state_sound word x e, tt); told = λ x fits. state_told x; bare = λ x fits. state_bare x })
@@ -400,9 +400,9 @@ cause_sound = named_sound (λ (y : Cause). cause_digit y) spec.cause_names (refl
 abbrev pub causes : Cause → Words
 causes c = numeral (cause_number c) ∷ []
 
-pub cause_exact : Exact Cause spec.cause_of causes (λ c. Unit {0})
+pub cause_exact : Exact Cause spec.read_cause causes (λ c. Unit {0})
 cause_exact =
-    exact_spelled spec.cause_of (λ c. cause_digit c ∷ []) causes (λ c. Unit {0})
+    exact_spelled spec.read_cause (λ c. cause_digit c ∷ []) causes (λ c. Unit {0})
     (exact_one spec.cause_in (λ c. cause_digit c) (λ c. Unit {0})
     (record { sound = λ word c e. (cause_sound word c e, tt); told = λ c fits. cause_told c; bare = λ c fits. cause_bare c })) digit_is
 
@@ -476,10 +476,10 @@ actor_pieces (name.Conv h p n) = codes "conv" ∷ numeral h ∷ proto_name p ∷
 actor_pieces (name.Medium m) = codes "medium" ∷ numeral m ∷ []
 actor_pieces name.Clock = codes "clock" ∷ []
 
-dir_exact : Exact (ℕ × Proto) (both spec.narrow spec.proto) (λ f. numbers f.0 ++ protos f.1) (λ f. IsNarrow f.0 × Unit {0})
+dir_exact : Exact (ℕ × Proto) (both_fields spec.narrow spec.proto) (λ f. numbers f.0 ++ protos f.1) (λ f. IsNarrow f.0 × Unit {0})
 dir_exact = exact_both spec.narrow spec.proto numbers protos IsNarrow (λ p. Unit {0}) narrow_exact proto_exact
 
-conv_tail_exact : Exact (Proto × ℕ) (both spec.proto spec.narrow) (λ f. protos f.0 ++ numbers f.1) (λ f. Unit {0} × IsNarrow f.1)
+conv_tail_exact : Exact (Proto × ℕ) (both_fields spec.proto spec.narrow) (λ f. protos f.0 ++ numbers f.1) (λ f. Unit {0} × IsNarrow f.1)
 conv_tail_exact = exact_both spec.proto spec.narrow protos numbers (λ p. Unit {0}) IsNarrow proto_exact narrow_exact
 
 abbrev conv_words : ℕ × (Proto × ℕ) → Words
@@ -488,17 +488,17 @@ conv_words f = numbers f.0 ++ (protos f.1.0 ++ numbers f.1.1)
 abbrev conv_fits : ℕ × (Proto × ℕ) → Type 0
 conv_fits f = IsNarrow f.0 × (Unit {0} × IsNarrow f.1.1)
 
-conv_exact : Exact (ℕ × (Proto × ℕ)) (both spec.narrow (both spec.proto spec.narrow)) conv_words conv_fits
+conv_exact : Exact (ℕ × (Proto × ℕ)) (both_fields spec.narrow (both_fields spec.proto spec.narrow)) conv_words conv_fits
 conv_exact =
-    exact_both spec.narrow (both spec.proto spec.narrow) numbers (λ f. protos f.0 ++ numbers f.1) IsNarrow (λ f. Unit {0} × IsNarrow f.1) narrow_exact conv_tail_exact
+    exact_both spec.narrow (both_fields spec.proto spec.narrow) numbers (λ f. protos f.0 ++ numbers f.1) IsNarrow (λ f. Unit {0} × IsNarrow f.1) narrow_exact conv_tail_exact
 
 actor_rows_are : AreRows actor_pieces IsWideActor spec.actor_rows
 actor_rows_are = (
   row spec.narrow numbers IsNarrow narrow_exact (λ h. name.Desk h) actor_pieces IsWideActor (codes "desk") (λ h fits. refl) (λ h fits. fits),
   (
-    row (both spec.narrow spec.proto) (λ f. numbers f.0 ++ protos f.1) (λ f. IsNarrow f.0 × Unit {0}) dir_exact spec.to_dir actor_pieces IsWideActor (codes "dir") (λ f fits. refl) (λ f fits. fits.0),
+    row (both_fields spec.narrow spec.proto) (λ f. numbers f.0 ++ protos f.1) (λ f. IsNarrow f.0 × Unit {0}) dir_exact spec.to_dir actor_pieces IsWideActor (codes "dir") (λ f fits. refl) (λ f fits. fits.0),
     (
-      row (both spec.narrow (both spec.proto spec.narrow)) conv_words conv_fits conv_exact spec.to_conv actor_pieces IsWideActor (codes "conv") (λ f fits. refl) (λ f fits. (fits.0, fits.1.1)),
+      row (both_fields spec.narrow (both_fields spec.proto spec.narrow)) conv_words conv_fits conv_exact spec.to_conv actor_pieces IsWideActor (codes "conv") (λ f fits. refl) (λ f fits. (fits.0, fits.1.1)),
       (
         row spec.narrow numbers IsNarrow narrow_exact (λ m. name.Medium m) actor_pieces IsWideActor (codes "medium") (λ m fits. refl) (λ m fits. fits),
         (bare_row name.Clock actor_pieces IsWideActor (codes "clock") refl tt, tt),
@@ -514,9 +514,9 @@ actor_sound (word ∷ words) a rest e = rows_sound actor_pieces IsWideActor spec
 actor_told : (a : ActorName) → IsWideActor a → (rest : Words) → spec.actor_words (actor_pieces a ++ rest) ≡ Some (a, rest)
 actor_told (name.Desk h) fits rest = made_told spec.narrow numbers IsNarrow narrow_exact (λ h. name.Desk h) h fits rest
 actor_told (name.Dir h p) fits rest =
-    made_told (both spec.narrow spec.proto) (λ f. numbers f.0 ++ protos f.1) (λ f. IsNarrow f.0 × Unit {0}) dir_exact spec.to_dir (h, p) (fits, tt) rest
+    made_told (both_fields spec.narrow spec.proto) (λ f. numbers f.0 ++ protos f.1) (λ f. IsNarrow f.0 × Unit {0}) dir_exact spec.to_dir (h, p) (fits, tt) rest
 actor_told (name.Conv h p n) fits rest =
-    made_told (both spec.narrow (both spec.proto spec.narrow)) conv_words conv_fits conv_exact spec.to_conv (h, (p, n)) (fits.0, (tt, fits.1)) rest
+    made_told (both_fields spec.narrow (both_fields spec.proto spec.narrow)) conv_words conv_fits conv_exact spec.to_conv (h, (p, n)) (fits.0, (tt, fits.1)) rest
 actor_told (name.Medium m) fits rest = made_told spec.narrow numbers IsNarrow narrow_exact (λ m. name.Medium m) m fits rest
 actor_told name.Clock fits rest = refl
 

@@ -68,7 +68,7 @@ cut_end whole texts rest is none =
 pub each_step : (rest : Words) (c : Call) (behind : Words) → spec.call rest ≡ Some (c, behind) → spec.each_call rest ≡ (c ∷ (spec.each_call behind).0, (spec.each_call behind).1)
 each_step rest c behind e =
     let is = call_sound rest c behind e in
-    ap spec.each_call is.0 ∙ ap (λ (o : Read Call). spec.with_call o (spec.each_call behind) (call_spelled c ++ behind)) (call_told c is.1 [])
+    ap spec.each_call is.0 ∙ ap (λ (o : Read Call). spec.call_before o (spec.each_call behind) (call_spelled c ++ behind)) (call_told c is.1 [])
 
 pub each_shorter : (rest : Words) (c : Call) (behind : Words) → spec.call rest ≡ Some (c, behind) → length behind < length rest
 each_shorter rest c behind e =
@@ -81,7 +81,7 @@ each_end [] e = refl
 each_end (slot ∷ []) e = refl
 each_end (slot ∷ generation ∷ words) e = by (spec.call (slot ∷ generation ∷ [])) refl
   where
-    by : (o : Read Call) → spec.call (slot ∷ generation ∷ []) ≡ o → spec.with_call o (spec.each_call words) (slot ∷ generation ∷ words) ≡ ([], slot ∷ generation ∷ words)
+    by : (o : Read Call) → spec.call (slot ∷ generation ∷ []) ≡ o → spec.call_before o (spec.each_call words) (slot ∷ generation ∷ words) ≡ ([], slot ∷ generation ∷ words)
     by None q = refl
     by (Some (c, rest)) q =
         let is = call_sound (slot ∷ generation ∷ []) c rest q in

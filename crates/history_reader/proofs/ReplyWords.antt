@@ -10,9 +10,9 @@ use Rattle.net_base.specs.declared.reply.Reply.TheVariants as reply
 use Rattle.net_base.specs.Numeral.{numeral}
 use Rattle.net_base.specs.Plain.{AreBytes, IsPlainReply}
 use Rattle.net_base.specs.Transcript.{call_words, calls_of, reply_words}
-use Rattle.history_reader.specs.Fields.{Words, Read, Reader, behind, both, cause_of, long, made, narrow, place, state_of, text, texts}
+use Rattle.history_reader.specs.Fields.{Words, Read, FieldReader, behind, both_fields, read_cause, long, read_as, narrow, read_place, state_read, text, texts}
 use Rattle.history_reader.specs.ReplyRows as spec
-use Rattle.history_reader.specs.Wide.{AreWideCalls, IsLong, IsNarrow, IsPlace, IsWideReply}
+use Rattle.history_reader.specs.Wide.{AreWideCalls, IsLongField, IsNarrow, IsPlace, IsWideReply}
 use Rattle.history_reader.proofs.Exact.{AreBare, AreRows, Back, Exact, IsBare, IsRow, back, bare_row, exact_both, made_of, made_sound, made_told, row, rows_sound}
 use Rattle.history_reader.proofs.FieldWords.{bare, bare_numeral, cause_exact, causes, long_exact, narrow_exact, no_mark_alone, numbers, place_exact, places, state_exact, states}
 use Rattle.history_reader.proofs.TextWords.{AreTexts, hexes, line_hexes, text_exact, texts_exact}
@@ -23,10 +23,10 @@ abbrev slot_words : ℕ × ℕ → Words
 slot_words f = numbers f.0 ++ numbers f.1
 
 abbrev slot_fits : ℕ × ℕ → Type 0
-slot_fits f = IsNarrow f.0 × IsLong f.1
+slot_fits f = IsNarrow f.0 × IsLongField f.1
 
-slot_exact : Exact (ℕ × ℕ) (both narrow long) slot_words slot_fits
-slot_exact = exact_both narrow long numbers numbers IsNarrow IsLong narrow_exact long_exact
+slot_exact : Exact (ℕ × ℕ) (both_fields narrow long) slot_words slot_fits
+slot_exact = exact_both narrow long numbers numbers IsNarrow IsLongField narrow_exact long_exact
 
 abbrev limits_words : ℕ × ℕ → Words
 limits_words f = numbers f.0 ++ numbers f.1
@@ -34,17 +34,17 @@ limits_words f = numbers f.0 ++ numbers f.1
 abbrev limits_fits : ℕ × ℕ → Type 0
 limits_fits f = IsNarrow f.0 × IsNarrow f.1
 
-limits_exact : Exact (ℕ × ℕ) (both narrow narrow) limits_words limits_fits
+limits_exact : Exact (ℕ × ℕ) (both_fields narrow narrow) limits_words limits_fits
 limits_exact = exact_both narrow narrow numbers numbers IsNarrow IsNarrow narrow_exact narrow_exact
 
 abbrev long_limit_words : ℕ × ℕ → Words
 long_limit_words f = numbers f.0 ++ numbers f.1
 
 abbrev long_limit_fits : ℕ × ℕ → Type 0
-long_limit_fits f = IsLong f.0 × IsNarrow f.1
+long_limit_fits f = IsLongField f.0 × IsNarrow f.1
 
-long_limit_exact : Exact (ℕ × ℕ) (both long narrow) long_limit_words long_limit_fits
-long_limit_exact = exact_both long narrow numbers numbers IsLong IsNarrow long_exact narrow_exact
+long_limit_exact : Exact (ℕ × ℕ) (both_fields long narrow) long_limit_words long_limit_fits
+long_limit_exact = exact_both long narrow numbers numbers IsLongField IsNarrow long_exact narrow_exact
 
 abbrev remote_words : Addr × (ℕ × ℕ) → Words
 remote_words f = places f.0 ++ limits_words f.1
@@ -52,8 +52,8 @@ remote_words f = places f.0 ++ limits_words f.1
 abbrev remote_fits : Addr × (ℕ × ℕ) → Type 0
 remote_fits f = IsPlace f.0 × limits_fits f.1
 
-remote_exact : Exact (Addr × (ℕ × ℕ)) (both place (both narrow narrow)) remote_words remote_fits
-remote_exact = exact_both place (both narrow narrow) places limits_words IsPlace limits_fits place_exact limits_exact
+remote_exact : Exact (Addr × (ℕ × ℕ)) (both_fields read_place (both_fields narrow narrow)) remote_words remote_fits
+remote_exact = exact_both read_place (both_fields narrow narrow) places limits_words IsPlace limits_fits place_exact limits_exact
 
 abbrev granted_words : Addr × (Addr × (ℕ × ℕ)) → Words
 granted_words f = places f.0 ++ remote_words f.1
@@ -61,17 +61,17 @@ granted_words f = places f.0 ++ remote_words f.1
 abbrev granted_fits : Addr × (Addr × (ℕ × ℕ)) → Type 0
 granted_fits f = IsPlace f.0 × remote_fits f.1
 
-granted_exact : Exact (Addr × (Addr × (ℕ × ℕ))) (both place (both place (both narrow narrow))) granted_words granted_fits
-granted_exact = exact_both place (both place (both narrow narrow)) places remote_words IsPlace remote_fits place_exact remote_exact
+granted_exact : Exact (Addr × (Addr × (ℕ × ℕ))) (both_fields read_place (both_fields read_place (both_fields narrow narrow))) granted_words granted_fits
+granted_exact = exact_both read_place (both_fields read_place (both_fields narrow narrow)) places remote_words IsPlace remote_fits place_exact remote_exact
 
 abbrev of_long_words : ℕ × (ℕ × ℕ) → Words
 of_long_words f = numbers f.0 ++ limits_words f.1
 
 abbrev of_long_fits : ℕ × (ℕ × ℕ) → Type 0
-of_long_fits f = IsLong f.0 × limits_fits f.1
+of_long_fits f = IsLongField f.0 × limits_fits f.1
 
-of_long_exact : Exact (ℕ × (ℕ × ℕ)) (both long (both narrow narrow)) of_long_words of_long_fits
-of_long_exact = exact_both long (both narrow narrow) numbers limits_words IsLong limits_fits long_exact limits_exact
+of_long_exact : Exact (ℕ × (ℕ × ℕ)) (both_fields long (both_fields narrow narrow)) of_long_words of_long_fits
+of_long_exact = exact_both long (both_fields narrow narrow) numbers limits_words IsLongField limits_fits long_exact limits_exact
 
 abbrev born_words : ℕ × (ℕ × (ℕ × ℕ)) → Words
 born_words f = numbers f.0 ++ of_long_words f.1
@@ -79,8 +79,8 @@ born_words f = numbers f.0 ++ of_long_words f.1
 abbrev born_fits : ℕ × (ℕ × (ℕ × ℕ)) → Type 0
 born_fits f = IsNarrow f.0 × of_long_fits f.1
 
-born_exact : Exact (ℕ × (ℕ × (ℕ × ℕ))) (both narrow (both long (both narrow narrow))) born_words born_fits
-born_exact = exact_both narrow (both long (both narrow narrow)) numbers of_long_words IsNarrow of_long_fits narrow_exact of_long_exact
+born_exact : Exact (ℕ × (ℕ × (ℕ × ℕ))) (both_fields narrow (both_fields long (both_fields narrow narrow))) born_words born_fits
+born_exact = exact_both narrow (both_fields long (both_fields narrow narrow)) numbers of_long_words IsNarrow of_long_fits narrow_exact of_long_exact
 
 -- Calls.
 
@@ -91,13 +91,13 @@ abbrev pub call_spelled : Call → Words
 call_spelled c = numeral c.slot ∷ numeral c.generation ∷ []
 
 abbrev pub IsWideCall : Call → Type 0
-IsWideCall c = IsNarrow c.slot × IsLong c.generation
+IsWideCall c = IsNarrow c.slot × IsLongField c.generation
 
 pub call_sound : (words : Words) (c : Call) (rest : Words) → spec.call words ≡ Some (c, rest) → (words ≡ call_spelled c ++ rest) × IsWideCall c
-call_sound = made_sound (both narrow long) slot_words slot_fits slot_exact spec.to_call call_spelled IsWideCall (λ f. refl) (λ f h. h)
+call_sound = made_sound (both_fields narrow long) slot_words slot_fits slot_exact spec.to_call call_spelled IsWideCall (λ f. refl) (λ f h. h)
 
 pub call_told : (c : Call) → IsWideCall c → (rest : Words) → spec.call (call_spelled c ++ rest) ≡ Some (c, rest)
-call_told c h rest = made_told (both narrow long) slot_words slot_fits slot_exact spec.to_call (of_call c) h rest
+call_told c h rest = made_told (both_fields narrow long) slot_words slot_fits slot_exact spec.to_call (of_call c) h rest
 
 abbrev pub at : Words → ℕ → List ℕ
 at words k = get_or words k []
@@ -111,7 +111,7 @@ each_sound (slot ∷ []) = (refl, tt)
 each_sound (slot ∷ generation ∷ words) = by (spec.call (slot ∷ generation ∷ [])) refl (spec.each_call words) (each_sound words)
   where
     by : (o : Read Call) → spec.call (slot ∷ generation ∷ []) ≡ o → (read : spec.Calls) → AreCalls read words
-        → AreCalls (spec.with_call o read (slot ∷ generation ∷ words)) (slot ∷ generation ∷ words)
+        → AreCalls (spec.call_before o read (slot ∷ generation ∷ words)) (slot ∷ generation ∷ words)
     by None e read later = (refl, tt)
     by (Some (first, rest)) e read later =
         let is = call_sound (slot ∷ generation ∷ []) first rest e in
@@ -128,7 +128,7 @@ Ends rest = spec.each_call rest ≡ ([], rest)
 each_told : (calls : List Call) → AreWideCalls calls → (rest : Words) → Ends rest → spec.each_call (calls_of calls ++ rest) ≡ (calls, rest)
 each_told [] h rest ends = ends
 each_told (c ∷ calls) h rest ends =
-    ap (λ (o : Read Call). spec.with_call o (spec.each_call (calls_of calls ++ rest)) (call_spelled c ++ (calls_of calls ++ rest))) (call_told c (h.0, h.1) [])
+    ap (λ (o : Read Call). spec.call_before o (spec.each_call (calls_of calls ++ rest)) (call_spelled c ++ (calls_of calls ++ rest))) (call_told c (h.0, h.1) [])
     ∙ ap (λ (read : spec.Calls). (c ∷ read.0, read.1)) (each_told calls h.2 rest ends)
 
 some_sound : (read : spec.Calls) (words : Words) (cs : List Call) (rest : Words) → AreCalls read words → spec.some_calls read ≡ Some (cs, rest) → (words ≡ call_words cs ++ rest) × AreWideCalls cs
@@ -137,7 +137,7 @@ some_sound (c ∷ calls, last) words cs rest are e =
     let same = same_Some (c ∷ calls, last) (cs, rest) e in
     (are.0 ∙ ap (λ (r : List Call × Words). call_words r.0 ++ r.1) same, subst (λ (r : List Call × Words). AreWideCalls r.0) same are.1)
 
-calls_sound : (words : Words) (cs : List Call) (rest : Words) → spec.calls words ≡ Some (cs, rest) → (words ≡ call_words cs ++ rest) × AreWideCalls cs
+calls_sound : (words : Words) (cs : List Call) (rest : Words) → spec.calls_read words ≡ Some (cs, rest) → (words ≡ call_words cs ++ rest) × AreWideCalls cs
 calls_sound [] cs rest e = absurd (none-some (cs, rest) e)
 calls_sound (word ∷ words) cs rest e = by (bytes_eq word (codes "-")) refl e
   where
@@ -148,7 +148,7 @@ calls_sound (word ∷ words) cs rest e = by (bytes_eq word (codes "-")) refl e
         (ap (λ (w : List ℕ). w ∷ words) ((bytes_eq-Decides word (codes "-")).0 is) ∙ ap (λ (r : List Call × Words). call_words r.0 ++ r.1) same, subst (λ (r : List Call × Words). AreWideCalls r.0) same tt)
     by false is f = some_sound (spec.each_call (word ∷ words)) (word ∷ words) cs rest (each_sound (word ∷ words)) f
 
-calls_told : (cs : List Call) → AreWideCalls cs → (rest : Words) → Ends rest → spec.calls (call_words cs ++ rest) ≡ Some (cs, rest)
+calls_told : (cs : List Call) → AreWideCalls cs → (rest : Words) → Ends rest → spec.calls_read (call_words cs ++ rest) ≡ Some (cs, rest)
 calls_told [] h rest ends = refl
 calls_told (c ∷ calls) h rest ends =
     ap (λ v. if v then Some ([], numeral c.generation ∷ (calls_of calls ++ rest)) else spec.some_calls (spec.each_call (calls_of (c ∷ calls) ++ rest))) (no_mark_alone c.slot 45 (omega arith))
@@ -167,19 +167,19 @@ calls_bare (c ∷ calls) = calls_of_bare (c ∷ calls)
 abbrev pub FitsReply : Reply → Type 0
 FitsReply r = IsWideReply r × IsPlainReply r
 
-abbrev Row : List ℕ → Reader Reply → Type 0
+abbrev Row : List ℕ → FieldReader Reply → Type 0
 Row word read = IsRow reply_words FitsReply word read
 
-of_narrow : (make : ℕ → Reply) (word : List ℕ) → ((n : ℕ) → reply_words (make n) ≡ word ∷ numbers n) → ((n : ℕ) → IsNarrow n → FitsReply (make n)) → Row word (made narrow make)
+of_narrow : (make : ℕ → Reply) (word : List ℕ) → ((n : ℕ) → reply_words (make n) ≡ word ∷ numbers n) → ((n : ℕ) → IsNarrow n → FitsReply (make n)) → Row word (read_as narrow make)
 of_narrow make word spelled fits = row narrow numbers IsNarrow narrow_exact make reply_words FitsReply word (λ n h. spelled n) fits
 
-of_wide : (make : ℕ → Reply) (word : List ℕ) → ((n : ℕ) → reply_words (make n) ≡ word ∷ numbers n) → ((n : ℕ) → IsLong n → FitsReply (make n)) → Row word (made long make)
-of_wide make word spelled fits = row long numbers IsLong long_exact make reply_words FitsReply word (λ n h. spelled n) fits
+of_wide : (make : ℕ → Reply) (word : List ℕ) → ((n : ℕ) → reply_words (make n) ≡ word ∷ numbers n) → ((n : ℕ) → IsLongField n → FitsReply (make n)) → Row word (read_as long make)
+of_wide make word spelled fits = row long numbers IsLongField long_exact make reply_words FitsReply word (λ n h. spelled n) fits
 
-of_slot : (make : ℕ × ℕ → Reply) (word : List ℕ) → ((f : ℕ × ℕ) → reply_words (make f) ≡ word ∷ slot_words f) → ((f : ℕ × ℕ) → slot_fits f → FitsReply (make f)) → Row word (made (both narrow long) make)
-of_slot make word spelled fits = row (both narrow long) slot_words slot_fits slot_exact make reply_words FitsReply word (λ f h. spelled f) fits
+of_slot : (make : ℕ × ℕ → Reply) (word : List ℕ) → ((f : ℕ × ℕ) → reply_words (make f) ≡ word ∷ slot_words f) → ((f : ℕ × ℕ) → slot_fits f → FitsReply (make f)) → Row word (read_as (both_fields narrow long) make)
+of_slot make word spelled fits = row (both_fields narrow long) slot_words slot_fits slot_exact make reply_words FitsReply word (λ f h. spelled f) fits
 
-of_texts : (make : List (List ℕ) → Reply) (word : List ℕ) → ((l : List (List ℕ)) → reply_words (make l) ≡ word ∷ line_hexes l) → ((l : List (List ℕ)) → AreTexts l → FitsReply (make l)) → Row word (made texts make)
+of_texts : (make : List (List ℕ) → Reply) (word : List ℕ) → ((l : List (List ℕ)) → reply_words (make l) ≡ word ∷ line_hexes l) → ((l : List (List ℕ)) → AreTexts l → FitsReply (make l)) → Row word (read_as texts make)
 of_texts make word spelled fits = row texts line_hexes AreTexts texts_exact make reply_words FitsReply word (λ f h. spelled f) fits
 
 bare_is : (value : Reply) (word : List ℕ) → reply_words value ≡ word ∷ [] → FitsReply value → Row word (λ words. Some (value, words))
@@ -257,15 +257,15 @@ several_rows_are = (
   (
     of_slot (λ f. reply.To f.0 f.1) (codes "to") (λ f. refl) (λ f h. (h, tt)),
     (
-      row (both long narrow) long_limit_words long_limit_fits long_limit_exact (λ f. reply.TooLong f.0 f.1) reply_words FitsReply (codes "toolong") (λ f h. refl) (λ f h. (h, tt)),
+      row (both_fields long narrow) long_limit_words long_limit_fits long_limit_exact (λ f. reply.TooLong f.0 f.1) reply_words FitsReply (codes "toolong") (λ f h. refl) (λ f h. (h, tt)),
       (
-        row (both place (both place (both narrow narrow))) granted_words granted_fits granted_exact spec.to_granted reply_words FitsReply (codes "granted") (λ f h. refl) (λ f h. ((h.0, h.1.0, h.1.1.0, h.1.1.1), tt)),
+        row (both_fields read_place (both_fields read_place (both_fields narrow narrow))) granted_words granted_fits granted_exact spec.to_granted reply_words FitsReply (codes "granted") (λ f h. refl) (λ f h. ((h.0, h.1.0, h.1.1.0, h.1.1.1), tt)),
         (
-          row (both narrow (both long (both narrow narrow))) born_words born_fits born_exact spec.to_born reply_words FitsReply (codes "born") (λ f h. refl) (λ f h. ((h.0, h.1.0, h.1.1.0, h.1.1.1), tt)),
+          row (both_fields narrow (both_fields long (both_fields narrow narrow))) born_words born_fits born_exact spec.to_born reply_words FitsReply (codes "born") (λ f h. refl) (λ f h. ((h.0, h.1.0, h.1.1.0, h.1.1.1), tt)),
           (
-            row state_of states (λ s. Unit {0}) state_exact (λ s. reply.WrongState s) reply_words FitsReply (codes "wrong") (λ s h. refl) (λ s h. (tt, tt)),
+            row state_read states (λ s. Unit {0}) state_exact (λ s. reply.WrongState s) reply_words FitsReply (codes "wrong") (λ s h. refl) (λ s h. (tt, tt)),
             (
-              row cause_of causes (λ c. Unit {0}) cause_exact (λ c. reply.Hungup c) reply_words FitsReply (codes "hungup") (λ c h. refl) (λ c h. (tt, tt)),
+              row read_cause causes (λ c. Unit {0}) cause_exact (λ c. reply.Hungup c) reply_words FitsReply (codes "hungup") (λ c h. refl) (λ c h. (tt, tt)),
               bare_rows_are,
             ),
           ),
@@ -303,9 +303,9 @@ number_rows_are = (
 )
 
 calls_are : Row (codes "calls") spec.waited
-calls_are words y rest e = by (spec.calls words) refl e
+calls_are words y rest e = by (spec.calls_read words) refl e
   where
-    by : (o : Read (List Call)) → spec.calls words ≡ o → behind o (made_of (λ (c : List Call). reply.Calls c)) ≡ Some (y, rest) → (codes "calls" ∷ words ≡ reply_words y ++ rest) × FitsReply y
+    by : (o : Read (List Call)) → spec.calls_read words ≡ o → behind o (made_of (λ (c : List Call). reply.Calls c)) ≡ Some (y, rest) → (codes "calls" ∷ words ≡ reply_words y ++ rest) × FitsReply y
     by None q f = absurd (none-some (y, rest) f)
     by (Some (cs, last)) q f =
         let is = calls_sound words cs last q in
@@ -336,23 +336,23 @@ reply_rows_are = (
   ),
 )
 
-pub reply_sound : (words : Words) (r : Reply) (rest : Words) → spec.reply_of words ≡ Some (r, rest) → (words ≡ reply_words r ++ rest) × FitsReply r
+pub reply_sound : (words : Words) (r : Reply) (rest : Words) → spec.reply_read words ≡ Some (r, rest) → (words ≡ reply_words r ++ rest) × FitsReply r
 reply_sound [] r rest e = absurd (none-some (r, rest) e)
 reply_sound (word ∷ words) r rest e = rows_sound reply_words FitsReply spec.reply_rows reply_rows_are word words r rest e
 
 -- From the reply to its words, where no call follows.
 
 abbrev pub ReplyBack : Reply → Type 0
-ReplyBack r = ((rest : Words) → Ends rest → spec.reply_of (reply_words r ++ rest) ≡ Some (r, rest)) × AreBare (reply_words r)
+ReplyBack r = ((rest : Words) → Ends rest → spec.reply_read (reply_words r ++ rest) ≡ Some (r, rest)) × AreBare (reply_words r)
 
-at_narrow : (make : ℕ → Reply) (word : List ℕ) → IsBare word → (n : ℕ) → IsNarrow n → Back (made narrow make) (make n) (numbers n) (word ∷ numbers n)
+at_narrow : (make : ℕ → Reply) (word : List ℕ) → IsBare word → (n : ℕ) → IsNarrow n → Back (read_as narrow make) (make n) (numbers n) (word ∷ numbers n)
 at_narrow make word clean n h = back narrow numbers IsNarrow narrow_exact make word clean n h
 
-at_wide : (make : ℕ → Reply) (word : List ℕ) → IsBare word → (n : ℕ) → IsLong n → Back (made long make) (make n) (numbers n) (word ∷ numbers n)
-at_wide make word clean n h = back long numbers IsLong long_exact make word clean n h
+at_wide : (make : ℕ → Reply) (word : List ℕ) → IsBare word → (n : ℕ) → IsLongField n → Back (read_as long make) (make n) (numbers n) (word ∷ numbers n)
+at_wide make word clean n h = back long numbers IsLongField long_exact make word clean n h
 
-at_slot : (make : ℕ × ℕ → Reply) (word : List ℕ) → IsBare word → (f : ℕ × ℕ) → slot_fits f → Back (made (both narrow long) make) (make f) (slot_words f) (word ∷ slot_words f)
-at_slot make word clean f h = back (both narrow long) slot_words slot_fits slot_exact make word clean f h
+at_slot : (make : ℕ × ℕ → Reply) (word : List ℕ) → IsBare word → (f : ℕ × ℕ) → slot_fits f → Back (read_as (both_fields narrow long) make) (make f) (slot_words f) (word ∷ slot_words f)
+at_slot make word clean f h = back (both_fields narrow long) slot_words slot_fits slot_exact make word clean f h
 
 pub reply_back : (r : Reply) → IsWideReply r → IsPlainReply r → ReplyBack r
 reply_back (reply.Lines l) w p = let b = back texts line_hexes AreTexts texts_exact (λ l. reply.Lines l) (codes "lines") (bare (codes "lines") refl refl) l (w, p) in (λ rest ends. b.0 rest, b.1)
@@ -364,8 +364,8 @@ reply_back reply.BadFid w p = (λ rest ends. refl, (bare (codes "badfid") refl r
 reply_back reply.Ok w p = (λ rest ends. refl, (bare (codes "ok") refl refl, tt))
 reply_back (reply.Slot n g) w p = let b = at_slot (λ f. reply.Slot f.0 f.1) (codes "slot") (bare (codes "slot") refl refl) (n, g) w in (λ rest ends. b.0 rest, b.1)
 reply_back reply.NoSlot w p = (λ rest ends. refl, (bare (codes "noslot") refl refl, tt))
-reply_back (reply.Granted pair start limit) w p = let b = back (both place (both place (both narrow narrow))) granted_words granted_fits granted_exact spec.to_granted (codes "granted") (bare (codes "granted") refl refl) (pair.local, (pair.remote, (start, limit))) (w.0, (w.1, (w.2, w.3))) in (λ rest ends. b.0 rest, b.1)
-reply_back (reply.WrongState s) w p = let b = back state_of states (λ s. Unit {0}) state_exact (λ s. reply.WrongState s) (codes "wrong") (bare (codes "wrong") refl refl) s tt in (λ rest ends. b.0 rest, b.1)
+reply_back (reply.Granted pair start limit) w p = let b = back (both_fields read_place (both_fields read_place (both_fields narrow narrow))) granted_words granted_fits granted_exact spec.to_granted (codes "granted") (bare (codes "granted") refl refl) (pair.local, (pair.remote, (start, limit))) (w.0, (w.1, (w.2, w.3))) in (λ rest ends. b.0 rest, b.1)
+reply_back (reply.WrongState s) w p = let b = back state_read states (λ s. Unit {0}) state_exact (λ s. reply.WrongState s) (codes "wrong") (bare (codes "wrong") refl refl) s tt in (λ rest ends. b.0 rest, b.1)
 reply_back reply.NoRoute w p = (λ rest ends. refl, (bare (codes "noroute") refl refl, tt))
 reply_back reply.NoPort w p = (λ rest ends. refl, (bare (codes "noport") refl refl, tt))
 reply_back reply.SelfPair w p = (λ rest ends. refl, (bare (codes "selfpair") refl refl, tt))
@@ -375,17 +375,17 @@ reply_back (reply.Call n g) w p = let b = at_slot (λ f. reply.Call f.0 f.1) (co
 reply_back (reply.Calls cs) w p =
     (λ rest ends. ap (λ (o : Read (List Call)). behind o (made_of (λ (c : List Call). reply.Calls c))) (calls_told cs w rest ends), (bare (codes "calls") refl refl, calls_bare cs))
 reply_back (reply.To n g) w p = let b = at_slot (λ f. reply.To f.0 f.1) (codes "to") (bare (codes "to") refl refl) (n, g) w in (λ rest ends. b.0 rest, b.1)
-reply_back (reply.Born n g start limit) w p = let b = back (both narrow (both long (both narrow narrow))) born_words born_fits born_exact spec.to_born (codes "born") (bare (codes "born") refl refl) (n, (g, (start, limit))) (w.0, (w.1, (w.2, w.3))) in (λ rest ends. b.0 rest, b.1)
+reply_back (reply.Born n g start limit) w p = let b = back (both_fields narrow (both_fields long (both_fields narrow narrow))) born_words born_fits born_exact spec.to_born (codes "born") (bare (codes "born") refl refl) (n, (g, (start, limit))) (w.0, (w.1, (w.2, w.3))) in (λ rest ends. b.0 rest, b.1)
 reply_back reply.Refused w p = (λ rest ends. refl, (bare (codes "refused") refl refl, tt))
 reply_back reply.Dropped w p = (λ rest ends. refl, (bare (codes "dropped") refl refl, tt))
 reply_back reply.Stale w p = (λ rest ends. refl, (bare (codes "stale") refl refl, tt))
-reply_back (reply.Hungup c) w p = let b = back cause_of causes (λ c. Unit {0}) cause_exact (λ c. reply.Hungup c) (codes "hungup") (bare (codes "hungup") refl refl) c tt in (λ rest ends. b.0 rest, b.1)
+reply_back (reply.Hungup c) w p = let b = back read_cause causes (λ c. Unit {0}) cause_exact (λ c. reply.Hungup c) (codes "hungup") (bare (codes "hungup") refl refl) c tt in (λ rest ends. b.0 rest, b.1)
 reply_back (reply.Opened n) w p = let b = at_wide (λ n. reply.Opened n) (codes "opened") (bare (codes "opened") refl refl) n w in (λ rest ends. b.0 rest, b.1)
 reply_back reply.NotOpen w p = (λ rest ends. refl, (bare (codes "notopen") refl refl, tt))
 reply_back (reply.Bytes bytes) w p = let b = back text hexes AreBytes text_exact (λ b. reply.Bytes b) (codes "bytes") (bare (codes "bytes") refl refl) bytes w in (λ rest ends. b.0 rest, b.1)
 reply_back (reply.Count n) w p = let b = at_narrow (λ n. reply.Count n) (codes "count") (bare (codes "count") refl refl) n w in (λ rest ends. b.0 rest, b.1)
 reply_back reply.ZeroWrite w p = (λ rest ends. refl, (bare (codes "zerowrite") refl refl, tt))
-reply_back (reply.TooLong n limit) w p = let b = back (both long narrow) long_limit_words long_limit_fits long_limit_exact (λ f. reply.TooLong f.0 f.1) (codes "toolong") (bare (codes "toolong") refl refl) (n, limit) w in (λ rest ends. b.0 rest, b.1)
+reply_back (reply.TooLong n limit) w p = let b = back (both_fields long narrow) long_limit_words long_limit_fits long_limit_exact (λ f. reply.TooLong f.0 f.1) (codes "toolong") (bare (codes "toolong") refl refl) (n, limit) w in (λ rest ends. b.0 rest, b.1)
 reply_back reply.Left w p = (λ rest ends. refl, (bare (codes "left") refl refl, tt))
 reply_back (reply.BadCtl n) w p = let b = at_narrow (λ n. reply.BadCtl n) (codes "badctl") (bare (codes "badctl") refl refl) n w in (λ rest ends. b.0 rest, b.1)
 reply_back reply.Took w p = (λ rest ends. refl, (bare (codes "took") refl refl, tt))

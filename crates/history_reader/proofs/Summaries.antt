@@ -12,7 +12,7 @@ use Rattle.net_base.specs.Summary.{both_line, end_line, steps_line}
 use Rattle.net_base.specs.Transcript.{spaced}
 use Rattle.history_reader.specs.EntryReading.{behind_word}
 use Rattle.history_reader.specs.Fields.{Words}
-use Rattle.history_reader.specs.LineReading.{behind_end, behind_number, both_passed, end_passed, is_both, is_end, is_end_word, is_numeral, is_steps, is_whole, steps_passed, words_of}
+use Rattle.history_reader.specs.LineReading.{behind_end, behind_number, both_passed, end_passed, are_both_words, is_end, is_end_word, is_numeral, is_steps, no_word_left, steps_passed, line_words}
 use Rattle.history_reader.specs.SummaryText.{IsBothLine, IsEndLine, IsEndWord, IsStepsLine}
 use Rattle.history_reader.proofs.Clean.{IsFree, free_both}
 use Rattle.history_reader.proofs.EntryWords.{word_sound}
@@ -45,12 +45,12 @@ then_is : {X Y : Type 0} (go : X → Option Y) (o : Option X) (y : Y) → option
 then_is go None y e = absurd (none-some y e)
 then_is go (Some x) y e = (x, refl, e)
 
-whole_is : (o : Option Words) → is_whole o ≡ true → o ≡ Some []
+whole_is : (o : Option Words) → no_word_left o ≡ true → o ≡ Some []
 whole_is None e = absurd (false≢true e)
 whole_is (Some []) e = refl
 whole_is (Some (word ∷ words)) e = absurd (false≢true e)
 
-line_joined : (line word : List ℕ) (words : Words) → words_of line ≡ word ∷ words → line ≡ word ++ spaced words
+line_joined : (line word : List ℕ) (words : Words) → line_words line ≡ word ∷ words → line ≡ word ++ spaced words
 line_joined line word words e = sym (join_with_byte-slice_split 32 line) ∙ ap (join_with_byte 32) e ∙ joined_spaced word words
 
 -- The line of steps.
@@ -88,14 +88,14 @@ pub steps_exact : FormExact is_steps IsStepsLine
 steps_exact =
     record {
       sound = λ line e.
-          let is = steps_sound (words_of line) (whole_is (steps_passed (words_of line)) e) in
+          let is = steps_sound (line_words line) (whole_is (steps_passed (line_words line)) e) in
           (is.0, is.1, ap (λ (ws : List ℕ). ws ++ 10 ∷ []) (line_joined line (codes "steps") (numeral is.0 ∷ codes "of" ∷ numeral is.1 ∷ []) is.2) ∙ steps_is is.0 is.1);
       told = λ line is. (
         steps_body is.0 is.1,
         is.2 ∙ sym (steps_is is.0 is.1),
         body_back (codes "steps") (numeral is.0 ∷ codes "of" ∷ numeral is.1 ∷ []) (bare (codes "steps") refl refl) (steps_bare is.0 is.1),
-        ap (λ (ws : Words). is_whole (steps_passed ws)) (words_back (codes "steps") (numeral is.0 ∷ codes "of" ∷ numeral is.1 ∷ []) (bare (codes "steps") refl refl) (steps_bare is.0 is.1))
-            ∙ ap is_whole (steps_told is.0 is.1),
+        ap (λ (ws : Words). no_word_left (steps_passed ws)) (words_back (codes "steps") (numeral is.0 ∷ codes "of" ∷ numeral is.1 ∷ []) (bare (codes "steps") refl refl) (steps_bare is.0 is.1))
+            ∙ ap no_word_left (steps_told is.0 is.1),
       );
     }
 
@@ -120,18 +120,18 @@ both_told word a b =
     ap (λ v. option_and_then behind_number (option_and_then behind_number (if v then Some (numeral a ∷ numeral b ∷ []) else None))) (same_text word)
     ∙ ap (λ (o : Option Words). option_and_then behind_number o) (number_told a (numeral b ∷ [])) ∙ number_told b []
 
-pub both_exact : (word : List ℕ) → IsBare word → FormExact (is_both word) (IsBothLine word)
+pub both_exact : (word : List ℕ) → IsBare word → FormExact (are_both_words word) (IsBothLine word)
 both_exact word clean =
     record {
       sound = λ line e.
-          let is = both_sound word (words_of line) (whole_is (both_passed word (words_of line)) e) in
+          let is = both_sound word (line_words line) (whole_is (both_passed word (line_words line)) e) in
           (is.0, is.1, ap (λ (ws : List ℕ). ws ++ 10 ∷ []) (line_joined line word (numeral is.0 ∷ numeral is.1 ∷ []) is.2) ∙ both_is word is.0 is.1);
       told = λ line is.
           let all : AreBare (numeral is.0 ∷ numeral is.1 ∷ []) = (bare_numeral is.0, (bare_numeral is.1, tt)) in (
             both_body word is.0 is.1,
             is.2 ∙ sym (both_is word is.0 is.1),
             body_back word (numeral is.0 ∷ numeral is.1 ∷ []) clean all,
-            ap (λ (ws : Words). is_whole (both_passed word ws)) (words_back word (numeral is.0 ∷ numeral is.1 ∷ []) clean all) ∙ ap is_whole (both_told word is.0 is.1),
+            ap (λ (ws : Words). no_word_left (both_passed word ws)) (words_back word (numeral is.0 ∷ numeral is.1 ∷ []) clean all) ∙ ap no_word_left (both_told word is.0 is.1),
           );
     }
 
@@ -191,7 +191,7 @@ pub end_exact : FormExact is_end IsEndLine
 end_exact =
     record {
       sound = λ line e.
-          let is = end_sound (words_of line) (whole_is (end_passed (words_of line)) e) in
+          let is = end_sound (line_words line) (whole_is (end_passed (line_words line)) e) in
           (is.0, is.1, is.2, ap (λ (ws : List ℕ). ws ++ 10 ∷ []) (line_joined line (codes "end") (is.0 ∷ numeral is.1 ∷ []) is.3) ∙ end_is is.0 is.1);
       told = λ line is.
           let word = end_word_told is.0 is.2 in
@@ -199,7 +199,7 @@ end_exact =
             end_body is.0 is.1,
             is.3 ∙ sym (end_is is.0 is.1),
             body_back (codes "end") (is.0 ∷ numeral is.1 ∷ []) (bare (codes "end") refl refl) all,
-            ap (λ (ws : Words). is_whole (end_passed ws)) (words_back (codes "end") (is.0 ∷ numeral is.1 ∷ []) (bare (codes "end") refl refl) all) ∙ ap is_whole (end_told is.0 is.1 word.0),
+            ap (λ (ws : Words). no_word_left (end_passed ws)) (words_back (codes "end") (is.0 ∷ numeral is.1 ∷ []) (bare (codes "end") refl refl) all) ∙ ap no_word_left (end_told is.0 is.1 word.0),
           );
     }
 
@@ -207,5 +207,5 @@ end_exact =
 
 pub no_steps : (n : ℕ) (words : Words) → IsBare (numeral n) → AreBare words → is_steps (numeral n ++ spaced words) ≡ false
 no_steps n words clean all =
-    ap (λ (ws : Words). is_whole (steps_passed ws)) (words_back (numeral n) words clean all)
-    ∙ ap (λ v. is_whole (option_and_then behind_number (option_and_then (behind_word (codes "of")) (option_and_then behind_number (if v then Some words else None))))) (no_word n 115 (codes "teps") (omega arith))
+    ap (λ (ws : Words). no_word_left (steps_passed ws)) (words_back (numeral n) words clean all)
+    ∙ ap (λ v. no_word_left (option_and_then behind_number (option_and_then (behind_word (codes "of")) (option_and_then behind_number (if v then Some words else None))))) (no_word n 115 (codes "teps") (omega arith))

@@ -4,7 +4,7 @@ use Rattle.net_base.specs.declared.address.Addr.{Addr}
 use Rattle.net_base.specs.declared.event.Event.{Event}
 use Rattle.net_base.specs.declared.event.Event.TheVariants as event
 use Rattle.net_base.specs.declared.names.FileName.{FileName}
-use Rattle.history_reader.specs.Fields.{Read, Reader, both, called, file, ip_or_star, long, made, mode_of, narrow, narrow_or_dash, octet, place, port, port_or_dash, port_or_star, row_of, text}
+use Rattle.history_reader.specs.Fields.{Read, FieldReader, both_fields, read_called, file, read_ip_or_star, long, read_as, mode_of, narrow, narrow_or_dash, octet, read_place, port, port_or_dash, port_or_star, row_of, text}
 
 -- this, or else that
 abbrev pub otherwise : {X : Type 0} → Read X → Read X → Read X
@@ -27,95 +27,95 @@ to_file f = event.File f.0 f.1.0 f.1.1
 
 -- Rows.
 
-abbrev pub other_rows : List (List ℕ × Reader Event)
+abbrev pub other_rows : List (List ℕ × FieldReader Event)
 other_rows =
     (codes "reserve", λ words. Some (event.Reserve, words))
     ∷ (codes "take", λ words. Some (event.Take, words))
-    ∷ (codes "put", made narrow_or_dash (λ to. event.Put to))
-    ∷ (codes "move", made long (λ m. event.Move m))
-    ∷ (codes "until", made long (λ m. event.Until m))
+    ∷ (codes "put", read_as narrow_or_dash (λ to. event.Put to))
+    ∷ (codes "move", read_as long (λ m. event.Move m))
+    ∷ (codes "until", read_as long (λ m. event.Until m))
     ∷ (codes "refresh", λ words. Some (event.Refresh, words))
     ∷ []
 
 -- those that name a slot, and those behind them
-abbrev pub slot_rows : List (List ℕ × Reader Event)
+abbrev pub slot_rows : List (List ℕ × FieldReader Event)
 slot_rows =
-    (codes "grant", made (both narrow (both long (both place port_or_dash))) to_grant)
-    ∷ (codes "announce", made (both narrow (both long (both ip_or_star port_or_star))) to_announce)
-    ∷ (codes "bind", made (both narrow (both long port)) to_bind)
-    ∷ (codes "listen", made narrow (λ n. event.Listen n))
-    ∷ (codes "withdraw", made (both narrow long) (λ f. event.Withdraw f.0 f.1))
-    ∷ (codes "release", made (both narrow long) (λ f. event.Release f.0 f.1))
-    ∷ (codes "file", made (both long (both file narrow)) to_file)
+    (codes "grant", read_as (both_fields narrow (both_fields long (both_fields read_place port_or_dash))) to_grant)
+    ∷ (codes "announce", read_as (both_fields narrow (both_fields long (both_fields read_ip_or_star port_or_star))) to_announce)
+    ∷ (codes "bind", read_as (both_fields narrow (both_fields long port)) to_bind)
+    ∷ (codes "listen", read_as narrow (λ n. event.Listen n))
+    ∷ (codes "withdraw", read_as (both_fields narrow long) (λ f. event.Withdraw f.0 f.1))
+    ∷ (codes "release", read_as (both_fields narrow long) (λ f. event.Release f.0 f.1))
+    ∷ (codes "file", read_as (both_fields long (both_fields file narrow)) to_file)
     ∷ other_rows
 
 -- an `arrive` with a generation is a conversation's, one without a directory's
-abbrev pub arrive : Reader Event
-arrive words = otherwise (made long (λ g. event.ArriveAt g) words) (Some (event.Arrive, words))
+abbrev pub arrive : FieldReader Event
+arrive words = otherwise (read_as long (λ g. event.ArriveAt g) words) (Some (event.Arrive, words))
 
-abbrev pub end_rows : List (List ℕ × Reader Event)
+abbrev pub end_rows : List (List ℕ × FieldReader Event)
 end_rows =
-    (codes "hangup", made long (λ g. event.Hangup g))
-    ∷ (codes "close", made long (λ g. event.Close g))
-    ∷ (codes "tick", made long (λ g. event.Tick g))
+    (codes "hangup", read_as long (λ g. event.Hangup g))
+    ∷ (codes "close", read_as long (λ g. event.Close g))
+    ∷ (codes "tick", read_as long (λ g. event.Tick g))
     ∷ (codes "arrive", arrive)
-    ∷ (codes "read", made (both long narrow) (λ f. event.Read f.0 f.1))
-    ∷ (codes "ttl", made (both long octet) (λ f. event.Ttl f.0 f.1))
-    ∷ (codes "tos", made (both long octet) (λ f. event.Tos f.0 f.1))
+    ∷ (codes "read", read_as (both_fields long narrow) (λ f. event.Read f.0 f.1))
+    ∷ (codes "ttl", read_as (both_fields long octet) (λ f. event.Ttl f.0 f.1))
+    ∷ (codes "tos", read_as (both_fields long octet) (λ f. event.Tos f.0 f.1))
     ∷ slot_rows
 
-abbrev pub generation_rows : List (List ℕ × Reader Event)
+abbrev pub generation_rows : List (List ℕ × FieldReader Event)
 generation_rows =
-    (codes "begin", made long (λ g. event.Begin g))
-    ∷ (codes "born", made long (λ g. event.Born g))
-    ∷ (codes "claim", made long (λ g. event.Claim g))
-    ∷ (codes "connect", made long (λ g. event.Connect g))
-    ∷ (codes "announced", made long (λ g. event.Announced g))
-    ∷ (codes "bound", made long (λ g. event.Bound g))
-    ∷ (codes "await", made long (λ g. event.Await g))
+    (codes "begin", read_as long (λ g. event.Begin g))
+    ∷ (codes "born", read_as long (λ g. event.Born g))
+    ∷ (codes "claim", read_as long (λ g. event.Claim g))
+    ∷ (codes "connect", read_as long (λ g. event.Connect g))
+    ∷ (codes "announced", read_as long (λ g. event.Announced g))
+    ∷ (codes "bound", read_as long (λ g. event.Bound g))
+    ∷ (codes "await", read_as long (λ g. event.Await g))
     ∷ end_rows
 
 -- an `ls` with a path is the desk's
-abbrev pub ls : Reader Event
-ls words = otherwise (made text (λ path. event.LsPath path) words) (Some (event.Ls, words))
+abbrev pub ls_read : FieldReader Event
+ls_read words = otherwise (read_as text (λ path. event.LsPath path) words) (Some (event.Ls, words))
 
 -- an `open` of a file's name is a conversation's
-abbrev pub open_file : Reader Event
-open_file = made (both file mode_of) (λ f. event.Open f.0 f.1)
+abbrev pub open_file : FieldReader Event
+open_file = read_as (both_fields file mode_of) (λ f. event.Open f.0 f.1)
 
-abbrev pub open_path : Reader Event
-open_path = made (both text mode_of) (λ f. event.OpenPath f.0 f.1)
+abbrev pub open_path : FieldReader Event
+open_path = read_as (both_fields text mode_of) (λ f. event.OpenPath f.0 f.1)
 
-abbrev pub opening : Reader Event
-opening words = otherwise (open_file words) (open_path words)
+abbrev pub read_opening : FieldReader Event
+read_opening words = otherwise (open_file words) (open_path words)
 
-abbrev pub cs : Reader Event
-cs = made text (λ query. event.Cs query)
+abbrev pub cs : FieldReader Event
+cs = read_as text (λ query. event.Cs query)
 
-abbrev pub use_of : Reader Event
-use_of = made called (λ n. event.Use n)
+abbrev pub use_of : FieldReader Event
+use_of = read_as read_called (λ n. event.Use n)
 
-abbrev pub misuse : Reader Event
-misuse = made called (λ n. event.Misuse n)
+abbrev pub read_misuse : FieldReader Event
+read_misuse = read_as read_called (λ n. event.Misuse n)
 
-abbrev pub write : Reader Event
-write = made (both long text) (λ f. event.Write f.0 f.1)
+abbrev pub write_read : FieldReader Event
+write_read = read_as (both_fields long text) (λ f. event.Write f.0 f.1)
 
-abbrev pub ctl : Reader Event
-ctl = made (both long text) (λ f. event.Ctl f.0 f.1)
+abbrev pub ctl : FieldReader Event
+ctl = read_as (both_fields long text) (λ f. event.Ctl f.0 f.1)
 
 -- those with texts, and all others
-abbrev pub event_rows : List (List ℕ × Reader Event)
+abbrev pub event_rows : List (List ℕ × FieldReader Event)
 event_rows =
     (codes "cs", cs)
-    ∷ (codes "ls", ls)
-    ∷ (codes "open", opening)
+    ∷ (codes "ls", ls_read)
+    ∷ (codes "open", read_opening)
     ∷ (codes "use", use_of)
-    ∷ (codes "misuse", misuse)
-    ∷ (codes "write", write)
+    ∷ (codes "misuse", read_misuse)
+    ∷ (codes "write", write_read)
     ∷ (codes "ctl", ctl)
     ∷ generation_rows
 
-abbrev pub event_of : Reader Event
+abbrev pub event_of : FieldReader Event
 event_of [] = None
 event_of (word ∷ words) = row_of event_rows word words

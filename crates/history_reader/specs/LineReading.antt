@@ -42,22 +42,22 @@ abbrev pub end_passed : Words → Option Words
 end_passed words = option_and_then behind_number (option_and_then behind_end (behind_word (codes "end") words))
 
 -- no word is left
-abbrev pub is_whole : Option Words → Bool
-is_whole None = false
-is_whole (Some []) = true
-is_whole (Some (word ∷ words)) = false
+abbrev pub no_word_left : Option Words → Bool
+no_word_left None = false
+no_word_left (Some []) = true
+no_word_left (Some (word ∷ words)) = false
 
-abbrev pub words_of : List ℕ → Words
-words_of line = parts_at 32 line
+abbrev pub line_words : List ℕ → Words
+line_words line = parts_at 32 line
 
 abbrev pub is_steps : List ℕ → Bool
-is_steps line = is_whole (steps_passed (words_of line))
+is_steps line = no_word_left (steps_passed (line_words line))
 
-abbrev pub is_both : List ℕ → List ℕ → Bool
-is_both word line = is_whole (both_passed word (words_of line))
+abbrev pub are_both_words : List ℕ → List ℕ → Bool
+are_both_words word line = no_word_left (both_passed word (line_words line))
 
 abbrev pub is_end : List ℕ → Bool
-is_end line = is_whole (end_passed (words_of line))
+is_end line = no_word_left (end_passed (line_words line))
 
 -- Texts by their lines: the last part is what stands behind the last newline.
 
@@ -71,9 +71,9 @@ passed test (last ∷ []) = None
 passed test (line ∷ part ∷ parts) = if test line then Some (part ∷ parts) else None
 
 -- what stands behind a line, if it is good, is looked at further
-abbrev pub goes_on : ℕ → Option Parts → (Parts → Option ℕ) → Option ℕ
-goes_on before None go = Some (before + 1)
-goes_on before (Some rest) go = go rest
+abbrev pub looks_further : ℕ → Option Parts → (Parts → Option ℕ) → Option ℕ
+looks_further before None go = Some (before + 1)
+looks_further before (Some rest) go = go rest
 
 -- the first line of these that is bad, behind so many lines
 abbrev pub fault_from : List (List ℕ → Bool) → ℕ → Parts → Option ℕ
@@ -81,16 +81,16 @@ fault_from [] before [] = Some (before + 1)
 fault_from [] before ([] ∷ []) = None
 fault_from [] before ((b ∷ part) ∷ []) = Some (before + 1)
 fault_from [] before (part ∷ next ∷ parts) = Some (before + 1)
-fault_from (test ∷ tests) before parts = goes_on before (passed test parts) (fault_from tests (before + 1))
+fault_from (test ∷ tests) before parts = looks_further before (passed test parts) (fault_from tests (before + 1))
 
 abbrev pub summary_tests : List (List ℕ → Bool)
-summary_tests = is_steps ∷ is_both (codes "messages") ∷ is_both (codes "bytes") ∷ is_end ∷ []
+summary_tests = is_steps ∷ are_both_words (codes "messages") ∷ are_both_words (codes "bytes") ∷ is_end ∷ []
 
 -- Lines of entries.
 
-pub data Verdict : Type 0 where
-  Good : Entry → Verdict
-  Refused : ℕ → Verdict
+pub data EntryVerdict : Type 0 where
+  Good : Entry → EntryVerdict
+  Refused : ℕ → EntryVerdict
 
 abbrev pub is_same : ℕ → Option ℕ → Bool
 is_same n None = false
@@ -105,16 +105,16 @@ abbrev pub stamp_cause : List ℕ → ℕ
 stamp_cause word = if is_numeral word then 42 else 41
 
 -- an entry by the word of its stamp, where the other words spell one
-abbrev pub stamped : ℕ → List ℕ → Option Entry → Verdict
-stamped stamp word None = Refused 41
-stamped stamp word (Some x) = if is_stamp stamp word then Good x else Refused (stamp_cause word)
+abbrev pub line_stamped : ℕ → List ℕ → Option Entry → EntryVerdict
+line_stamped stamp word None = Refused 41
+line_stamped stamp word (Some x) = if is_stamp stamp word then Good x else Refused (stamp_cause word)
 
-abbrev pub words_verdict : ℕ → Words → Verdict
+abbrev pub words_verdict : ℕ → Words → EntryVerdict
 words_verdict stamp [] = Refused 41
-words_verdict stamp (word ∷ words) = stamped stamp word (entry_of words)
+words_verdict stamp (word ∷ words) = line_stamped stamp word (entry_of words)
 
-abbrev pub line_verdict : ℕ → List ℕ → Verdict
-line_verdict stamp line = words_verdict stamp (words_of line)
+abbrev pub entry_verdict : ℕ → List ℕ → EntryVerdict
+entry_verdict stamp line = words_verdict stamp (line_words line)
 
 -- The whole text.
 
@@ -128,34 +128,34 @@ ending before [] = Whole [] None
 ending before (b ∷ last) = Bad (before + 1) 41
 
 -- a summary's text
-abbrev pub summed : Parts → Option ℕ → Reading
-summed parts None = Whole [] (Some (join_with_byte 10 parts))
-summed parts (Some line) = Bad line 41
+abbrev pub line_summed : Parts → Option ℕ → Reading
+line_summed parts None = Whole [] (Some (join_with_byte 10 parts))
+line_summed parts (Some line) = Bad line 41
 
 -- entries before these
 abbrev pub onto : List Entry → Reading → Reading
 onto before (Whole h summary) = Whole (before ++ h) summary
 onto before (Bad line cause) = Bad line cause
 
-abbrev pub judged : ℕ → Verdict → Reading → Reading
-judged stamp (Good x) rest = onto (x ∷ []) rest
-judged stamp (Refused cause) rest = Bad (stamp + 1) cause
+abbrev pub history_judged : ℕ → EntryVerdict → Reading → Reading
+history_judged stamp (Good x) rest = onto (x ∷ []) rest
+history_judged stamp (Refused cause) rest = Bad (stamp + 1) cause
 
-abbrev pub reading_from : ℕ → Parts → Reading
-reading_from stamp [] = Bad (stamp + 1) 41
-reading_from stamp (last ∷ []) = ending stamp last
-reading_from stamp (line ∷ part ∷ parts) =
+abbrev pub history_reading_from : ℕ → Parts → Reading
+history_reading_from stamp [] = Bad (stamp + 1) 41
+history_reading_from stamp (last ∷ []) = ending stamp last
+history_reading_from stamp (line ∷ part ∷ parts) =
     if is_steps line
-    then summed (line ∷ part ∷ parts) (fault_from summary_tests stamp (line ∷ part ∷ parts))
-    else judged stamp (line_verdict stamp line) (reading_from (stamp + 1) (part ∷ parts))
+    then line_summed (line ∷ part ∷ parts) (fault_from summary_tests stamp (line ∷ part ∷ parts))
+    else history_judged stamp (entry_verdict stamp line) (history_reading_from (stamp + 1) (part ∷ parts))
 
-abbrev pub reading : List ℕ → Reading
-reading bytes = reading_from 0 (parts_at 10 bytes)
+abbrev pub reading_line : List ℕ → Reading
+reading_line bytes = history_reading_from 0 (parts_at 10 bytes)
 
 -- What an answer tells.
 
 -- a line that is refused
-abbrev pub TellsVerdict : LineError → ℕ → Verdict → Type 0
+abbrev pub TellsVerdict : LineError → ℕ → EntryVerdict → Type 0
 TellsVerdict error.Memory stamp v = Unit {0}
 TellsVerdict (error.Bad line cause) stamp v = (line ≡ stamp + 1) × (v ≡ Refused cause)
 

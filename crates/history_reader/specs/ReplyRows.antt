@@ -4,7 +4,7 @@ use Rattle.net_base.specs.declared.actor.Call.{Call}
 use Rattle.net_base.specs.declared.address.Addr.{Addr}
 use Rattle.net_base.specs.declared.reply.Reply.{Reply}
 use Rattle.net_base.specs.declared.reply.Reply.TheVariants as reply
-use Rattle.history_reader.specs.Fields.{Words, Read, Reader, both, cause_of, long, made, narrow, place, row_of, state_of, text, texts}
+use Rattle.history_reader.specs.Fields.{Words, Read, FieldReader, both_fields, read_cause, long, read_as, narrow, read_place, row_of, state_read, text, texts}
 
 -- Calls.
 
@@ -12,22 +12,22 @@ use Rattle.history_reader.specs.Fields.{Words, Read, Reader, both, cause_of, lon
 abbrev pub to_call : ℕ × ℕ → Call
 to_call f = record { slot = f.0; generation = f.1 }
 
-abbrev pub call : Reader Call
-call = made (both narrow long) to_call
+abbrev pub call : FieldReader Call
+call = read_as (both_fields narrow long) to_call
 
 abbrev pub Calls : Type 0
 Calls = List Call × Words
 
 -- a call before these, or none
-abbrev pub with_call : Read Call → Calls → Words → Calls
-with_call None read words = ([], words)
-with_call (Some (first, rest)) read words = (first ∷ read.0, read.1)
+abbrev pub call_before : Read Call → Calls → Words → Calls
+call_before None read words = ([], words)
+call_before (Some (first, rest)) read words = (first ∷ read.0, read.1)
 
 -- calls as long as two numbers come
 abbrev pub each_call : Words → Calls
 each_call [] = ([], [])
-each_call (slot ∷ []) = ([], slot ∷ [])
-each_call (slot ∷ generation ∷ words) = with_call (call (slot ∷ generation ∷ [])) (each_call words) (slot ∷ generation ∷ words)
+each_call (slot_read ∷ []) = ([], slot_read ∷ [])
+each_call (slot_read ∷ generation ∷ words) = call_before (call (slot_read ∷ generation ∷ [])) (each_call words) (slot_read ∷ generation ∷ words)
 
 -- at least one
 abbrev pub some_calls : Calls → Read (List Call)
@@ -35,9 +35,9 @@ some_calls ([], words) = None
 some_calls (first ∷ others, words) = Some (first ∷ others, words)
 
 -- the calls that waited, or a dash for none
-abbrev pub calls : Reader (List Call)
-calls [] = None
-calls (word ∷ words) = if bytes_eq word (codes "-") then Some ([], words) else some_calls (each_call (word ∷ words))
+abbrev pub calls_read : FieldReader (List Call)
+calls_read [] = None
+calls_read (word ∷ words) = if bytes_eq word (codes "-") then Some ([], words) else some_calls (each_call (word ∷ words))
 
 -- Rows with several fields.
 
@@ -49,7 +49,7 @@ to_born f = reply.Born f.0 f.1.0 f.1.1.0 f.1.1.1
 
 -- Rows.
 
-abbrev pub last_rows : List (List ℕ × Reader Reply)
+abbrev pub last_rows : List (List ℕ × FieldReader Reply)
 last_rows =
     (codes "took", λ words. Some (reply.Took, words))
     ∷ (codes "full", λ words. Some (reply.Full, words))
@@ -59,7 +59,7 @@ last_rows =
     ∷ (codes "nostation", λ words. Some (reply.NoStation, words))
     ∷ []
 
-abbrev pub refused_rows : List (List ℕ × Reader Reply)
+abbrev pub refused_rows : List (List ℕ × FieldReader Reply)
 refused_rows =
     (codes "refused", λ words. Some (reply.Refused, words))
     ∷ (codes "dropped", λ words. Some (reply.Dropped, words))
@@ -69,7 +69,7 @@ refused_rows =
     ∷ (codes "left", λ words. Some (reply.Left, words))
     ∷ last_rows
 
-abbrev pub bare_rows : List (List ℕ × Reader Reply)
+abbrev pub bare_rows : List (List ℕ × FieldReader Reply)
 bare_rows =
     (codes "nofile", λ words. Some (reply.NoFile, words))
     ∷ (codes "badmode", λ words. Some (reply.BadMode, words))
@@ -80,58 +80,58 @@ bare_rows =
     ∷ (codes "selfpair", λ words. Some (reply.SelfPair, words))
     ∷ refused_rows
 
-abbrev pub several_rows : List (List ℕ × Reader Reply)
+abbrev pub several_rows : List (List ℕ × FieldReader Reply)
 several_rows =
-    (codes "call", made (both narrow long) (λ f. reply.Call f.0 f.1))
-    ∷ (codes "to", made (both narrow long) (λ f. reply.To f.0 f.1))
-    ∷ (codes "toolong", made (both long narrow) (λ f. reply.TooLong f.0 f.1))
-    ∷ (codes "granted", made (both place (both place (both narrow narrow))) to_granted)
-    ∷ (codes "born", made (both narrow (both long (both narrow narrow))) to_born)
-    ∷ (codes "wrong", made state_of (λ s. reply.WrongState s))
-    ∷ (codes "hungup", made cause_of (λ c. reply.Hungup c))
+    (codes "call", read_as (both_fields narrow long) (λ f. reply.Call f.0 f.1))
+    ∷ (codes "to", read_as (both_fields narrow long) (λ f. reply.To f.0 f.1))
+    ∷ (codes "toolong", read_as (both_fields long narrow) (λ f. reply.TooLong f.0 f.1))
+    ∷ (codes "granted", read_as (both_fields read_place (both_fields read_place (both_fields narrow narrow))) to_granted)
+    ∷ (codes "born", read_as (both_fields narrow (both_fields long (both_fields narrow narrow))) to_born)
+    ∷ (codes "wrong", read_as state_read (λ s. reply.WrongState s))
+    ∷ (codes "hungup", read_as read_cause (λ c. reply.Hungup c))
     ∷ bare_rows
 
-abbrev pub number_rows : List (List ℕ × Reader Reply)
+abbrev pub number_rows : List (List ℕ × FieldReader Reply)
 number_rows =
-    (codes "csrefused", made narrow (λ n. reply.CsRefused n))
-    ∷ (codes "pairused", made long (λ k. reply.PairUsed k))
-    ∷ (codes "taken", made narrow (λ n. reply.PortTaken n))
-    ∷ (codes "opened", made long (λ g. reply.Opened g))
-    ∷ (codes "badctl", made narrow (λ n. reply.BadCtl n))
-    ∷ (codes "version", made long (λ n. reply.Version n))
-    ∷ (codes "laid", made long (λ k. reply.Laid k))
-    ∷ (codes "copy", made long (λ k. reply.Copy k))
+    (codes "csrefused", read_as narrow (λ n. reply.CsRefused n))
+    ∷ (codes "pairused", read_as long (λ k. reply.PairUsed k))
+    ∷ (codes "taken", read_as narrow (λ n. reply.PortTaken n))
+    ∷ (codes "opened", read_as long (λ g. reply.Opened g))
+    ∷ (codes "badctl", read_as narrow (λ n. reply.BadCtl n))
+    ∷ (codes "version", read_as long (λ n. reply.Version n))
+    ∷ (codes "laid", read_as long (λ k. reply.Laid k))
+    ∷ (codes "copy", read_as long (λ k. reply.Copy k))
     ∷ several_rows
 
-abbrev pub count : Reader Reply
-count = made narrow (λ n. reply.Count n)
+abbrev pub count : FieldReader Reply
+count = read_as narrow (λ n. reply.Count n)
 
-abbrev pub slot : Reader Reply
-slot = made (both narrow long) (λ f. reply.Slot f.0 f.1)
+abbrev pub slot_read : FieldReader Reply
+slot_read = read_as (both_fields narrow long) (λ f. reply.Slot f.0 f.1)
 
-abbrev pub bytes : Reader Reply
-bytes = made text (λ b. reply.Bytes b)
+abbrev pub bytes : FieldReader Reply
+bytes = read_as text (λ b. reply.Bytes b)
 
-abbrev pub lines : Reader Reply
-lines = made texts (λ ls. reply.Lines ls)
+abbrev pub lines : FieldReader Reply
+lines = read_as texts (λ ls. reply.Lines ls)
 
-abbrev pub names : Reader Reply
-names = made texts (λ ns. reply.Names ns)
+abbrev pub read_names : FieldReader Reply
+read_names = read_as texts (λ ns. reply.Names ns)
 
-abbrev pub waited : Reader Reply
-waited = made calls (λ c. reply.Calls c)
+abbrev pub waited : FieldReader Reply
+waited = read_as calls_read (λ c. reply.Calls c)
 
-abbrev pub reply_rows : List (List ℕ × Reader Reply)
+abbrev pub reply_rows : List (List ℕ × FieldReader Reply)
 reply_rows =
     (codes "ok", λ words. Some (reply.Ok, words))
     ∷ (codes "count", count)
-    ∷ (codes "slot", slot)
+    ∷ (codes "slot", slot_read)
     ∷ (codes "bytes", bytes)
     ∷ (codes "lines", lines)
-    ∷ (codes "names", names)
+    ∷ (codes "names", read_names)
     ∷ (codes "calls", waited)
     ∷ number_rows
 
-abbrev pub reply_of : Reader Reply
-reply_of [] = None
-reply_of (word ∷ words) = row_of reply_rows word words
+abbrev pub reply_read : FieldReader Reply
+reply_read [] = None
+reply_read (word ∷ words) = row_of reply_rows word words

@@ -19,7 +19,7 @@ IsBehind None rest = rest ≡ []
 IsBehind (Some text) rest = (rest ≡ text) × IsSummary text
 
 -- a plain and wide history and its summary, if there is one
-pub record Spells (bytes : List ℕ) (h : List Entry) (summary : Option (List ℕ)) : Type 0 where
+pub record SpellsHistory (bytes : List ℕ) (h : List Entry) (summary : Option (List ℕ)) : Type 0 where
   pub plain : IsPlain h
   pub wide : IsWide h
   pub spelled : (rest : List ℕ) × (bytes ≡ history_text h ++ rest) × IsBehind summary rest
@@ -27,22 +27,22 @@ pub record Spells (bytes : List ℕ) (h : List Entry) (summary : Option (List �
 -- The first bad line. Lines count from 1.
 
 -- an entry that a line may spell
-pub record IsGood (x : Entry) : Type 0 where
+pub record IsGoodHistory (x : Entry) : Type 0 where
   pub event : IsPlainEvent x.event
   pub reply : IsPlainReply x.reply
   pub wide : IsWideEntry x
 
 -- the line of an entry with a stamp
 abbrev pub IsEntryLine : ℕ → List ℕ → Type 0
-IsEntryLine stamp line = (x : Entry) × IsGood x × (line ≡ line_of stamp x)
+IsEntryLine stamp line = (x : Entry) × IsGoodHistory x × (line ≡ line_of stamp x)
 
 -- a text begins with such a line
 abbrev pub Begins : (List ℕ → Type 0) → List ℕ → Type 0
 Begins IsLine text = (line : List ℕ) × (rest : List ℕ) × IsLine line × (text ≡ line ++ rest)
 
 -- behind so many entries: no line of an entry and none that begins a summary, or an entry with another stamp
-abbrev pub IsBadLine : ℕ → List ℕ → ℕ → Type 0
-IsBadLine stamp text cause =
+abbrev pub IsBadEntryLine : ℕ → List ℕ → ℕ → Type 0
+IsBadEntryLine stamp text cause =
     ((cause ≡ 41) × ((other : ℕ) → Begins (IsEntryLine other) text → ⊥) × (Begins (IsLineOf 0) text → ⊥))
     ⊎ ((cause ≡ 42) × ((other : ℕ) × (other ≢ stamp) × Begins (IsEntryLine other) text))
 
@@ -51,7 +51,7 @@ abbrev pub IsBadSummary : ℕ → List ℕ → Type 0
 IsBadSummary count text = ((text ≢ []) ⊎ (count < 4)) × (Begins (IsLineOf count) text → ⊥)
 
 -- the entries before, the lines of a summary behind them, and what follows
-pub record IsBad (bytes : List ℕ) (line cause : ℕ) : Type 0 where
+pub record IsBadText (bytes : List ℕ) (line cause : ℕ) : Type 0 where
   pub before : List Entry
   pub lines : List (List ℕ)
   pub behind : List ℕ
@@ -60,4 +60,4 @@ pub record IsBad (bytes : List ℕ) (line cause : ℕ) : Type 0 where
   pub summary : AreLinesFrom 0 lines
   pub spelled : bytes ≡ history_text before ++ concat lines ++ behind
   pub place : line ≡ length before + length lines + 1
-  pub bad : ((lines ≡ []) × (behind ≢ []) × IsBadLine (length before) behind cause) ⊎ ((lines ≢ []) × (cause ≡ 41) × IsBadSummary (length lines) behind)
+  pub bad : ((lines ≡ []) × (behind ≢ []) × IsBadEntryLine (length before) behind cause) ⊎ ((lines ≢ []) × (cause ≡ 41) × IsBadSummary (length lines) behind)

@@ -17,8 +17,8 @@ use Rattle.net_base.specs.Plain.{AreBytes}
 -- Numbers.
 
 -- moments, generations, frames, stamps and lengths
-abbrev pub IsLong : ℕ → Type 0
-IsLong n = n < 2 ^ 64
+abbrev pub IsLongField : ℕ → Type 0
+IsLongField n = n < 2 ^ 64
 
 -- callers, hosts, slots, counts, ids and limits
 abbrev pub IsNarrow : ℕ → Type 0
@@ -53,32 +53,32 @@ abbrev pub IsWideEvent : Event → Type 0
 IsWideEvent (event.Cs query) = AreBytes query
 IsWideEvent (event.LsPath path) = AreBytes path
 IsWideEvent (event.OpenPath path m) = AreBytes path
-IsWideEvent (event.Until m) = IsLong m
-IsWideEvent (event.Grant n g remote lport) = IsNarrow n × IsLong g × IsPlace remote × IfAny IsPort lport
-IsWideEvent (event.Announce n g ip port) = IsNarrow n × IsLong g × IfAny IsNarrow ip × IfAny IsPort port
-IsWideEvent (event.Bind n g port) = IsNarrow n × IsLong g × IsPort port
+IsWideEvent (event.Until m) = IsLongField m
+IsWideEvent (event.Grant n g remote lport) = IsNarrow n × IsLongField g × IsPlace remote × IfAny IsPort lport
+IsWideEvent (event.Announce n g ip port) = IsNarrow n × IsLongField g × IfAny IsNarrow ip × IfAny IsPort port
+IsWideEvent (event.Bind n g port) = IsNarrow n × IsLongField g × IsPort port
 IsWideEvent (event.Listen n) = IsNarrow n
-IsWideEvent (event.Withdraw n g) = IsNarrow n × IsLong g
-IsWideEvent (event.Release n g) = IsNarrow n × IsLong g
-IsWideEvent (event.Begin g) = IsLong g
-IsWideEvent (event.Born g) = IsLong g
-IsWideEvent (event.Claim g) = IsLong g
-IsWideEvent (event.Connect g) = IsLong g
-IsWideEvent (event.Announced g) = IsLong g
-IsWideEvent (event.Bound g) = IsLong g
-IsWideEvent (event.Await g) = IsLong g
-IsWideEvent (event.File g f count) = IsLong g × IsNarrow count
-IsWideEvent (event.Read g count) = IsLong g × IsNarrow count
-IsWideEvent (event.Write g text) = IsLong g × AreBytes text
-IsWideEvent (event.Hangup g) = IsLong g
-IsWideEvent (event.Ttl g n) = IsLong g × IsOctet n
-IsWideEvent (event.Tos g n) = IsLong g × IsOctet n
-IsWideEvent (event.Ctl g text) = IsLong g × AreBytes text
-IsWideEvent (event.Close g) = IsLong g
-IsWideEvent (event.ArriveAt g) = IsLong g
-IsWideEvent (event.Tick g) = IsLong g
+IsWideEvent (event.Withdraw n g) = IsNarrow n × IsLongField g
+IsWideEvent (event.Release n g) = IsNarrow n × IsLongField g
+IsWideEvent (event.Begin g) = IsLongField g
+IsWideEvent (event.Born g) = IsLongField g
+IsWideEvent (event.Claim g) = IsLongField g
+IsWideEvent (event.Connect g) = IsLongField g
+IsWideEvent (event.Announced g) = IsLongField g
+IsWideEvent (event.Bound g) = IsLongField g
+IsWideEvent (event.Await g) = IsLongField g
+IsWideEvent (event.File g f count) = IsLongField g × IsNarrow count
+IsWideEvent (event.Read g count) = IsLongField g × IsNarrow count
+IsWideEvent (event.Write g text) = IsLongField g × AreBytes text
+IsWideEvent (event.Hangup g) = IsLongField g
+IsWideEvent (event.Ttl g n) = IsLongField g × IsOctet n
+IsWideEvent (event.Tos g n) = IsLongField g × IsOctet n
+IsWideEvent (event.Ctl g text) = IsLongField g × AreBytes text
+IsWideEvent (event.Close g) = IsLongField g
+IsWideEvent (event.ArriveAt g) = IsLongField g
+IsWideEvent (event.Tick g) = IsLongField g
 IsWideEvent (event.Put to) = IfAny IsNarrow to
-IsWideEvent (event.Move m) = IsLong m
+IsWideEvent (event.Move m) = IsLongField m
 IsWideEvent _ = Unit {0}
 
 -- Replies.
@@ -89,45 +89,45 @@ AreByteLines (line ∷ lines) = AreBytes line × AreByteLines lines
 
 abbrev pub AreWideCalls : List Call → Type 0
 AreWideCalls [] = Unit {0}
-AreWideCalls (call ∷ calls) = IsNarrow call.slot × IsLong call.generation × AreWideCalls calls
+AreWideCalls (call ∷ calls) = IsNarrow call.slot × IsLongField call.generation × AreWideCalls calls
 
 abbrev pub IsWideReply : Reply → Type 0
 IsWideReply (reply.Lines lines) = AreByteLines lines
 IsWideReply (reply.CsRefused n) = IsNarrow n
 IsWideReply (reply.Names names) = AreByteLines names
-IsWideReply (reply.Version n) = IsLong n
-IsWideReply (reply.Slot n g) = IsNarrow n × IsLong g
+IsWideReply (reply.Version n) = IsLongField n
+IsWideReply (reply.Slot n g) = IsNarrow n × IsLongField g
 IsWideReply (reply.Granted pair start limit) = IsPlace pair.local × IsPlace pair.remote × IsNarrow start × IsNarrow limit
-IsWideReply (reply.PairUsed k) = IsLong k
+IsWideReply (reply.PairUsed k) = IsLongField k
 IsWideReply (reply.PortTaken n) = IsNarrow n
-IsWideReply (reply.Call n g) = IsNarrow n × IsLong g
+IsWideReply (reply.Call n g) = IsNarrow n × IsLongField g
 IsWideReply (reply.Calls calls) = AreWideCalls calls
-IsWideReply (reply.To n g) = IsNarrow n × IsLong g
-IsWideReply (reply.Born n g start limit) = IsNarrow n × IsLong g × IsNarrow start × IsNarrow limit
-IsWideReply (reply.Opened g) = IsLong g
+IsWideReply (reply.To n g) = IsNarrow n × IsLongField g
+IsWideReply (reply.Born n g start limit) = IsNarrow n × IsLongField g × IsNarrow start × IsNarrow limit
+IsWideReply (reply.Opened g) = IsLongField g
 IsWideReply (reply.Bytes bytes) = AreBytes bytes
 IsWideReply (reply.Count n) = IsNarrow n
-IsWideReply (reply.TooLong length limit) = IsLong length × IsNarrow limit
+IsWideReply (reply.TooLong length limit) = IsLongField length × IsNarrow limit
 IsWideReply (reply.BadCtl n) = IsNarrow n
-IsWideReply (reply.Laid k) = IsLong k
-IsWideReply (reply.Copy k) = IsLong k
+IsWideReply (reply.Laid k) = IsLongField k
+IsWideReply (reply.Copy k) = IsLongField k
 IsWideReply _ = Unit {0}
 
 -- Entries.
 
 abbrev pub IsWideBody : BodyHeader → Type 0
-IsWideBody (body.Il k spec id ack length) = IsOctet spec × IsNarrow id × IsNarrow ack × IsLong length
-IsWideBody (body.Udp length) = IsLong length
+IsWideBody (body.Il k spec id ack length) = IsOctet spec × IsNarrow id × IsNarrow ack × IsLongField length
+IsWideBody (body.Udp length) = IsLongField length
 
 abbrev pub IsWideHeader : Option Header → Type 0
 IsWideHeader None = Unit {0}
 IsWideHeader (Some h) = IsPlace h.src × IsPlace h.dst × IsOctet h.ttl × IsOctet h.tos × IsWideBody h.body
 
 pub record IsWideEntry (x : Entry) : Type 0 where
-  pub moment : IsLong x.moment
+  pub moment : IsLongField x.moment
   pub caller : IsNarrow x.caller
   pub actor : IsWideActor x.actor
-  pub cites : IfAny IsLong x.cites
+  pub cites : IfAny IsLongField x.cites
   pub event : IsWideEvent x.event
   pub reply : IsWideReply x.reply
   pub emits : IsWideHeader x.emits

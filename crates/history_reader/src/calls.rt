@@ -13,7 +13,7 @@ pub(crate) fn calls<'a>(
     alloc: Global,
     words: &Words<'a>,
 ) -> Result<Option<(CallList, Words<'a>)>, AllocError>
-    ensures { IfOk result (λ read. read ≡ spec.calls words.now) }
+    ensures { IfOk result (λ read. read ≡ spec.calls_read words.now) }
 {
     let Some((word, rest)) = words.next() else {
         return Ok(None);

@@ -85,7 +85,7 @@ fn emitted<'a>(words: &Words<'a>) -> Option<(Option<Header>, Words<'a>)>
 
 /// Whether it ended: the last word, or none.
 fn ended(words: &Words<'_>) -> Option<bool>
-    ensures { result ≡ spec.ended words.now }
+    ensures { result ≡ spec.ended_read words.now }
 {
     let Some((word, rest)) = words.next() else {
         return Some(false);
@@ -98,7 +98,7 @@ fn ended(words: &Words<'_>) -> Option<bool>
 }
 
 fn header<'a>(words: &Words<'a>) -> Option<(Header, Words<'a>)>
-    ensures { result ≡ spec.header_of words.now }
+    ensures { result ≡ spec.header_of_words words.now }
 {
     let (word, words) = words.next()?;
     if word == b"il".as_slice() {
@@ -136,7 +136,7 @@ fn header<'a>(words: &Words<'a>) -> Option<(Header, Words<'a>)>
 type Way = (Addr, Addr, u8, u8);
 
 fn way<'a>(words: &Words<'a>) -> Option<(Way, Words<'a>)>
-    ensures { result ≡ spec.way words.now }
+    ensures { result ≡ spec.read_way words.now }
 {
     let (src, words) = place(words)?;
     let (dst, words) = place(&words)?;

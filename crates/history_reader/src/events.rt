@@ -63,7 +63,7 @@ fn cs<'a>(alloc: Global, words: &Words<'a>) -> Result<Option<(Event, Words<'a>)>
 
 /// An `ls` with a path is the desk's.
 fn ls<'a>(alloc: Global, words: &Words<'a>) -> Result<Option<(Event, Words<'a>)>, AllocError>
-    ensures { IfOk result (λ read. read ≡ spec.ls words.now) }
+    ensures { IfOk result (λ read. read ≡ spec.ls_read words.now) }
 {
     match text(alloc, words)? {
         Some((path, words)) => Ok(Some((Event::LsPath { path }, words))),
@@ -73,7 +73,7 @@ fn ls<'a>(alloc: Global, words: &Words<'a>) -> Result<Option<(Event, Words<'a>)>
 
 /// An `open` of a file's name is a conversation's.
 fn open<'a>(alloc: Global, words: &Words<'a>) -> Result<Option<(Event, Words<'a>)>, AllocError>
-    ensures { IfOk result (λ read. read ≡ spec.opening words.now) }
+    ensures { IfOk result (λ read. read ≡ spec.read_opening words.now) }
 {
     match open_file(words) {
         Some(read) => Ok(Some(read)),
@@ -111,7 +111,7 @@ fn use_of<'a>(alloc: Global, words: &Words<'a>) -> Result<Option<(Event, Words<'
 }
 
 fn misuse<'a>(alloc: Global, words: &Words<'a>) -> Result<Option<(Event, Words<'a>)>, AllocError>
-    ensures { IfOk result (λ read. read ≡ spec.misuse words.now) }
+    ensures { IfOk result (λ read. read ≡ spec.read_misuse words.now) }
 {
     match name(alloc, words)? {
         Some((name, words)) => Ok(Some((Event::Misuse { name }, words))),
@@ -120,7 +120,7 @@ fn misuse<'a>(alloc: Global, words: &Words<'a>) -> Result<Option<(Event, Words<'
 }
 
 fn write<'a>(alloc: Global, words: &Words<'a>) -> Result<Option<(Event, Words<'a>)>, AllocError>
-    ensures { IfOk result (λ read. read ≡ spec.write words.now) }
+    ensures { IfOk result (λ read. read ≡ spec.write_read words.now) }
 {
     let Some((generation, words)) = long(words) else {
         return Ok(None);

@@ -46,7 +46,7 @@ pub(crate) fn octet<'a>(words: &Words<'a>) -> Option<(u8, Words<'a>)>
 
 /// A number up to this one, or none for a mark.
 fn number_or(mark: &[u8], most: u64, word: &[u8]) -> Option<Option<u64>>
-    ensures value { result ≡ spec.marked mark.now (number_in 0 most) word.now }
+    ensures value { result ≡ spec.read_marked mark.now (number_in 0 most) word.now }
     ensures within { IfSome result (λ number. IfSome number (λ n. n ≤ most)) }
 {
     if word == mark {
@@ -76,7 +76,7 @@ pub(crate) fn narrow_or_dash<'a>(words: &Words<'a>) -> Option<(Option<u32>, Word
 
 /// A port, or none for a mark.
 fn port_or<'a>(mark: &[u8], words: &Words<'a>) -> Option<(Option<u16>, Words<'a>)>
-    ensures { result ≡ spec.one (spec.marked mark.now (number_in 0 65535)) words.now }
+    ensures { result ≡ spec.one (spec.read_marked mark.now (number_in 0 65535)) words.now }
 {
     let (word, words) = words.next()?;
     match number_or(mark, u16::MAX as u64, word)? {
@@ -98,7 +98,7 @@ pub(crate) fn port_or_star<'a>(words: &Words<'a>) -> Option<(Option<u16>, Words<
 }
 
 pub(crate) fn ip_or_star<'a>(words: &Words<'a>) -> Option<(Option<u32>, Words<'a>)>
-    ensures { result ≡ spec.ip_or_star words.now }
+    ensures { result ≡ spec.read_ip_or_star words.now }
 {
     let (word, words) = words.next()?;
     if word == b"*".as_slice() {
@@ -109,7 +109,7 @@ pub(crate) fn ip_or_star<'a>(words: &Words<'a>) -> Option<(Option<u32>, Words<'a
 }
 
 pub(crate) fn place<'a>(words: &Words<'a>) -> Option<(Addr, Words<'a>)>
-    ensures { result ≡ spec.place words.now }
+    ensures { result ≡ spec.read_place words.now }
 {
     let (word, words) = words.next()?;
     let place = place_in(word)?;
@@ -118,7 +118,7 @@ pub(crate) fn place<'a>(words: &Words<'a>) -> Option<(Addr, Words<'a>)>
 
 /// An address and its port.
 fn place_in(word: &[u8]) -> Option<Addr>
-    ensures { result ≡ spec.place_in word.now }
+    ensures { result ≡ spec.field_place word.now }
 {
     let (ip, parts) = ip(&Words::of(word, b'!'))?;
     let (port, parts) = port(&parts)?;
@@ -176,7 +176,7 @@ fn mode_in(word: &[u8]) -> Option<Mode>
 }
 
 pub(crate) fn kind<'a>(words: &Words<'a>) -> Option<(IlKind, Words<'a>)>
-    ensures { result ≡ spec.kind_of words.now }
+    ensures { result ≡ spec.kind_read words.now }
 {
     let (word, words) = words.next()?;
     let kind = kind_in(word)?;
@@ -206,7 +206,7 @@ fn kind_in(word: &[u8]) -> Option<IlKind>
 }
 
 pub(crate) fn state<'a>(words: &Words<'a>) -> Option<(StateName, Words<'a>)>
-    ensures { result ≡ spec.state_of words.now }
+    ensures { result ≡ spec.state_read words.now }
 {
     let (word, words) = words.next()?;
     let state = state_in(word)?;
@@ -255,7 +255,7 @@ fn end_state_in(word: &[u8]) -> Option<StateName>
 }
 
 pub(crate) fn cause<'a>(words: &Words<'a>) -> Option<(Cause, Words<'a>)>
-    ensures { result ≡ spec.cause_of words.now }
+    ensures { result ≡ spec.read_cause words.now }
 {
     let (word, words) = words.next()?;
     let cause = cause_in(word)?;

@@ -2,7 +2,7 @@
 ghost use Rattle.std.specs.Prelude.{◌≡◌, ◌+◌, ◌<◌, ◌^◌, IfOk, IfErr, List, ℕ, Option, Some};
 ghost use Rattle.net_base.specs.declared.history.Entry.{Entry};
 ghost use Rattle.history_reader.specs.LineReading as spec;
-ghost use Rattle.history_reader.specs.Spelling.{Spells, IsBad};
+ghost use Rattle.history_reader.specs.Spelling.{SpellsHistory, IsBadText};
 ghost use Rattle.history_reader.specs.Told.{Tells, TellsBad, Refuses};
 
 use crate::cursor::{Words, cut_line};
@@ -17,18 +17,18 @@ use words::number_in;
 /// through the bytes.
 #[tactic(auto, using(crate::proofs::Told::found_by, crate::proofs::Told::only_by, crate::proofs::Told::refused_by, crate::proofs::Told::bad_by))]
 pub fn read_transcript(alloc: Global, bytes: &[u8]) -> Result<(History, Option<Octets>), LineError>
-    ensures found { IfOk result (λ read. Spells bytes.now read.0 read.1) }
-    ensures only { (h : List Entry) (summary : Option (List ℕ)) → Spells bytes.now h summary → Tells h summary result }
-    ensures refused { IfErr result (Refuses (IsBad bytes.now)) }
-    ensures bad { (line cause : ℕ) → IsBad bytes.now line cause → TellsBad line cause result }
+    ensures found { IfOk result (λ read. SpellsHistory bytes.now read.0 read.1) }
+    ensures only { (h : List Entry) (summary : Option (List ℕ)) → SpellsHistory bytes.now h summary → Tells h summary result }
+    ensures refused { IfErr result (Refuses (IsBadText bytes.now)) }
+    ensures bad { (line cause : ℕ) → IsBadText bytes.now line cause → TellsBad line cause result }
 {
     read_lines(alloc, bytes)
 }
 
 #[tactic(auto, using(crate::proofs::Readings::entry_on, crate::proofs::Readings::refused_tells, crate::proofs::Readings::summary_on, crate::proofs::Readings::fault_on, crate::proofs::Readings::end_on, crate::proofs::Readings::unended_on, crate::proofs::Loops::shorter))]
 fn read_lines(alloc: Global, bytes: &[u8]) -> Result<(History, Option<Octets>), LineError>
-    ensures ok { IfOk result (λ read. spec.reading bytes.now ≡ spec.Whole read.0 read.1) }
-    ensures bad { IfErr result (λ e. spec.TellsReading e (spec.reading bytes.now)) }
+    ensures ok { IfOk result (λ read. spec.reading_line bytes.now ≡ spec.Whole read.0 read.1) }
+    ensures bad { IfErr result (λ e. spec.TellsReading e (spec.reading_line bytes.now)) }
 {
     let mut history = History::new(alloc);
     let mut rest = bytes;
@@ -57,8 +57,8 @@ fn read_lines(alloc: Global, bytes: &[u8]) -> Result<(History, Option<Octets>), 
 /// The entry of a line, behind so many.
 fn read_line(alloc: Global, stamp: u64, line: &[u8]) -> Result<Entry, LineError>
     requires room { stamp + 1 < 2 ^ 64 }
-    ensures ok { IfOk result (λ x. spec.line_verdict stamp line.now ≡ spec.Good x) }
-    ensures bad { IfErr result (λ e. spec.TellsVerdict e stamp (spec.line_verdict stamp line.now)) }
+    ensures ok { IfOk result (λ x. spec.entry_verdict stamp line.now ≡ spec.Good x) }
+    ensures bad { IfErr result (λ e. spec.TellsVerdict e stamp (spec.entry_verdict stamp line.now)) }
 {
     let words = Words::of(line, b' ');
     let Some((word, words)) = words.next() else {
@@ -79,8 +79,8 @@ fn read_line(alloc: Global, stamp: u64, line: &[u8]) -> Result<Entry, LineError>
 /// An entry by the word of its stamp.
 fn stamped(stamp: u64, word: &[u8], entry: Entry) -> Result<Entry, LineError>
     requires room { stamp + 1 < 2 ^ 64 }
-    ensures ok { IfOk result (λ x. spec.stamped stamp word.now (Some entry) ≡ spec.Good x) }
-    ensures bad { IfErr result (λ e. spec.TellsVerdict e stamp (spec.stamped stamp word.now (Some entry))) }
+    ensures ok { IfOk result (λ x. spec.line_stamped stamp word.now (Some entry) ≡ spec.Good x) }
+    ensures bad { IfErr result (λ e. spec.TellsVerdict e stamp (spec.line_stamped stamp word.now (Some entry))) }
 {
     if is_stamp(stamp, word) {
         return Ok(entry);

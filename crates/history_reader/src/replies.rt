@@ -15,7 +15,7 @@ pub(crate) fn read_reply<'a>(
     alloc: Global,
     words: &Words<'a>,
 ) -> Result<Option<(Reply, Words<'a>)>, AllocError>
-    ensures { IfOk result (λ read. read ≡ spec.reply_of words.now) }
+    ensures { IfOk result (λ read. read ≡ spec.reply_read words.now) }
 {
     let Some((word, words)) = words.next() else {
         return Ok(None);
@@ -58,7 +58,7 @@ fn count<'a>(words: &Words<'a>) -> Option<(Reply, Words<'a>)>
 }
 
 fn slot<'a>(words: &Words<'a>) -> Option<(Reply, Words<'a>)>
-    ensures { result ≡ spec.slot words.now }
+    ensures { result ≡ spec.slot_read words.now }
 {
     let (slot, words) = narrow(words)?;
     let (generation, words) = long(&words)?;
@@ -84,7 +84,7 @@ fn lines<'a>(alloc: Global, words: &Words<'a>) -> Result<Option<(Reply, Words<'a
 }
 
 fn names<'a>(alloc: Global, words: &Words<'a>) -> Result<Option<(Reply, Words<'a>)>, AllocError>
-    ensures { IfOk result (λ read. read ≡ spec.names words.now) }
+    ensures { IfOk result (λ read. read ≡ spec.read_names words.now) }
 {
     match texts(alloc, words)? {
         Some((names, words)) => Ok(Some((Reply::Names { names }, words))),

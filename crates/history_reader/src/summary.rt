@@ -58,8 +58,8 @@ fn behind_steps(text: &[u8]) -> Option<&[u8]>
 /// What stands behind a line of two numbers.
 fn behind_both<'a>(word: &[u8], text: &'a [u8]) -> Option<&'a [u8]>
     ensures { MatchOption result
-        (spec.passed (spec.is_both word.now) (parts_at 10 text.now) ≡ None)
-        (λ rest. spec.passed (spec.is_both word.now) (parts_at 10 text.now) ≡ Some (parts_at 10 rest.now)) }
+        (spec.passed (spec.are_both_words word.now) (parts_at 10 text.now) ≡ None)
+        (λ rest. spec.passed (spec.are_both_words word.now) (parts_at 10 text.now) ≡ Some (parts_at 10 rest.now)) }
 {
     let (line, rest) = cut_line(text)?;
     if is_both(word, line) {
@@ -100,7 +100,7 @@ fn steps_passed<'a>(words: &Words<'a>) -> Option<Words<'a>>
 
 /// A word with two numbers.
 fn is_both(word: &[u8], line: &[u8]) -> bool
-    ensures { result ≡ spec.is_both word.now line.now }
+    ensures { result ≡ spec.are_both_words word.now line.now }
 {
     match both_passed(word, &Words::of(line, b' ')) {
         Some(words) => words.is_empty(),

@@ -29,7 +29,7 @@ pub(crate) fn name<'a>(
     alloc: Global,
     words: &Words<'a>,
 ) -> Result<Option<(Octets, Words<'a>)>, AllocError>
-    ensures { IfOk result (λ read. read ≡ spec.called words.now) }
+    ensures { IfOk result (λ read. read ≡ spec.read_called words.now) }
 {
     let Some((word, words)) = words.next() else {
         return Ok(None);

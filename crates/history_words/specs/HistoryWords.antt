@@ -28,18 +28,18 @@ use Rattle.history_words.specs.Shown.{all_shown, shown}
 
 -- Numbers with their names.
 
-abbrev pub named : List ℕ → ℕ → List (List ℕ)
-named label n = label ∷ numeral n ∷ []
+abbrev pub name_words : List ℕ → ℕ → List (List ℕ)
+name_words label n = label ∷ numeral n ∷ []
 
 abbrev pub generation : ℕ → List (List ℕ)
-generation g = named (codes "generation") g
+generation g = name_words (codes "generation") g
 
 abbrev pub slot : ℕ → ℕ → List (List ℕ)
 slot n g = codes "slot" ∷ numeral n ∷ generation g
 
 -- what an IL end begins with, and its greatest message
 abbrev pub beginning : ℕ → ℕ → List (List ℕ)
-beginning start limit = codes "start" ∷ numeral start ∷ named (codes "limit") limit
+beginning start limit = codes "start" ∷ numeral start ∷ name_words (codes "limit") limit
 
 -- Who and where.
 
@@ -58,14 +58,14 @@ abbrev pub caller_words : World → ℕ → Caller → List (List ℕ)
 caller_words w c (IsScript s) = numbered_words w (codes "script") c s.host
 caller_words w c (IsCourier m) = codes "courier of" ∷ medium_word w m ∷ []
 caller_words w c IsClock = codes "clock" ∷ []
-caller_words w c IsNobody = named (codes "nobody,") c
+caller_words w c IsNobody = name_words (codes "nobody,") c
 
-abbrev pub actor_words : World → ActorName → List (List ℕ)
-actor_words w (name.Desk h) = codes "desk of" ∷ host_word w h ∷ []
-actor_words w (name.Dir h p) = proto_name p ∷ codes "directory of" ∷ host_word w h ∷ []
-actor_words w (name.Conv h p n) = proto_name p ∷ numbered_words w (codes "conversation") n h
-actor_words w (name.Medium m) = codes "medium" ∷ medium_word w m ∷ []
-actor_words w name.Clock = codes "clock" ∷ []
+abbrev pub actor_shown : World → ActorName → List (List ℕ)
+actor_shown w (name.Desk h) = codes "desk of" ∷ host_word w h ∷ []
+actor_shown w (name.Dir h p) = proto_name p ∷ codes "directory of" ∷ host_word w h ∷ []
+actor_shown w (name.Conv h p n) = proto_name p ∷ numbered_words w (codes "conversation") n h
+actor_shown w (name.Medium m) = codes "medium" ∷ medium_word w m ∷ []
+actor_shown w name.Clock = codes "clock" ∷ []
 
 -- Events.
 
@@ -90,52 +90,52 @@ abbrev pub announce_words : ℕ → ℕ → Option ℕ → Option ℕ → List (
 announce_words n g ip port = codes "announce" ∷ slot n g ++ (codes "at" ∷ ip_or_star ip ∷ codes "port" ∷ number_or_star port ∷ [])
 
 abbrev pub bind_words : ℕ → ℕ → ℕ → List (List ℕ)
-bind_words n g port = codes "bind" ∷ slot n g ++ named (codes "port") port
+bind_words n g port = codes "bind" ∷ slot n g ++ name_words (codes "port") port
 
-abbrev pub event_words : World → Event → List (List ℕ)
-event_words w (event.Cs query) = codes "cs" ∷ shown query ∷ []
-event_words w (event.LsPath path) = codes "ls" ∷ shown path ∷ []
-event_words w (event.OpenPath path m) = codes "open" ∷ shown path ∷ mode_words m ∷ []
-event_words w (event.Use called) = codes "use of a name that isn't bound:" ∷ shown called ∷ []
-event_words w (event.Misuse called) = codes "misuse of" ∷ shown called ∷ []
-event_words w (event.Until m) = codes "wait until" ∷ numeral m ∷ codes "ms" ∷ []
-event_words w event.Refresh = codes "read the database again" ∷ []
-event_words w event.Reserve = codes "reserve" ∷ []
-event_words w (event.Grant n g remote lport) = grant_words n g remote lport
-event_words w (event.Announce n g ip port) = announce_words n g ip port
-event_words w (event.Bind n g port) = bind_words n g port
-event_words w (event.Listen n) = codes "listen" ∷ named (codes "slot") n
-event_words w (event.Withdraw n g) = codes "withdraw" ∷ slot n g
-event_words w (event.Release n g) = codes "release" ∷ slot n g
-event_words w event.Arrive = codes "arrive" ∷ []
-event_words w event.Ls = codes "ls" ∷ []
-event_words w (event.Begin g) = codes "begin" ∷ generation g
-event_words w (event.Born g) = codes "born" ∷ generation g
-event_words w (event.Claim g) = codes "claim" ∷ generation g
-event_words w (event.Connect g) = codes "connect" ∷ generation g
-event_words w (event.Announced g) = codes "announced" ∷ generation g
-event_words w (event.Bound g) = codes "bound" ∷ generation g
-event_words w (event.Await g) = codes "await" ∷ generation g
-event_words w (event.Open f m) = codes "open" ∷ file_name f ∷ mode_words m ∷ []
-event_words w (event.File g f count) = codes "read" ∷ file_name f ∷ named (codes "count") count ++ generation g
-event_words w (event.Read g count) = codes "read data" ∷ named (codes "count") count ++ generation g
-event_words w (event.Write g text) = codes "write data" ∷ shown text ∷ generation g
-event_words w (event.Hangup g) = codes "hangup" ∷ generation g
-event_words w (event.Ttl g n) = named (codes "ttl") n ++ generation g
-event_words w (event.Tos g n) = named (codes "tos") n ++ generation g
-event_words w (event.Ctl g text) = codes "write ctl" ∷ shown text ∷ generation g
-event_words w (event.Close g) = codes "close" ∷ generation g
-event_words w (event.ArriveAt g) = codes "arrive" ∷ generation g
-event_words w (event.Tick g) = codes "tick" ∷ generation g
-event_words w (event.Put to) = codes "put for" ∷ station_word w to ∷ []
-event_words w event.Take = codes "take" ∷ []
-event_words w (event.Move m) = codes "move to" ∷ numeral m ∷ codes "ms" ∷ []
+abbrev pub event_shown : World → Event → List (List ℕ)
+event_shown w (event.Cs query) = codes "cs" ∷ shown query ∷ []
+event_shown w (event.LsPath path) = codes "ls" ∷ shown path ∷ []
+event_shown w (event.OpenPath path m) = codes "open" ∷ shown path ∷ mode_words m ∷ []
+event_shown w (event.Use called) = codes "use of a name that isn't bound:" ∷ shown called ∷ []
+event_shown w (event.Misuse called) = codes "misuse of" ∷ shown called ∷ []
+event_shown w (event.Until m) = codes "wait until" ∷ numeral m ∷ codes "ms" ∷ []
+event_shown w event.Refresh = codes "read the database again" ∷ []
+event_shown w event.Reserve = codes "reserve" ∷ []
+event_shown w (event.Grant n g remote lport) = grant_words n g remote lport
+event_shown w (event.Announce n g ip port) = announce_words n g ip port
+event_shown w (event.Bind n g port) = bind_words n g port
+event_shown w (event.Listen n) = codes "listen" ∷ name_words (codes "slot") n
+event_shown w (event.Withdraw n g) = codes "withdraw" ∷ slot n g
+event_shown w (event.Release n g) = codes "release" ∷ slot n g
+event_shown w event.Arrive = codes "arrive" ∷ []
+event_shown w event.Ls = codes "ls" ∷ []
+event_shown w (event.Begin g) = codes "begin" ∷ generation g
+event_shown w (event.Born g) = codes "born" ∷ generation g
+event_shown w (event.Claim g) = codes "claim" ∷ generation g
+event_shown w (event.Connect g) = codes "connect" ∷ generation g
+event_shown w (event.Announced g) = codes "announced" ∷ generation g
+event_shown w (event.Bound g) = codes "bound" ∷ generation g
+event_shown w (event.Await g) = codes "await" ∷ generation g
+event_shown w (event.Open f m) = codes "open" ∷ file_name f ∷ mode_words m ∷ []
+event_shown w (event.File g f count) = codes "read" ∷ file_name f ∷ name_words (codes "count") count ++ generation g
+event_shown w (event.Read g count) = codes "read data" ∷ name_words (codes "count") count ++ generation g
+event_shown w (event.Write g text) = codes "write data" ∷ shown text ∷ generation g
+event_shown w (event.Hangup g) = codes "hangup" ∷ generation g
+event_shown w (event.Ttl g n) = name_words (codes "ttl") n ++ generation g
+event_shown w (event.Tos g n) = name_words (codes "tos") n ++ generation g
+event_shown w (event.Ctl g text) = codes "write ctl" ∷ shown text ∷ generation g
+event_shown w (event.Close g) = codes "close" ∷ generation g
+event_shown w (event.ArriveAt g) = codes "arrive" ∷ generation g
+event_shown w (event.Tick g) = codes "tick" ∷ generation g
+event_shown w (event.Put to) = codes "put for" ∷ station_word w to ∷ []
+event_shown w event.Take = codes "take" ∷ []
+event_shown w (event.Move m) = codes "move to" ∷ numeral m ∷ codes "ms" ∷ []
 
 -- Replies.
 
 -- why cs refuses a query
-abbrev pub refusal : ℕ → List ℕ
-refusal n =
+abbrev pub refusal_words : ℕ → List ℕ
+refusal_words n =
     if n == 1 then codes "bad query"
     else if n == 2 then codes "no net"
     else if n == 3 then codes "no host"
@@ -147,82 +147,82 @@ abbrev pub born_words : ℕ → ℕ → ℕ → ℕ → List (List ℕ)
 born_words n g start limit = codes "born at" ∷ slot n g ++ beginning start limit
 
 -- the calls that waited
-abbrev pub each_call : List Call → List (List ℕ)
-each_call [] = []
-each_call (call ∷ calls) = slot call.slot call.generation ++ each_call calls
+abbrev pub each_call_shown : List Call → List (List ℕ)
+each_call_shown [] = []
+each_call_shown (call ∷ calls) = slot call.slot call.generation ++ each_call_shown calls
 
-abbrev pub call_words : List Call → List (List ℕ)
-call_words [] = codes "none" ∷ []
-call_words (call ∷ calls) = each_call (call ∷ calls)
+abbrev pub calls_shown : List Call → List (List ℕ)
+calls_shown [] = codes "none" ∷ []
+calls_shown (call ∷ calls) = each_call_shown (call ∷ calls)
 
-abbrev pub reply_words : Reply → List (List ℕ)
-reply_words (reply.Lines lines) = codes "lines" ∷ all_shown lines
-reply_words (reply.CsRefused n) = codes "refused:" ∷ refusal n ∷ []
-reply_words (reply.Names names) = codes "names" ∷ all_shown names
-reply_words reply.NoFile = codes "no such file" ∷ []
-reply_words reply.BadMode = codes "bad mode" ∷ []
-reply_words reply.BadFid = codes "bad fid" ∷ []
-reply_words reply.Ok = codes "ok" ∷ []
-reply_words (reply.Version n) = codes "version" ∷ numeral n ∷ []
-reply_words (reply.Slot n g) = slot n g
-reply_words reply.NoSlot = codes "no slot" ∷ []
-reply_words (reply.Granted pair start limit) = codes "granted" ∷ addr_word pair.local ∷ codes "to" ∷ addr_word pair.remote ∷ beginning start limit
-reply_words (reply.WrongState s) = codes "wrong state:" ∷ state_word s ∷ []
-reply_words reply.NoRoute = codes "no route" ∷ []
-reply_words reply.NoPort = codes "no port" ∷ []
-reply_words reply.SelfPair = codes "a pair with itself" ∷ []
-reply_words (reply.PairUsed k) = codes "pair used before, as number" ∷ numeral k ∷ []
-reply_words (reply.PortTaken n) = named (codes "port taken by slot") n
-reply_words (reply.Call n g) = codes "call at" ∷ slot n g
-reply_words (reply.Calls calls) = codes "calls that waited:" ∷ call_words calls
-reply_words (reply.To n g) = codes "to" ∷ slot n g
-reply_words (reply.Born n g start limit) = born_words n g start limit
-reply_words reply.Refused = codes "refused" ∷ []
-reply_words reply.Dropped = codes "dropped" ∷ []
-reply_words reply.Stale = codes "stale" ∷ []
-reply_words (reply.Hungup c) = codes "hung up:" ∷ cause_text c ∷ []
-reply_words (reply.Opened g) = codes "opened" ∷ generation g
-reply_words reply.NotOpen = codes "not open" ∷ []
-reply_words (reply.Bytes bytes) = codes "bytes" ∷ shown bytes ∷ []
-reply_words (reply.Count n) = named (codes "count") n
-reply_words reply.ZeroWrite = codes "nothing to write" ∷ []
-reply_words (reply.TooLong count limit) = codes "too long:" ∷ named (codes "length") count ++ named (codes "limit") limit
-reply_words reply.Left = codes "left" ∷ []
-reply_words (reply.BadCtl n) = codes "bad control, number" ∷ numeral n ∷ []
-reply_words reply.Took = codes "took" ∷ []
-reply_words reply.Full = codes "full" ∷ []
-reply_words reply.Ticked = codes "ticked" ∷ []
-reply_words reply.NotDue = codes "not due" ∷ []
-reply_words (reply.Laid k) = codes "laid as frame" ∷ numeral k ∷ []
-reply_words reply.TooBig = codes "too big" ∷ []
-reply_words reply.NoStation = codes "no station" ∷ []
-reply_words (reply.Copy k) = codes "copy of frame" ∷ numeral k ∷ []
+abbrev pub reply_shown : Reply → List (List ℕ)
+reply_shown (reply.Lines lines) = codes "lines" ∷ all_shown lines
+reply_shown (reply.CsRefused n) = codes "refused:" ∷ refusal_words n ∷ []
+reply_shown (reply.Names names) = codes "names" ∷ all_shown names
+reply_shown reply.NoFile = codes "no such file" ∷ []
+reply_shown reply.BadMode = codes "bad mode" ∷ []
+reply_shown reply.BadFid = codes "bad fid" ∷ []
+reply_shown reply.Ok = codes "ok" ∷ []
+reply_shown (reply.Version n) = codes "version" ∷ numeral n ∷ []
+reply_shown (reply.Slot n g) = slot n g
+reply_shown reply.NoSlot = codes "no slot" ∷ []
+reply_shown (reply.Granted pair start limit) = codes "granted" ∷ addr_word pair.local ∷ codes "to" ∷ addr_word pair.remote ∷ beginning start limit
+reply_shown (reply.WrongState s) = codes "wrong state:" ∷ state_word s ∷ []
+reply_shown reply.NoRoute = codes "no route" ∷ []
+reply_shown reply.NoPort = codes "no port" ∷ []
+reply_shown reply.SelfPair = codes "a pair with itself" ∷ []
+reply_shown (reply.PairUsed k) = codes "pair used before, as number" ∷ numeral k ∷ []
+reply_shown (reply.PortTaken n) = name_words (codes "port taken by slot") n
+reply_shown (reply.Call n g) = codes "call at" ∷ slot n g
+reply_shown (reply.Calls calls) = codes "calls that waited:" ∷ calls_shown calls
+reply_shown (reply.To n g) = codes "to" ∷ slot n g
+reply_shown (reply.Born n g start limit) = born_words n g start limit
+reply_shown reply.Refused = codes "refused" ∷ []
+reply_shown reply.Dropped = codes "dropped" ∷ []
+reply_shown reply.Stale = codes "stale" ∷ []
+reply_shown (reply.Hungup c) = codes "hung up:" ∷ cause_text c ∷ []
+reply_shown (reply.Opened g) = codes "opened" ∷ generation g
+reply_shown reply.NotOpen = codes "not open" ∷ []
+reply_shown (reply.Bytes bytes) = codes "bytes" ∷ shown bytes ∷ []
+reply_shown (reply.Count n) = name_words (codes "count") n
+reply_shown reply.ZeroWrite = codes "nothing to write" ∷ []
+reply_shown (reply.TooLong count limit) = codes "too long:" ∷ name_words (codes "length") count ++ name_words (codes "limit") limit
+reply_shown reply.Left = codes "left" ∷ []
+reply_shown (reply.BadCtl n) = codes "bad control, number" ∷ numeral n ∷ []
+reply_shown reply.Took = codes "took" ∷ []
+reply_shown reply.Full = codes "full" ∷ []
+reply_shown reply.Ticked = codes "ticked" ∷ []
+reply_shown reply.NotDue = codes "not due" ∷ []
+reply_shown (reply.Laid k) = codes "laid as frame" ∷ numeral k ∷ []
+reply_shown reply.TooBig = codes "too big" ∷ []
+reply_shown reply.NoStation = codes "no station" ∷ []
+reply_shown (reply.Copy k) = codes "copy of frame" ∷ numeral k ∷ []
 
 -- Headers.
 
-abbrev pub way_words : Header → List (List ℕ)
-way_words h = addr_word h.src ∷ codes "to" ∷ addr_word h.dst ∷ named (codes "ttl") h.ttl ++ named (codes "tos") h.tos
+abbrev pub way_shown : Header → List (List ℕ)
+way_shown h = addr_word h.src ∷ codes "to" ∷ addr_word h.dst ∷ name_words (codes "ttl") h.ttl ++ name_words (codes "tos") h.tos
 
 -- what an IL header numbers
 abbrev pub sequence_words : ℕ → ℕ → ℕ → List (List ℕ)
-sequence_words spec id ack = named (codes "spec") spec ++ (named (codes "id") id ++ named (codes "ack") ack)
+sequence_words spec id ack = name_words (codes "spec") spec ++ (name_words (codes "id") id ++ name_words (codes "ack") ack)
 
-abbrev pub body_words : BodyHeader → List (List ℕ)
-body_words (body.Il k spec id ack count) = sequence_words spec id ack ++ named (codes "length") count
-body_words (body.Udp count) = named (codes "length") count
+abbrev pub body_shown : BodyHeader → List (List ℕ)
+body_shown (body.Il k spec id ack count) = sequence_words spec id ack ++ name_words (codes "length") count
+body_shown (body.Udp count) = name_words (codes "length") count
 
 -- the protocol, and the kind of an IL message
 abbrev pub kind_words : BodyHeader → List (List ℕ)
 kind_words (body.Il k spec id ack count) = codes "il" ∷ kind_word k ∷ []
 kind_words (body.Udp count) = codes "udp" ∷ []
 
-abbrev pub emitted_words : Option Header → List (List ℕ)
-emitted_words None = []
-emitted_words (Some h) = codes "| sends" ∷ kind_words h.body ++ (way_words h ++ body_words h.body)
+abbrev pub emitted_shown : Option Header → List (List ℕ)
+emitted_shown None = []
+emitted_shown (Some h) = codes "| sends" ∷ kind_words h.body ++ (way_shown h ++ body_shown h.body)
 
-abbrev pub ended_words : Bool → List (List ℕ)
-ended_words false = []
-ended_words true = codes "| ended" ∷ []
+abbrev pub ended_shown : Bool → List (List ℕ)
+ended_shown false = []
+ended_shown true = codes "| ended" ∷ []
 
 -- Lines.
 
@@ -231,30 +231,30 @@ cited_words None = []
 cited_words (Some stamp) = codes "for" ∷ numeral stamp ∷ []
 
 -- the entry that is cited, the moment, the caller and the actor
-abbrev pub who_words : World → Entry → List (List ℕ)
-who_words w x =
+abbrev pub who_shown : World → Entry → List (List ℕ)
+who_shown w x =
     cited_words x.cites
     ++ (codes "|" ∷ numeral x.moment ∷ codes "ms |" ∷ []
     ++ (caller_words w x.caller (caller_of w x.caller)
-    ++ (codes "|" ∷ actor_words w x.actor)))
+    ++ (codes "|" ∷ actor_shown w x.actor)))
 
 -- what was asked for, the reply, and what else came of it
 abbrev pub what_words : World → Entry → List (List ℕ)
 what_words w x =
-    codes "|" ∷ event_words w x.event
-    ++ (codes "|" ∷ reply_words x.reply
-    ++ (emitted_words x.emits
-    ++ ended_words x.ended))
+    codes "|" ∷ event_shown w x.event
+    ++ (codes "|" ∷ reply_shown x.reply
+    ++ (emitted_shown x.emits
+    ++ ended_shown x.ended))
 
 -- the line of the entry with this stamp
-unfoldable pub line_of : World → ℕ → Entry → List ℕ
-line_of w stamp x = numeral stamp ++ (spaced (who_words w x) ++ (spaced (what_words w x) ++ 10 ∷ []))
+unfoldable pub line_shown : World → ℕ → Entry → List ℕ
+line_shown w stamp x = numeral stamp ++ (spaced (who_shown w x) ++ (spaced (what_words w x) ++ 10 ∷ []))
 
 -- the lines of entries, the first of which has this stamp
-abbrev pub lines_from : World → ℕ → List Entry → List ℕ
-lines_from w stamp [] = []
-lines_from w stamp (x ∷ xs) = line_of w stamp x ++ lines_from w (stamp + 1) xs
+abbrev pub lines_shown : World → ℕ → List Entry → List ℕ
+lines_shown w stamp [] = []
+lines_shown w stamp (x ∷ xs) = line_shown w stamp x ++ lines_shown w (stamp + 1) xs
 
 -- the history of a world
 abbrev pub history_words : World → List Entry → List ℕ
-history_words w h = lines_from w 0 h
+history_words w h = lines_shown w 0 h

@@ -4,8 +4,8 @@ use Rattle.std.specs.List.{list_all}
 use Rattle.net_base.specs.Hexadecimal.{hex_digits}
 
 -- a byte that can be shown: a printed ASCII character, a tab or a newline
-abbrev pub is_shown : ℕ → Bool
-is_shown b = (nat_le 32 b && nat_le b 126) || ((b == 9) || (b == 10))
+abbrev pub is_plainly_shown : ℕ → Bool
+is_plainly_shown b = (nat_le 32 b && nat_le b 126) || ((b == 9) || (b == 10))
 
 -- it between quotes: `\t` and `\n`, and a backslash before a quote or a backslash
 abbrev pub escaped : ℕ → List ℕ
@@ -24,7 +24,7 @@ quoted text = 34 ∷ (escapes text ++ 34 ∷ [])
 
 -- a text
 unfoldable pub shown : List ℕ → List ℕ
-shown text = if list_all is_shown text then quoted text else codes "hex " ++ hex_digits text
+shown text = if list_all is_plainly_shown text then quoted text else codes "hex " ++ hex_digits text
 
 -- texts, each a word
 abbrev pub each_shown : List (List ℕ) → List (List ℕ)

@@ -1,7 +1,7 @@
 //! Entries as lines.
 ghost use Rattle.std.specs.Prelude.{◌≡◌, ◌++◌, IfOk, OnOk};
 ghost use Rattle.net_base.specs.Transcript.{spaced};
-ghost use Rattle.history_words.specs.HistoryWords.{cited_words, ended_words, history_words, line_of, what_words, who_words};
+ghost use Rattle.history_words.specs.HistoryWords.{cited_words, ended_shown, history_words, line_shown, what_words, who_shown};
 
 use crate::event::put_event;
 use crate::header::put_emitted;
@@ -34,9 +34,9 @@ fn put_lines(out: &mut Octets, world: &World, entries: &[Entry]) -> Result<(), A
     Ok(())
 }
 
-#[tactic(auto, unfolding(crate::specs::HistoryWords::line_of))]
+#[tactic(auto, unfolding(crate::specs::HistoryWords::line_shown))]
 fn put_line(out: &mut Octets, world: &World, stamp: u64, entry: &Entry) -> Result<(), AllocError>
-    ensures { OnOk result (out.new ≡ out.old ++ line_of world.now stamp entry.now) }
+    ensures { OnOk result (out.new ≡ out.old ++ line_shown world.now stamp entry.now) }
 {
     put_decimal(out, stamp)?;
     put_who(out, world, entry)?;
@@ -46,7 +46,7 @@ fn put_line(out: &mut Octets, world: &World, stamp: u64, entry: &Entry) -> Resul
 
 #[tactic(auto, using(crate::proofs::Spacing::spaced_both))]
 fn put_who(out: &mut Octets, world: &World, entry: &Entry) -> Result<(), AllocError>
-    ensures { OnOk result (out.new ≡ out.old ++ spaced (who_words world.now entry.now)) }
+    ensures { OnOk result (out.new ≡ out.old ++ spaced (who_shown world.now entry.now)) }
 {
     put_cited(out, entry.cites)?;
     put_named(out, b"|", entry.moment)?;
@@ -78,7 +78,7 @@ fn put_what(out: &mut Octets, world: &World, entry: &Entry) -> Result<(), AllocE
 }
 
 fn put_ended(out: &mut Octets, ended: bool) -> Result<(), AllocError>
-    ensures { OnOk result (out.new ≡ out.old ++ spaced (ended_words ended)) }
+    ensures { OnOk result (out.new ≡ out.old ++ spaced (ended_shown ended)) }
 {
     if ended {
         put_word(out, b"| ended")

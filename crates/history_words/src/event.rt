@@ -1,7 +1,7 @@
 //! Events in words.
 ghost use Rattle.std.specs.Prelude.{◌≡◌, ◌∷◌, ◌++◌, [], OnOk};
 ghost use Rattle.net_base.specs.Transcript.{spaced};
-ghost use Rattle.history_words.specs.HistoryWords.{announce_words, bind_words, event_words, generation, grant_words, mode_words, named, port_word};
+ghost use Rattle.history_words.specs.HistoryWords.{announce_words, bind_words, event_shown, generation, grant_words, mode_words, name_words, port_word};
 
 use crate::put::{
     put_addr, put_moment, put_named, put_number, put_slot, put_with_generation, put_with_slot,
@@ -14,7 +14,7 @@ use words::{file_name, put_ip_or_star, put_port_or_star};
 
 /// What was asked for.
 pub fn put_event(out: &mut Octets, world: &World, event: &Event) -> Result<(), AllocError>
-    ensures { OnOk result (out.new ≡ out.old ++ spaced (event_words world.now event.now)) }
+    ensures { OnOk result (out.new ≡ out.old ++ spaced (event_shown world.now event.now)) }
 {
     match event {
         Event::Cs { query } => put_with_text(out, b"cs", query.as_slice()),
@@ -148,7 +148,7 @@ fn put_bind(out: &mut Octets, slot: u32, generation: u64, port: u16) -> Result<(
 
 // A number with its name before it, for a generation.
 fn put_for(out: &mut Octets, word: &[u8], n: u64, g: u64) -> Result<(), AllocError>
-    ensures { OnOk result (out.new ≡ out.old ++ spaced (named word.now n ++ generation g)) }
+    ensures { OnOk result (out.new ≡ out.old ++ spaced (name_words word.now n ++ generation g)) }
 {
     put_named(out, word, n)?;
     put_named(out, b"generation", g)

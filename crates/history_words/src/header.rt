@@ -1,7 +1,7 @@
 //! What an entry shows of a packet.
 ghost use Rattle.std.specs.Prelude.{◌≡◌, ◌++◌, OnOk};
 ghost use Rattle.net_base.specs.Transcript.{spaced};
-ghost use Rattle.history_words.specs.HistoryWords.{body_words, emitted_words, kind_words, sequence_words, way_words};
+ghost use Rattle.history_words.specs.HistoryWords.{body_shown, emitted_shown, kind_words, sequence_words, way_shown};
 
 use crate::put::{put_addr, put_named, put_word};
 use net_base::{BodyHeader, Header, Octets};
@@ -11,7 +11,7 @@ use words::kind_word;
 /// The header of the packet that was emitted, if one was.
 #[tactic(auto, using(crate::proofs::Spacing::spaced_both))]
 pub fn put_emitted(out: &mut Octets, emits: Option<Header>) -> Result<(), AllocError>
-    ensures { OnOk result (out.new ≡ out.old ++ spaced (emitted_words emits)) }
+    ensures { OnOk result (out.new ≡ out.old ++ spaced (emitted_shown emits)) }
 {
     match emits {
         Some(header) => {
@@ -39,7 +39,7 @@ fn put_kind(out: &mut Octets, body: BodyHeader) -> Result<(), AllocError>
 
 // The addresses, and what the IP header says beside them.
 fn put_way(out: &mut Octets, header: Header) -> Result<(), AllocError>
-    ensures { OnOk result (out.new ≡ out.old ++ spaced (way_words header)) }
+    ensures { OnOk result (out.new ≡ out.old ++ spaced (way_shown header)) }
 {
     put_addr(out, header.src)?;
     put_word(out, b"to")?;
@@ -51,7 +51,7 @@ fn put_way(out: &mut Octets, header: Header) -> Result<(), AllocError>
 // What the header behind it says.
 #[tactic(auto, using(crate::proofs::Spacing::spaced_both))]
 fn put_body(out: &mut Octets, body: BodyHeader) -> Result<(), AllocError>
-    ensures { OnOk result (out.new ≡ out.old ++ spaced (body_words body)) }
+    ensures { OnOk result (out.new ≡ out.old ++ spaced (body_shown body)) }
 {
     match body {
         BodyHeader::Il {

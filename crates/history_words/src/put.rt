@@ -2,7 +2,7 @@
 ghost use Rattle.std.specs.Prelude.{◌≡◌, ◌∷◌, ◌++◌, [], OnOk, codes};
 ghost use Rattle.net_base.specs.Numeral.{numeral};
 ghost use Rattle.net_base.specs.Transcript.{spaced};
-ghost use Rattle.history_words.specs.HistoryWords.{beginning, generation, named, slot};
+ghost use Rattle.history_words.specs.HistoryWords.{beginning, generation, name_words, slot};
 ghost use Rattle.history_words.specs.Shown.{shown};
 
 use crate::shown::put_shown;
@@ -12,7 +12,7 @@ pub use words::{put_addr, put_number, put_word};
 
 /// A number with its name before it.
 pub fn put_named(out: &mut Octets, label: &[u8], n: u64) -> Result<(), AllocError>
-    ensures { OnOk result (out.new ≡ out.old ++ spaced (named label.now n)) }
+    ensures { OnOk result (out.new ≡ out.old ++ spaced (name_words label.now n)) }
 {
     put_word(out, label)?;
     put_number(out, n)

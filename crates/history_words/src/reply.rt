@@ -1,7 +1,7 @@
 //! Replies in words.
 ghost use Rattle.std.specs.Prelude.{◌≡◌, ◌∷◌, ◌++◌, [], OnOk};
 ghost use Rattle.net_base.specs.Transcript.{spaced};
-ghost use Rattle.history_words.specs.HistoryWords.{born_words, call_words, each_call, refusal, reply_words};
+ghost use Rattle.history_words.specs.HistoryWords.{born_words, calls_shown, each_call_shown, refusal_words, reply_shown};
 
 use crate::put::{
     put_addr, put_beginning, put_named, put_number, put_slot, put_with_generation, put_with_slot,
@@ -14,7 +14,7 @@ use words::{cause_text, state_word};
 
 /// What was answered.
 pub fn put_reply(out: &mut Octets, reply: &Reply) -> Result<(), AllocError>
-    ensures { OnOk result (out.new ≡ out.old ++ spaced (reply_words reply.now)) }
+    ensures { OnOk result (out.new ≡ out.old ++ spaced (reply_shown reply.now)) }
 {
     match reply {
         Reply::Lines { lines } => put_with_lines(out, b"lines", lines),
@@ -103,7 +103,7 @@ fn put_born(
 
 // Why cs refuses a query.
 fn put_refusal(out: &mut Octets, number: u32) -> Result<(), AllocError>
-    ensures { OnOk result (out.new ≡ out.old ++ spaced (refusal number ∷ [])) }
+    ensures { OnOk result (out.new ≡ out.old ++ spaced (refusal_words number ∷ [])) }
 {
     match number {
         1 => put_word(out, b"bad query"),
@@ -117,7 +117,7 @@ fn put_refusal(out: &mut Octets, number: u32) -> Result<(), AllocError>
 
 // The calls that waited, or that there are none.
 fn put_calls(out: &mut Octets, calls: &CallList) -> Result<(), AllocError>
-    ensures { OnOk result (out.new ≡ out.old ++ spaced (call_words calls.now)) }
+    ensures { OnOk result (out.new ≡ out.old ++ spaced (calls_shown calls.now)) }
 {
     if calls.len() == 0 {
         return put_word(out, b"none");
@@ -126,7 +126,7 @@ fn put_calls(out: &mut Octets, calls: &CallList) -> Result<(), AllocError>
 }
 
 fn put_each_call(out: &mut Octets, calls: &[Call]) -> Result<(), AllocError>
-    ensures { OnOk result (out.new ≡ out.old ++ spaced (each_call calls.now)) }
+    ensures { OnOk result (out.new ≡ out.old ++ spaced (each_call_shown calls.now)) }
 {
     for call in calls {
         put_slot(out, call.slot, call.generation)?;

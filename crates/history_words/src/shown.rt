@@ -23,13 +23,13 @@ pub fn put_shown(out: &mut Octets, text: &[u8]) -> Result<(), AllocError>
 
 // Whether all of a text can be shown.
 fn are_shown(text: &[u8]) -> bool
-    ensures { result ≡ list_all spec.is_shown text.now }
+    ensures { result ≡ list_all spec.is_plainly_shown text.now }
 {
     text.iter().all(|byte| is_shown(*byte))
 }
 
 fn is_shown(byte: u8) -> bool
-    ensures { result ≡ spec.is_shown byte }
+    ensures { result ≡ spec.is_plainly_shown byte }
 {
     (32 <= byte && byte <= 126) || byte == b'\t' || byte == b'\n'
 }

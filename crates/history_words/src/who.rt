@@ -2,7 +2,7 @@
 ghost use Rattle.std.specs.Prelude.{◌≡◌, ◌≤◌, ◌∷◌, ◌++◌, [], OnOk, Some, length, slice_get};
 ghost use Rattle.net_base.specs.Callers as callers;
 ghost use Rattle.net_base.specs.Transcript.{spaced};
-ghost use Rattle.history_words.specs.HistoryWords.{actor_words, caller_words, host_word, medium_word, numbered_words, station_word};
+ghost use Rattle.history_words.specs.HistoryWords.{actor_shown, caller_words, host_word, medium_word, numbered_words, station_word};
 
 use crate::put::{put_named, put_number, put_word};
 use net_base::{ActorName, Octets, Script, World};
@@ -117,7 +117,7 @@ fn put_other_caller(out: &mut Octets, world: &World, caller: u32) -> Result<(), 
 
 /// An actor.
 pub fn put_actor(out: &mut Octets, world: &World, actor: ActorName) -> Result<(), AllocError>
-    ensures { OnOk result (out.new ≡ out.old ++ spaced (actor_words world.now actor)) }
+    ensures { OnOk result (out.new ≡ out.old ++ spaced (actor_shown world.now actor)) }
 {
     match actor {
         ActorName::Desk(host) => put_with_host(out, world, b"desk of", host),

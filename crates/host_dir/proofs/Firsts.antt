@@ -4,7 +4,7 @@ use Rattle.std.specs.List.{position_from}
 use Rattle.std.specs.Option.{option_map}
 use Rattle.std.proofs.lemmas.Option.{none-some, same_Some, get_or_from_slice_get, slice_get_read}
 use Rattle.net_base.specs.Directory.{Slot, first_slot, free_slot}
-use Rattle.host_dir.specs.Found.{found_at, numbered, slot_at}
+use Rattle.host_dir.specs.Found.{found_at, slot_numbered, slot_at}
 
 -- what stands first in the rest of a list
 here : (k : ℕ) (all : List Slot) (s : Slot) (ss : List Slot) → drop k all ≡ s ∷ ss → slot_at all k ≡ s
@@ -23,12 +23,12 @@ rest k all s ss e =
     let next : suc k ≡ k + 1 = omega arith in
     subst (λ (n : ℕ). drop n all ≡ ss) next (after k all s ss e)
 
-first_from : (test : Slot → Bool) (all : List Slot) (k : ℕ) (ss : List Slot) → drop k all ≡ ss → first_slot test k ss ≡ option_map (numbered all) (position_from test k ss)
+first_from : (test : Slot → Bool) (all : List Slot) (k : ℕ) (ss : List Slot) → drop k all ≡ ss → first_slot test k ss ≡ option_map (slot_numbered all) (position_from test k ss)
 first_from test all k [] e = refl
 first_from test all k (s ∷ ss) e = by (test s) refl (first_from test all (k + 1) ss (rest k all s ss e))
   where
-    by : (b : Bool) → test s ≡ b → first_slot test (k + 1) ss ≡ option_map (numbered all) (position_from test (k + 1) ss)
-        → first_slot test k (s ∷ ss) ≡ option_map (numbered all) (position_from test k (s ∷ ss))
+    by : (b : Bool) → test s ≡ b → first_slot test (k + 1) ss ≡ option_map (slot_numbered all) (position_from test (k + 1) ss)
+        → first_slot test k (s ∷ ss) ≡ option_map (slot_numbered all) (position_from test k (s ∷ ss))
     by true t further = rw (t) (ap (λ (x : Slot). Some (k, x)) (sym (here k all s ss e)))
     by false t further = rw (t) (further)
 
@@ -74,7 +74,7 @@ pub only_found : (p : Slot → Bool) (ss : List Slot) (n : ℕ) (s : Slot) → s
     → ((m : ℕ) (t : Slot) → slice_get ss m ≡ Some t → p t ≡ true → m ≡ n) → first_slot p 0 ss ≡ found_at ss (Some n)
 only_found p ss n s at passes only = by (first_slot p 0 ss) refl
   where
-    by : (o : Option (ℕ × Slot)) → first_slot p 0 ss ≡ o → o ≡ Some (numbered ss n)
+    by : (o : Option (ℕ × Slot)) → first_slot p 0 ss ≡ o → o ≡ Some (slot_numbered ss n)
     by None e = absurd (some_found p 0 ss n s at passes e)
     by (Some f) e =
         let found = slot_found p ss f e in
@@ -92,7 +92,7 @@ none_found p ss never = by (first_slot p 0 ss) refl
 
 -- what is found passes
 pub passes_at : (p : Slot → Bool) (ss : List Slot) (n : ℕ) → first_slot p 0 ss ≡ found_at ss (Some n) → p (slot_at ss n) ≡ true
-passes_at p ss n is = (slot_found p ss (numbered ss n) is).1
+passes_at p ss n is = (slot_found p ss (slot_numbered ss n) is).1
 
 -- an element that is read is the slot of its number
 pub at_place : (ss : List Slot) (n : ℕ) (s : Slot) → n < length ss → s ≡ get_or ss n s → s ≡ slot_at ss n

@@ -13,7 +13,7 @@ use Rattle.net_base.specs.Directory.{Slot, first_slot, free_slot, is_free, is_li
 use Rattle.net_base.specs.Same.{same_pair}
 use Rattle.host_dir.specs.declared.slots.Ends.{Ends}
 use Rattle.host_dir.specs.Found.{found_at, slot_at}
-use Rattle.host_dir.specs.Tables.{IsIndexed, Tables, pair_of, pairs_of}
+use Rattle.host_dir.specs.Tables.{IsIndexed, Tables, kept_pair, kept_pairs}
 use Rattle.host_dir.proofs.Firsts.{none_found, only_found}
 use Rattle.net_base.proofs.Shared.{same_pair_is, same_pair_itself}
 
@@ -33,7 +33,7 @@ same_number : (m n : ℕ) → Some m ≡ Some n → m ≡ n
 same_number m n e = same_Some m n e
 
 -- no live slot has a pair that wasn't given
-pub none_live : (p : Pair) (slots : List Slot) (given : List (Ends × ℕ)) → IsIndexed slots given → lookup (λ (e : Ends). same_pair p (pair_of e)) given ≡ None
+pub none_live : (p : Pair) (slots : List Slot) (given : List (Ends × ℕ)) → IsIndexed slots given → lookup (λ (e : Ends). same_pair p (kept_pair e)) given ≡ None
     → first_slot (is_live_with p) 0 slots ≡ None
 unfolding IsIndexed
 none_live p slots given indexed none =
@@ -41,7 +41,7 @@ none_live p slots given indexed none =
 
 -- the slot of the pair that was given, where it is live with it
 pub one_live : (p : Pair) (slots : List Slot) (given : List (Ends × ℕ)) (n : ℕ) (s : Slot) → IsIndexed slots given
-    → lookup (λ (e : Ends). same_pair p (pair_of e)) given ≡ Some n → slice_get slots n ≡ Some s → is_live_with p s ≡ true
+    → lookup (λ (e : Ends). same_pair p (kept_pair e)) given ≡ Some n → slice_get slots n ≡ Some s → is_live_with p s ≡ true
     → first_slot (is_live_with p) 0 slots ≡ found_at slots (Some n)
 unfolding IsIndexed
 one_live p slots given n s indexed there at live =
@@ -50,7 +50,7 @@ one_live p slots given n s indexed there at live =
 
 -- whether the slot of this number, if there is one, is live with the pair
 pub live_at : (p : Pair) (slots : List Slot) (given : List (Ends × ℕ)) (n : ℕ) → IsIndexed slots given
-    → lookup (λ (e : Ends). same_pair p (pair_of e)) given ≡ Some n → option_map_or (is_live_with p) (slice_get slots n) false ≡ true
+    → lookup (λ (e : Ends). same_pair p (kept_pair e)) given ≡ Some n → option_map_or (is_live_with p) (slice_get slots n) false ≡ true
     → first_slot (is_live_with p) 0 slots ≡ found_at slots (Some n)
 live_at p slots given n indexed there live = by (slice_get slots n) refl live
   where
@@ -60,7 +60,7 @@ live_at p slots given n indexed there live = by (slice_get slots n) refl live
 
 -- none, where it isn't
 pub not_live : (p : Pair) (slots : List Slot) (given : List (Ends × ℕ)) (n : ℕ) → IsIndexed slots given
-    → lookup (λ (e : Ends). same_pair p (pair_of e)) given ≡ Some n → option_map_or (is_live_with p) (slice_get slots n) false ≡ false
+    → lookup (λ (e : Ends). same_pair p (kept_pair e)) given ≡ Some n → option_map_or (is_live_with p) (slice_get slots n) false ≡ false
     → first_slot (is_live_with p) 0 slots ≡ None
 unfolding IsIndexed
 not_live p slots given n indexed there dead =
@@ -102,32 +102,32 @@ pub kept : (slots : List Slot) (given : List (Ends × ℕ)) (n : ℕ) (new : Slo
 unfolding IsIndexed
 kept slots given n new indexed within same m s p at has =
     elim (set_cases slots n new m s at) [
-      | inl here ↦ subst (λ (k : ℕ). lookup (λ (e : Ends). same_pair p (pair_of e)) given ≡ Some k) here.0
+      | inl here ↦ subst (λ (k : ℕ). lookup (λ (e : Ends). same_pair p (kept_pair e)) given ≡ Some k) here.0
           (indexed n (slot_at slots n) p (slice_get-get_or slots n free_slot within) (sym same ∙ ap (λ (s : Slot). s.pair) here.1 ∙ has))
       | inr there ↦ indexed m s p there has
     ]
 
 -- Pairs that are given.
 
-later : (p : Pair) (x : Ends) (n : ℕ) (given : List (Ends × ℕ)) (k : ℕ) → lookup (λ (e : Ends). same_pair p (pair_of e)) given ≡ Some k
-    → lookup (λ (e : Ends). same_pair p (pair_of e)) (given ++ (x, n) ∷ []) ≡ Some k
+later : (p : Pair) (x : Ends) (n : ℕ) (given : List (Ends × ℕ)) (k : ℕ) → lookup (λ (e : Ends). same_pair p (kept_pair e)) given ≡ Some k
+    → lookup (λ (e : Ends). same_pair p (kept_pair e)) (given ++ (x, n) ∷ []) ≡ Some k
 later p x n [] k is = absurd (none-some k is)
-later p x n (g ∷ gs) k is = by (same_pair p (pair_of g.0)) is (later p x n gs k)
+later p x n (g ∷ gs) k is = by (same_pair p (kept_pair g.0)) is (later p x n gs k)
   where
-    by : (b : Bool) → cond b (Some g.1) (lookup (λ (e : Ends). same_pair p (pair_of e)) gs) ≡ Some k
-        → (lookup (λ (e : Ends). same_pair p (pair_of e)) gs ≡ Some k → lookup (λ (e : Ends). same_pair p (pair_of e)) (gs ++ (x, n) ∷ []) ≡ Some k)
-        → cond b (Some g.1) (lookup (λ (e : Ends). same_pair p (pair_of e)) (gs ++ (x, n) ∷ [])) ≡ Some k
+    by : (b : Bool) → cond b (Some g.1) (lookup (λ (e : Ends). same_pair p (kept_pair e)) gs) ≡ Some k
+        → (lookup (λ (e : Ends). same_pair p (kept_pair e)) gs ≡ Some k → lookup (λ (e : Ends). same_pair p (kept_pair e)) (gs ++ (x, n) ∷ []) ≡ Some k)
+        → cond b (Some g.1) (lookup (λ (e : Ends). same_pair p (kept_pair e)) (gs ++ (x, n) ∷ [])) ≡ Some k
     by true e further = e
     by false e further = further e
 
-last : (x : Ends) (n : ℕ) (given : List (Ends × ℕ)) (k : ℕ) → pair_place (pair_of x) k (pairs_of given) ≡ None
-    → lookup (λ (e : Ends). same_pair (pair_of x) (pair_of e)) (given ++ (x, n) ∷ []) ≡ Some n
-last x n [] k none = rw (same_pair_itself (pair_of x)) refl
-last x n (g ∷ gs) k none = by (same_pair (pair_of x) (pair_of g.0)) none (last x n gs (k + 1))
+last : (x : Ends) (n : ℕ) (given : List (Ends × ℕ)) (k : ℕ) → pair_place (kept_pair x) k (kept_pairs given) ≡ None
+    → lookup (λ (e : Ends). same_pair (kept_pair x) (kept_pair e)) (given ++ (x, n) ∷ []) ≡ Some n
+last x n [] k none = rw (same_pair_itself (kept_pair x)) refl
+last x n (g ∷ gs) k none = by (same_pair (kept_pair x) (kept_pair g.0)) none (last x n gs (k + 1))
   where
-    by : (b : Bool) → cond b (Some k) (pair_place (pair_of x) (k + 1) (pairs_of gs)) ≡ None
-        → (pair_place (pair_of x) (k + 1) (pairs_of gs) ≡ None → lookup (λ (e : Ends). same_pair (pair_of x) (pair_of e)) (gs ++ (x, n) ∷ []) ≡ Some n)
-        → cond b (Some g.1) (lookup (λ (e : Ends). same_pair (pair_of x) (pair_of e)) (gs ++ (x, n) ∷ [])) ≡ Some n
+    by : (b : Bool) → cond b (Some k) (pair_place (kept_pair x) (k + 1) (kept_pairs gs)) ≡ None
+        → (pair_place (kept_pair x) (k + 1) (kept_pairs gs) ≡ None → lookup (λ (e : Ends). same_pair (kept_pair x) (kept_pair e)) (gs ++ (x, n) ∷ []) ≡ Some n)
+        → cond b (Some g.1) (lookup (λ (e : Ends). same_pair (kept_pair x) (kept_pair e)) (gs ++ (x, n) ∷ [])) ≡ Some n
     by true e further = absurd (none-some k (sym e))
     by false e further = further e
 
@@ -137,14 +137,14 @@ unfolding IsIndexed
 more slots given x n indexed m s p at has = later p x n given m (indexed m s p at has)
 
 -- a slot that is given a new pair
-pub given_to : (slots : List Slot) (given : List (Ends × ℕ)) (x : Ends) (n : ℕ) (new : Slot) → IsIndexed slots given → pair_place (pair_of x) 1 (pairs_of given) ≡ None
-    → new.pair ≡ Some (pair_of x) → IsIndexed (slice_set slots n new) (given ++ (x, n) ∷ [])
+pub given_to : (slots : List Slot) (given : List (Ends × ℕ)) (x : Ends) (n : ℕ) (new : Slot) → IsIndexed slots given → pair_place (kept_pair x) 1 (kept_pairs given) ≡ None
+    → new.pair ≡ Some (kept_pair x) → IsIndexed (slice_set slots n new) (given ++ (x, n) ∷ [])
 unfolding IsIndexed
 given_to slots given x n new indexed fresh has m s p at of_s =
     elim (set_cases slots n new m s at) [
       | inl here ↦
-          let same : pair_of x ≡ p = same_Some (pair_of x) p (sym has ∙ ap (λ (s : Slot). s.pair) here.1 ∙ of_s) in
-          subst (λ (q : Pair). lookup (λ (e : Ends). same_pair q (pair_of e)) (given ++ (x, n) ∷ []) ≡ Some m) same (last x n given 1 fresh ∙ ap Some here.0)
+          let same : kept_pair x ≡ p = same_Some (kept_pair x) p (sym has ∙ ap (λ (s : Slot). s.pair) here.1 ∙ of_s) in
+          subst (λ (q : Pair). lookup (λ (e : Ends). same_pair q (kept_pair e)) (given ++ (x, n) ∷ []) ≡ Some m) same (last x n given 1 fresh ∙ ap Some here.0)
       | inr there ↦ later p x n given m (indexed m s p there of_s)
     ]
 
@@ -160,41 +160,41 @@ none_given k given n s p at has = absurd (none-some p (sym (never k n s at) ∙ 
 
 -- Numbers of pairs.
 
-numbers_from : (test : Ends → Bool) (p : Pair) (i : ℕ) (given : List (Ends × ℕ)) → ((e : Ends) → test e ≡ same_pair p (pair_of e))
-    → option_map (λ n. n + 1) (position_from test i (keys_of given)) ≡ pair_place p (i + 1) (pairs_of given)
+numbers_from : (test : Ends → Bool) (p : Pair) (i : ℕ) (given : List (Ends × ℕ)) → ((e : Ends) → test e ≡ same_pair p (kept_pair e))
+    → option_map (λ n. n + 1) (position_from test i (keys_of given)) ≡ pair_place p (i + 1) (kept_pairs given)
 numbers_from test p i [] law = refl
 numbers_from test p i (g ∷ gs) law = by (test g.0) refl (numbers_from test p (i + 1) gs law)
   where
-    by : (b : Bool) → test g.0 ≡ b → option_map (λ n. n + 1) (position_from test (i + 1) (keys_of gs)) ≡ pair_place p (i + 1 + 1) (pairs_of gs)
-        → option_map (λ n. n + 1) (position_from test i (keys_of (g ∷ gs))) ≡ pair_place p (i + 1) (pairs_of (g ∷ gs))
+    by : (b : Bool) → test g.0 ≡ b → option_map (λ n. n + 1) (position_from test (i + 1) (keys_of gs)) ≡ pair_place p (i + 1 + 1) (kept_pairs gs)
+        → option_map (λ n. n + 1) (position_from test i (keys_of (g ∷ gs))) ≡ pair_place p (i + 1) (kept_pairs (g ∷ gs))
     by true t further = rw (t, ← law g.0, t) (refl)
     by false t further = rw (t, ← law g.0, t) (further)
 
 -- the place of a key, from 0, is the pair's number, from 1
-pub number_is : (test : Ends → Bool) (p : Pair) (given : List (Ends × ℕ)) → ((e : Ends) → test e ≡ same_pair p (pair_of e))
-    → option_map (λ n. n + 1) (position test (keys_of given)) ≡ pair_place p 1 (pairs_of given)
+pub number_is : (test : Ends → Bool) (p : Pair) (given : List (Ends × ℕ)) → ((e : Ends) → test e ≡ same_pair p (kept_pair e))
+    → option_map (λ n. n + 1) (position test (keys_of given)) ≡ pair_place p 1 (kept_pairs given)
 number_is test p given law = ap (option_map (λ n. n + 1)) (position_from-zero test (keys_of given)) ∙ numbers_from test p 0 given law
 
 -- what is looked up by a test of keys
-pub lookup_is : (test : Ends → Bool) (p : Pair) (given : List (Ends × ℕ)) → ((e : Ends) → test e ≡ same_pair p (pair_of e))
-    → lookup test given ≡ lookup (λ (e : Ends). same_pair p (pair_of e)) given
+pub lookup_is : (test : Ends → Bool) (p : Pair) (given : List (Ends × ℕ)) → ((e : Ends) → test e ≡ same_pair p (kept_pair e))
+    → lookup test given ≡ lookup (λ (e : Ends). same_pair p (kept_pair e)) given
 lookup_is test p [] law = refl
 lookup_is test p (g ∷ gs) law = rw (law g.0, lookup_is test p gs law) refl
 
 -- a pair that wasn't given is looked up in vain
-pub absent : (p : Pair) (k : ℕ) (given : List (Ends × ℕ)) → pair_place p k (pairs_of given) ≡ None → lookup (λ (e : Ends). same_pair p (pair_of e)) given ≡ None
+pub absent : (p : Pair) (k : ℕ) (given : List (Ends × ℕ)) → pair_place p k (kept_pairs given) ≡ None → lookup (λ (e : Ends). same_pair p (kept_pair e)) given ≡ None
 absent p k [] none = refl
-absent p k (g ∷ gs) none = by (same_pair p (pair_of g.0)) none (absent p (k + 1) gs)
+absent p k (g ∷ gs) none = by (same_pair p (kept_pair g.0)) none (absent p (k + 1) gs)
   where
-    by : (b : Bool) → cond b (Some k) (pair_place p (k + 1) (pairs_of gs)) ≡ None
-        → (pair_place p (k + 1) (pairs_of gs) ≡ None → lookup (λ (e : Ends). same_pair p (pair_of e)) gs ≡ None)
-        → cond b (Some g.1) (lookup (λ (e : Ends). same_pair p (pair_of e)) gs) ≡ None
+    by : (b : Bool) → cond b (Some k) (pair_place p (k + 1) (kept_pairs gs)) ≡ None
+        → (pair_place p (k + 1) (kept_pairs gs) ≡ None → lookup (λ (e : Ends). same_pair p (kept_pair e)) gs ≡ None)
+        → cond b (Some g.1) (lookup (λ (e : Ends). same_pair p (kept_pair e)) gs) ≡ None
     by true e further = absurd (none-some k (sym e))
     by false e further = further e
 
 -- a pair that is given comes last
-pub pairs_added : (x : Ends) (n : ℕ) (given : List (Ends × ℕ)) → pairs_of (given ++ (x, n) ∷ []) ≡ pairs_of given ++ pair_of x ∷ []
-pairs_added x n given = map-append (λ (e : Ends × ℕ). pair_of e.0) given ((x, n) ∷ [])
+pub pairs_added : (x : Ends) (n : ℕ) (given : List (Ends × ℕ)) → kept_pairs (given ++ (x, n) ∷ []) ≡ kept_pairs given ++ kept_pair x ∷ []
+pairs_added x n given = map-append (λ (e : Ends × ℕ). kept_pair e.0) given ((x, n) ∷ [])
 
 -- two parts that are the same
 pub tables_are : {slots others : List Slot} {pairs more : List Pair} → slots ≡ others → pairs ≡ more

@@ -8,7 +8,7 @@ use Rattle.net_base.specs.declared.history.With.TheVariants as given
 use Rattle.net_base.specs.declared.world.World.{World}
 use Rattle.net_base.specs.ActorStep.{Step, when}
 use Rattle.net_base.specs.Directory.{Dir, Slot, dir_step, in_found_slot, is_of}
-use Rattle.host_dir.specs.Ready.{is_ready}
+use Rattle.host_dir.specs.Ready.{is_row_ready}
 
 past_none : (n : ℕ) → nat_lt n 0 ≡ false
 past_none n = grind arith
@@ -38,7 +38,7 @@ at_slot : (n g : ℕ) (d : Dir) (step : Slot → Step Dir) → nat_lt n (length 
 at_slot n g d step = within_is d.slots n ∙ found_is (slice_get d.slots n) g d step
 
 -- which works have an answer doesn't depend on the world
-pub ready_is : (w : World) (h : ℕ) (p : Proto) (e : Event) (with : With) (d : Dir) → is_ready p e with d ≡ is_some (dir_step w h p e with d)
+pub ready_is : (w : World) (h : ℕ) (p : Proto) (e : Event) (with : With) (d : Dir) → is_row_ready p e with d ≡ is_some (dir_step w h p e with d)
 ready_is w h p event.Reserve with d = refl
 ready_is w h p (event.Grant n g remote port) with d = at_slot n g d _
 ready_is w h p (event.Announce n g ip port) with d = at_slot n g d _

@@ -5,10 +5,10 @@ use Rattle.net_base.specs.declared.address.Addr.{Addr}
 use Rattle.net_base.specs.Directory.{Dir, Home, Slot, grants, grants_by, in_slot, is_reserved, port_for}
 use Rattle.net_base.specs.Routes.{way}
 use Rattle.host_dir.specs.Ports.{drawn}
-use Rattle.host_dir.specs.Taking.{chosen}
+use Rattle.host_dir.specs.Taking.{chosen_port}
 
 -- the port that is chosen
-chosen_is : (port bound : Option ℕ) (d : Dir) → port_for port bound d ≡ chosen port bound d.ports
+chosen_is : (port bound : Option ℕ) (d : Dir) → port_for port bound d ≡ chosen_port port bound d.ports
 unfolding drawn
 chosen_is (Some port) bound d = refl
 chosen_is None (Some port) d = refl
@@ -16,7 +16,7 @@ chosen_is None None d = refl
 
 -- a grant to a reserved slot of its generation
 pub at_reserved : (at : Home) (n g : ℕ) (remote : Addr) (port : Option ℕ) (d : Dir) (s : Slot) → slice_get d.slots n ≡ Some s → s.generation ≡ g → is_reserved s.kind ≡ true
-    → in_slot n g d (grants at n remote port d) ≡ Some (grants_by (way at.world at.host remote.ip) (chosen port s.bound d.ports) at n s remote d)
+    → in_slot n g d (grants at n remote port d) ≡ Some (grants_by (way at.world at.host remote.ip) (chosen_port port s.bound d.ports) at n s remote d)
 at_reserved at n g remote port d s got same reserved =
     let twin : (s.generation == g) ≡ true = grind (arith, same) in
     rw (got, twin, reserved, chosen_is port s.bound d) (refl)

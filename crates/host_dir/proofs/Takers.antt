@@ -12,7 +12,7 @@ use Rattle.net_base.specs.Mirror.{mirror}
 use Rattle.net_base.specs.Same.{same_pair}
 use Rattle.host_dir.specs.declared.slots.TakerAt.{TakerAt}
 use Rattle.host_dir.specs.Found.{found_at, slot_at}
-use Rattle.host_dir.specs.Taking.{Takes, may_take}
+use Rattle.host_dir.specs.Taking.{TakesSlot, may_take}
 use Rattle.host_dir.proofs.Firsts.{passes_at}
 use Rattle.net_base.proofs.Members.{none_is}
 
@@ -32,7 +32,7 @@ announces a slots n is = go (first_slot (is_keyed (key_at Exactly a)) 0 slots) (
 pub takes_is : (d : Dir) (pair : Pair) (packet : Packet) (free listener : ℕ)
     → first_slot is_free 0 d.slots ≡ found_at d.slots (Some free) → match_of packet.dst d.slots ≡ found_at d.slots (Some listener)
     → free < length d.slots → listener < length d.slots → may_take pair packet (slot_at d.slots listener) d ≡ true
-    → Takes d pair (record { free = free; listener = listener })
+    → TakesSlot d pair (record { free = free; listener = listener })
 takes_is d pair packet free listener one two low high tests =
     let new = and_parts (is_none (pair_place pair 1 d.pairs)) _ tests in
     let apart = and_parts (not (same_pair pair (mirror pair))) _ new.1 in
@@ -53,7 +53,7 @@ free_or_announced s name.Announced e free announces =
     true≢false (sym free ∙ same)
 free_or_announced s _ e free announces = false≢true announces
 
-pub two_slots : (d : Dir) (pair : Pair) (t : TakerAt) → Takes d pair t → t.free ≢ t.listener
+pub two_slots : (d : Dir) (pair : Pair) (t : TakerAt) → TakesSlot d pair t → t.free ≢ t.listener
 two_slots d pair t takes same =
     let s = slot_at d.slots t.listener in
     free_or_announced s s.kind refl (ap (λ (n : ℕ). is_free (slot_at d.slots n)) (sym same) ∙ takes.free) takes.announces

@@ -9,13 +9,13 @@ abbrev pub slot_at : List Slot → ℕ → Slot
 slot_at slots n = get_or slots n free_slot
 
 -- a slot with its number
-abbrev pub numbered : List Slot → ℕ → (ℕ × Slot)
-numbered slots n = (n, slot_at slots n)
+abbrev pub slot_numbered : List Slot → ℕ → (ℕ × Slot)
+slot_numbered slots n = (n, slot_at slots n)
 
 -- the slot that was found, with its number
 abbrev pub found_at : List Slot → Option ℕ → Option (ℕ × Slot)
-found_at slots place = option_map (numbered slots) place
+found_at slots place = option_map (slot_numbered slots) place
 
 -- the taker that was found
 abbrev pub taker_at : List Slot → TakerAt → Taker
-taker_at slots t = record { free = numbered slots t.free; listener = numbered slots t.listener }
+taker_at slots t = record { free = slot_numbered slots t.free; listener = slot_numbered slots t.listener }

@@ -26,24 +26,24 @@ pub record IsDirOf (w : World) (h : ℕ) (p : Proto) (d : HostDir) : Type 0 wher
   pub starts_are : AreStartsOf w h d.starts
 
 -- its protocol stays, and what it keeps of the world
-pub record Stays (old new : HostDir) : Type 0 where
+pub record StaysDir (old new : HostDir) : Type 0 where
   pub proto : new.proto ≡ old.proto
   pub ways : new.ways ≡ old.ways
   pub starts : new.starts ≡ old.starts
 
 -- the step leaves this directory, with this outcome
-abbrev pub Leaves : HostDir → Outcome → Option (Step Dir) → Type 0
-Leaves new outcome step = step ≡ Some (record { state = new.dir; outcome = outcome })
+abbrev pub LeavesDir : HostDir → Outcome → Option (Step Dir) → Type 0
+LeavesDir new outcome step = step ≡ Some (record { state = new.dir; outcome = outcome })
 
 -- in each world and at each host of which it is a directory, the step there leaves this one, with this outcome
-abbrev pub Gives : HostDir → HostDir → Outcome → (Home → Option (Step Dir)) → Type 0
-Gives old new outcome step = (w : World) (h : ℕ) → IsDirOf w h old.proto old → Leaves new outcome (step (home_at w h old.proto))
+abbrev pub GivesDir : HostDir → HostDir → Outcome → (Home → Option (Step Dir)) → Type 0
+GivesDir old new outcome step = (w : World) (h : ℕ) → IsDirOf w h old.proto old → LeavesDir new outcome (step (home_at w h old.proto))
 
 -- in each world and at each host of which it is a directory, it steps as the table says, and stays one
-abbrev pub Steps : HostDir → HostDir → Work → Outcome → Type 0
-Steps old new work outcome =
+abbrev pub StepsDir : HostDir → HostDir → Work → Outcome → Type 0
+StepsDir old new work outcome =
     (w : World) (h : ℕ) (p : Proto) → IsDirOf w h p old
-    → IsDirOf w h p new × Leaves new outcome (dir_step w h p work.event work.with old.dir)
+    → IsDirOf w h p new × LeavesDir new outcome (dir_step w h p work.event work.with old.dir)
 
 -- Want of memory.
 

@@ -12,13 +12,13 @@ pub record Tables : Type 0 where
   pub pairs : List Pair
 
 -- the pair that is kept so
-abbrev pub pair_of : Ends → Pair
-pair_of e = record { local = record { ip = e.local_ip; port = e.local_port }; remote = record { ip = e.remote_ip; port = e.remote_port } }
+abbrev pub kept_pair : Ends → Pair
+kept_pair e = record { local = record { ip = e.local_ip; port = e.local_port }; remote = record { ip = e.remote_ip; port = e.remote_port } }
 
-abbrev pub pairs_of : List (Ends × ℕ) → List Pair
-pairs_of given = map (λ (e : Ends × ℕ). pair_of e.0) given
+abbrev pub kept_pairs : List (Ends × ℕ) → List Pair
+kept_pairs given = map (λ (e : Ends × ℕ). kept_pair e.0) given
 
 -- a slot's pair was given to it and no other
 unfoldable pub IsIndexed : List Slot → List (Ends × ℕ) → Type 0
 IsIndexed slots given =
-    (n : ℕ) (s : Slot) (p : Pair) → slice_get slots n ≡ Some s → s.pair ≡ Some p → lookup (λ (e : Ends). same_pair p (pair_of e)) given ≡ Some n
+    (n : ℕ) (s : Slot) (p : Pair) → slice_get slots n ≡ Some s → s.pair ≡ Some p → lookup (λ (e : Ends). same_pair p (kept_pair e)) given ≡ Some n

@@ -10,10 +10,10 @@ use Rattle.host_dir.specs.Found.{slot_at}
 use Rattle.host_dir.specs.Ports.{drawn}
 
 -- the port that was named, or the bound one, or a drawn one
-abbrev pub chosen : Option ℕ → Option ℕ → List ℕ → Option ℕ
-chosen (Some port) bound used = Some port
-chosen None (Some port) used = Some port
-chosen None None used = drawn used
+abbrev pub chosen_port : Option ℕ → Option ℕ → List ℕ → Option ℕ
+chosen_port (Some port) bound used = Some port
+chosen_port None (Some port) used = Some port
+chosen_port None None used = drawn used
 
 -- the pair was never granted or born and isn't its own mirror, the packet may bear, and there is room at the listener
 abbrev pub may_take : Pair → Packet → Slot → Dir → Bool
@@ -21,7 +21,7 @@ may_take pair packet listener d =
     is_none (pair_place pair 1 d.pairs) && (not (same_pair pair (mirror pair)) && (is_first_packet packet.body && nat_lt (length listener.calls) 10))
 
 -- what a birth stands on
-pub record Takes (d : Dir) (pair : Pair) (t : TakerAt) : Type 0 where
+pub record TakesSlot (d : Dir) (pair : Pair) (t : TakerAt) : Type 0 where
   pub free_within : t.free < length d.slots
   pub free : is_free (slot_at d.slots t.free) ≡ true
   pub listener_within : t.listener < length d.slots

@@ -1,7 +1,7 @@
 //! What a directory answers.
 ghost use Rattle.std.specs.Prelude.{◌≡◌, None, Some};
 ghost use Rattle.net_base.specs.ActorStep.{replies};
-ghost use Rattle.host_dir.specs.Answers.{reply_of};
+ghost use Rattle.host_dir.specs.Answers.{recorded_reply};
 
 use net_base::{Outcome, Packet, Pair, Reply, StateName};
 
@@ -62,7 +62,7 @@ pub fn outcome(reply: Reply, copy: Reply, emit: Option<Packet>) -> Outcome
 impl Answer {
     /// The reply that is recorded.
     fn reply(self) -> Reply
-        ensures { result ≡ reply_of self }
+        ensures { result ≡ recorded_reply self }
     {
         match self {
             Answer::Slot { slot, generation } => Reply::Slot { slot, generation },
@@ -97,14 +97,14 @@ impl Answer {
 
     /// What a step with this answer gives, which emits nothing.
     pub fn outcome(self) -> Outcome
-        ensures { result ≡ replies (reply_of self) None }
+        ensures { result ≡ replies (recorded_reply self) None }
     {
         outcome(self.reply(), self.reply(), None)
     }
 
     /// What a step with this answer gives, which emits the packet.
     pub fn emitting(self, packet: Packet) -> Outcome
-        ensures { result ≡ replies (reply_of self) (Some packet) }
+        ensures { result ≡ replies (recorded_reply self) (Some packet) }
     {
         outcome(self.reply(), self.reply(), Some(packet))
     }

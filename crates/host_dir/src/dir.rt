@@ -11,9 +11,9 @@ ghost use Rattle.net_base.specs.Directory.{Dir as AnyDir, dir_step, home_at};
 ghost use Rattle.net_base.specs.Paths.{names};
 ghost use Rattle.net_base.specs.Routes.{way};
 ghost use Rattle.host_dir.specs.Found.{slot_at, taker_at};
-ghost use Rattle.host_dir.specs.Kept.{Gives, IsDirOf, Leaves, Stays, StepMayWant, Steps, Wants};
-ghost use Rattle.host_dir.specs.Ready.{is_ready, takes};
-ghost use Rattle.host_dir.specs.Taking.{Takes, chosen, may_take};
+ghost use Rattle.host_dir.specs.Kept.{GivesDir, IsDirOf, LeavesDir, StaysDir, StepMayWant, StepsDir, Wants};
+ghost use Rattle.host_dir.specs.Ready.{is_row_ready, takes_packet};
+ghost use Rattle.host_dir.specs.Taking.{TakesSlot, chosen_port, may_take};
 
 use crate::answer::{Answer, outcome};
 use crate::names::names_of;
@@ -86,7 +86,7 @@ impl Dir {
     /// Whether the directory has an answer, which depends on no world.
     #[tactic(auto, using(crate::proofs::Ready::ready_is))]
     pub fn ready(&self, work: &Work) -> bool
-        ensures value { result ≡ is_ready self.now.proto work.now.event work.now.with self.now.dir }
+        ensures value { result ≡ is_row_ready self.now.proto work.now.event work.now.with self.now.dir }
         ensures step { (w : AnyWorld) (h : ℕ) → result ≡ is_some (dir_step w h self.now.proto work.now.event
             work.now.with self.now.dir) }
     {
@@ -95,7 +95,7 @@ impl Dir {
 
     /// Whether the directory has an answer.
     fn answers(&self, event: &Event, with: &With) -> bool
-        ensures { result ≡ is_ready self.now.proto event.now with.now self.now.dir }
+        ensures { result ≡ is_row_ready self.now.proto event.now with.now self.now.dir }
     {
         match event {
             Event::Reserve => true,
@@ -113,7 +113,7 @@ impl Dir {
 
     /// Whether a packet of the directory's protocol is given.
     fn takes(&self, with: &With) -> bool
-        ensures { result ≡ takes self.now.proto with.now }
+        ensures { result ≡ takes_packet self.now.proto with.now }
     {
         match with {
             With::Packet(packet) => match packet.body {
@@ -126,9 +126,9 @@ impl Dir {
 
     /// The answer to a work, after which the directory is another.
     pub fn step(&mut self, work: &Work) -> Result<Outcome, AllocError>
-        requires { IsTrue (is_ready self.old.proto work.now.event work.now.with self.old.dir) }
-        ensures ok { IfOk result (Steps self.old self.new work.now) }
-        ensures stays { Stays self.old self.new }
+        requires { IsTrue (is_row_ready self.old.proto work.now.event work.now.with self.old.dir) }
+        ensures ok { IfOk result (StepsDir self.old self.new work.now) }
+        ensures stays { StaysDir self.old self.new }
         ensures err { OnErr result (self.new ≡ self.old) }
         ensures memory { OnErr result (Wants self.old (λ at. dir_step at.world at.host at.proto work.now.event
             work.now.with self.old.dir)) }
@@ -138,10 +138,10 @@ impl Dir {
 
     /// The answer of the event's row.
     fn row(&mut self, event: &Event, with: &With) -> Result<Outcome, AllocError>
-        requires { IsTrue (is_ready self.old.proto event.now with.now self.old.dir) }
-        ensures ok { IfOk result (λ o. Gives self.old self.new o (λ at. dir_step at.world at.host at.proto
+        requires { IsTrue (is_row_ready self.old.proto event.now with.now self.old.dir) }
+        ensures ok { IfOk result (λ o. GivesDir self.old self.new o (λ at. dir_step at.world at.host at.proto
             event.now with.now self.old.dir)) }
-        ensures stays { Stays self.old self.new }
+        ensures stays { StaysDir self.old self.new }
         ensures err { OnErr result (self.new ≡ self.old) }
         ensures memory { OnErr result (Wants self.old (λ at. dir_step at.world at.host at.proto event.now with.now
             self.old.dir)) }
@@ -180,9 +180,9 @@ impl Dir {
     /// Reserves the lowest free slot. A slot that was taken as often as a generation can count isn't taken again, and counts as
     /// want of memory.
     fn reserve(&mut self) -> Result<Outcome, AllocError>
-        ensures ok { IfOk result (λ o. Leaves self.new o (Some (spec.reserves (spec.first_slot spec.is_free 0
+        ensures ok { IfOk result (λ o. LeavesDir self.new o (Some (spec.reserves (spec.first_slot spec.is_free 0
             self.old.dir.slots) self.old.dir))) }
-        ensures stays { Stays self.old self.new }
+        ensures stays { StaysDir self.old self.new }
         ensures err { OnErr result (self.new ≡ self.old) }
         ensures memory { OnErr result (StepMayWant (Some (spec.reserves (spec.first_slot spec.is_free 0
             self.old.dir.slots) self.old.dir))) }
@@ -210,9 +210,9 @@ impl Dir {
         lport: Option<u16>,
     ) -> Result<Outcome, AllocError>
         requires { n < length self.old.dir.slots }
-        ensures ok { IfOk result (λ o. Gives self.old self.new o (λ at.
+        ensures ok { IfOk result (λ o. GivesDir self.old self.new o (λ at.
             spec.in_slot n generation self.old.dir (spec.grants at n remote lport self.old.dir))) }
-        ensures stays { Stays self.old self.new }
+        ensures stays { StaysDir self.old self.new }
         ensures err { OnErr result (self.new ≡ self.old) }
         ensures memory { OnErr result (Wants self.old (λ at.
             spec.in_slot n generation self.old.dir (spec.grants at n remote lport self.old.dir))) }
@@ -235,13 +235,13 @@ impl Dir {
         lport: Option<u16>,
     ) -> Result<Outcome, AllocError>
         requires { n < length self.old.dir.slots }
-        ensures ok { IfOk result (λ o. Gives self.old self.new o (λ at. Some (spec.grants_by
-            (way at.world at.host remote.ip) (chosen lport (slot_at self.old.dir.slots n).bound self.old.dir.ports)
+        ensures ok { IfOk result (λ o. GivesDir self.old self.new o (λ at. Some (spec.grants_by
+            (way at.world at.host remote.ip) (chosen_port lport (slot_at self.old.dir.slots n).bound self.old.dir.ports)
             at n (slot_at self.old.dir.slots n) remote self.old.dir))) }
-        ensures stays { Stays self.old self.new }
+        ensures stays { StaysDir self.old self.new }
         ensures err { OnErr result (self.new ≡ self.old) }
         ensures memory { OnErr result (Wants self.old (λ at. Some (spec.grants_by
-            (way at.world at.host remote.ip) (chosen lport (slot_at self.old.dir.slots n).bound self.old.dir.ports)
+            (way at.world at.host remote.ip) (chosen_port lport (slot_at self.old.dir.slots n).bound self.old.dir.ports)
             at n (slot_at self.old.dir.slots n) remote self.old.dir))) }
     {
         let Some(way) = self.way_to(remote.ip) else {
@@ -271,7 +271,7 @@ impl Dir {
     /// The port that was named, or the slot's bound one, or a drawn one.
     fn port_for(&mut self, n: u32, lport: Option<u16>) -> Option<u16>
         requires { n < length self.old.dir.slots }
-        ensures value { result ≡ chosen lport (slot_at self.old.dir.slots n).bound self.old.dir.ports }
+        ensures value { result ≡ chosen_port lport (slot_at self.old.dir.slots n).bound self.old.dir.ports }
         ensures same { self.new ≡ self.old }
     {
         match (lport, self.slots.at(n).bound()) {
@@ -284,9 +284,9 @@ impl Dir {
     /// Gives a pair to a slot, where it was never granted or born before.
     fn give(&mut self, n: u32, pair: Pair, mtu: u32) -> Result<Outcome, AllocError>
         requires { n < length self.old.dir.slots }
-        ensures ok { IfOk result (λ o. Gives self.old self.new o (λ at. Some (spec.grants_pair
+        ensures ok { IfOk result (λ o. GivesDir self.old self.new o (λ at. Some (spec.grants_pair
             (spec.pair_place pair 1 self.old.dir.pairs) at n (slot_at self.old.dir.slots n) pair mtu self.old.dir))) }
-        ensures stays { Stays self.old self.new }
+        ensures stays { StaysDir self.old self.new }
         ensures err { OnErr result (self.new ≡ self.old) }
         ensures memory { OnErr result (Wants self.old (λ at. Some (spec.grants_pair
             (spec.pair_place pair 1 self.old.dir.pairs) at n (slot_at self.old.dir.slots n) pair mtu self.old.dir))) }
@@ -322,9 +322,9 @@ impl Dir {
         port: Option<u16>,
     ) -> Result<Outcome, AllocError>
         requires { n < length self.old.dir.slots }
-        ensures ok { IfOk result (λ o. Leaves self.new o (spec.in_slot n generation self.old.dir (
+        ensures ok { IfOk result (λ o. LeavesDir self.new o (spec.in_slot n generation self.old.dir (
             spec.announces n ip port self.old.dir))) }
-        ensures stays { Stays self.old self.new }
+        ensures stays { StaysDir self.old self.new }
         ensures err { OnErr result (self.new ≡ self.old) }
         ensures memory { OnErr result (StepMayWant (spec.in_slot n generation self.old.dir (spec.announces n ip port
             self.old.dir))) }
@@ -353,9 +353,9 @@ impl Dir {
     /// A slot is bound to a port.
     fn bind(&mut self, n: u32, generation: u64, port: u16) -> Result<Outcome, AllocError>
         requires { n < length self.old.dir.slots }
-        ensures ok { IfOk result (λ o. Leaves self.new o (spec.in_slot n generation self.old.dir (spec.slot_binds n port
+        ensures ok { IfOk result (λ o. LeavesDir self.new o (spec.in_slot n generation self.old.dir (spec.slot_binds n port
             self.old.dir))) }
-        ensures stays { Stays self.old self.new }
+        ensures stays { StaysDir self.old self.new }
         ensures err { OnErr result (self.new ≡ self.old) }
         ensures memory { OnErr result (StepMayWant (spec.in_slot n generation self.old.dir (spec.slot_binds n port
             self.old.dir))) }
@@ -379,8 +379,8 @@ impl Dir {
     /// Takes the oldest call of an announcing slot.
     fn listen(&mut self, n: u32) -> Outcome
         requires { IsTrue (is_some (spec.slot_listens (slice_get self.old.dir.slots n) n self.old.dir)) }
-        ensures step { Leaves self.new result (spec.slot_listens (slice_get self.old.dir.slots n) n self.old.dir) }
-        ensures stays { Stays self.old self.new }
+        ensures step { LeavesDir self.new result (spec.slot_listens (slice_get self.old.dir.slots n) n self.old.dir) }
+        ensures stays { StaysDir self.old self.new }
     {
         match self.slots.at(n).kind() {
             StateName::Announced => {
@@ -401,9 +401,9 @@ impl Dir {
     /// A slot announces no more, and its calls are sent away.
     fn withdraw(&mut self, n: u32, generation: u64) -> Result<Outcome, AllocError>
         requires { n < length self.old.dir.slots }
-        ensures ok { IfOk result (λ o. Leaves self.new o (spec.in_slot n generation self.old.dir (spec.withdraws n
+        ensures ok { IfOk result (λ o. LeavesDir self.new o (spec.in_slot n generation self.old.dir (spec.withdraws n
             self.old.dir))) }
-        ensures stays { Stays self.old self.new }
+        ensures stays { StaysDir self.old self.new }
         ensures err { OnErr result (self.new ≡ self.old) }
         ensures memory { OnErr result (StepMayWant (spec.in_slot n generation self.old.dir (spec.withdraws n
             self.old.dir))) }
@@ -419,9 +419,9 @@ impl Dir {
     /// Frees a slot, and its calls are sent away.
     fn release(&mut self, n: u32, generation: u64) -> Result<Outcome, AllocError>
         requires { n < length self.old.dir.slots }
-        ensures ok { IfOk result (λ o. Leaves self.new o (spec.in_slot n generation self.old.dir (spec.frees n
+        ensures ok { IfOk result (λ o. LeavesDir self.new o (spec.in_slot n generation self.old.dir (spec.frees n
             self.old.dir))) }
-        ensures stays { Stays self.old self.new }
+        ensures stays { StaysDir self.old self.new }
         ensures err { OnErr result (self.new ≡ self.old) }
         ensures memory { OnErr result (StepMayWant (spec.in_slot n generation self.old.dir (spec.frees n
             self.old.dir))) }
@@ -466,10 +466,10 @@ impl Dir {
     /// Where a packet of the protocol goes: to the live slot that has its pair, or to its taker; an IL sync with neither is
     /// refused, and all else is dropped.
     fn arrive(&mut self, packet: &Packet) -> Result<Outcome, AllocError>
-        ensures ok { IfOk result (λ o. Gives self.old self.new o (λ at. Some (spec.arrives_at
+        ensures ok { IfOk result (λ o. GivesDir self.old self.new o (λ at. Some (spec.arrives_at
             (spec.first_slot (spec.is_live_with (spec.packet_pair packet.now)) 0 self.old.dir.slots)
             at (spec.packet_pair packet.now) packet.now self.old.dir))) }
-        ensures stays { Stays self.old self.new }
+        ensures stays { StaysDir self.old self.new }
         ensures err { OnErr result (self.new ≡ self.old) }
         ensures memory { OnErr result (Wants self.old (λ at. Some (spec.arrives_at
             (spec.first_slot (spec.is_live_with (spec.packet_pair packet.now)) 0 self.old.dir.slots)
@@ -497,7 +497,7 @@ impl Dir {
     #[tactic(auto, using(crate::proofs::Takers::takes_is))]
     fn taker(&self, pair: Pair, packet: &Packet) -> Option<TakerAt>
         ensures value { spec.taker_of pair packet.now self.now.dir ≡ option_map (taker_at self.now.dir.slots) result }
-        ensures takes { IfSome result (Takes self.now.dir pair) }
+        ensures takes { IfSome result (TakesSlot self.now.dir pair) }
     {
         let Some(free) = self.slots.first_free() else {
             return None;
@@ -526,10 +526,10 @@ impl Dir {
     /// Bears a conversation. A slot that was taken as often as a generation can count counts as want of memory.
     #[tactic(auto, using(crate::proofs::Takers::two_slots))]
     fn bear(&mut self, pair: Pair, taker: TakerAt) -> Result<Outcome, AllocError>
-        requires { Takes self.old.dir pair taker }
-        ensures ok { IfOk result (λ o. Gives self.old self.new o (λ at.
+        requires { TakesSlot self.old.dir pair taker }
+        ensures ok { IfOk result (λ o. GivesDir self.old self.new o (λ at.
             Some (spec.bears at pair (taker_at self.old.dir.slots taker) self.old.dir))) }
-        ensures stays { Stays self.old self.new }
+        ensures stays { StaysDir self.old self.new }
         ensures err { OnErr result (self.new ≡ self.old) }
         ensures memory { OnErr result (Wants self.old (λ at.
             Some (spec.bears at pair (taker_at self.old.dir.slots taker) self.old.dir))) }

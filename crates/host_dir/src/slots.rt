@@ -8,7 +8,7 @@ ghost use Rattle.net_base.specs.Actors.{slot_count};
 ghost use Rattle.net_base.specs.Directory.{Dir as AnyDir, first_slot, free_slot, is_slot_bound, is_free, is_keyed, is_live_with, slot_listens, match_of, pair_place};
 ghost use Rattle.host_dir.specs.Found.{found_at, slot_at};
 ghost use Rattle.net_base.specs.Same.{same_pair};
-ghost use Rattle.host_dir.specs.Tables.{IsIndexed, pair_of};
+ghost use Rattle.host_dir.specs.Tables.{IsIndexed, kept_pair};
 
 use crate::slot::{Key, Slot};
 use indexmap::IndexMap;
@@ -30,7 +30,7 @@ struct Ends {
 
 /// The key of a pair.
 fn ends_of(pair: Pair) -> Ends
-    ensures { pair_of result ≡ pair }
+    ensures { kept_pair result ≡ pair }
 {
     Ends {
         local_ip: pair.local.ip,
@@ -112,7 +112,7 @@ fn bound_place(slots: &[Slot], port: u16) -> Option<u32>
 
 /// The number of the slot that the pair was given to.
 fn given_to(given: &IndexMap<Ends, u32>, pair: Pair) -> Option<u32>
-    ensures { result ≡ lookup (λ e. same_pair pair (pair_of e)) given.now.entries }
+    ensures { result ≡ lookup (λ e. same_pair pair (kept_pair e)) given.now.entries }
 {
     given.get(&ends_of(pair)).copied()
 }
@@ -157,11 +157,11 @@ pub struct Slots {
 
 impl Model for Slots {
     ghost use Rattle.std.specs.Prelude.{◌≡◌, length};
-    ghost use Rattle.host_dir.specs.Tables.{IsIndexed, Tables, pairs_of};
+    ghost use Rattle.host_dir.specs.Tables.{IsIndexed, Tables, kept_pairs};
 
     ghost Value = { Tables };
 
-    ghost view = { λ s. record { slots = s.slots.items; pairs = pairs_of s.given.entries } };
+    ghost view = { λ s. record { slots = s.slots.items; pairs = kept_pairs s.given.entries } };
 
     ghost invariant = { λ s. (length s.slots.items ≡ 32) × IsIndexed s.slots.items s.given.entries };
 }

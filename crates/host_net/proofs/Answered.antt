@@ -29,8 +29,8 @@ use Rattle.host_net.proofs.Joining.{get_index}
 use Rattle.host_net.proofs.Seating.{get_seats, seats_long}
 use Rattle.host_net.proofs.Standings.{no_script, seats_in}
 use Rattle.host_net.proofs.Taking.{not_itself, visit_in, with_front}
-use Rattle.host_net.specs.Answering.{AreAfter, CannotTell, CannotTellOf, CanTell, IsAnswered, IsAnsweredOf}
-use Rattle.host_net.specs.Groups.{Follows, Grouped, IsDealt, NotIn, Seats, all_callers, all_members, all_seats, caller, callers_in, callers_of}
+use Rattle.host_net.specs.Answering.{AreAfter, CannotTell, CannotTellOf, CanTell, AreStepsAnswered, IsAnsweredOf}
+use Rattle.host_net.specs.Groups.{FollowsDeal, Grouped, IsDealt, NotIn, Seats, all_callers, all_members, all_seats, caller, callers_in, callers_of}
 use Rattle.host_net.specs.Groups.{members, seat_of, seats, visits, with_last}
 use Rattle.host_net.specs.Playing.{IsCounted, Playing, replies_of}
 use Rattle.net_guests.specs.Visits.{Visit}
@@ -42,11 +42,11 @@ use Rattle.net_guests.proofs.Firsts.{owes_some, free_none}
 module _ {T : Type 0} (Plays : Tuples → Script → List Reply → Names → T → Type 0) (w : World) (v : Visit) (t : T) (lost : Bool) (before : ℕ)
     (is : IsCounted Plays w v t lost before) where
   -- what is owed belongs to the step of its last own event
-  pub answered_owing : not (length v.owed == 0) ≡ true → IsAnswered w v before
+  pub answered_owing : not (length v.owed == 0) ≡ true → AreStepsAnswered w v before
   answered_owing some = λ s script. is.before_is s script ∙ sym (ap (λ (b : Bool). answered w (entries v.sight.seen) v.caller b s) some)
 
   pub answered_free : (n : ℕ) → lost ≡ false → not (length v.owed == 0) ≡ false
-      → ((zone : Tuples) (s : Script) (rs : List Reply) (names : Names) → Plays zone s rs names t → n ≡ finished_by zone rs s) → IsAnswered w v n
+      → ((zone : Tuples) (s : Script) (rs : List Reply) (names : Names) → Plays zone s rs names t → n ≡ finished_by zone rs s) → AreStepsAnswered w v n
   answered_free n told none counts = λ s script.
       counts (zone_of w) s (replies_of v) v.names (is.plays s script told) ∙ sym (ap (λ (b : Bool). answered w (entries v.sight.seen) v.caller b s) none)
 
@@ -90,7 +90,7 @@ replies_after w vs h v are there =
     (same_by v.caller h (entries v.sight.seen) (are.lists v there ∙ sym (lists_are v.caller v.sight.seen)))
 
 -- as many steps of its script are answered in the history
-pub answered_in : (w : World) (vs : List Visit) (h : List Entry) (v : Visit) (n : ℕ) (s : Script) → AreAfter w vs h → In v vs → IsAnswered w v n
+pub answered_in : (w : World) (vs : List Visit) (h : List Entry) (v : Visit) (n : ℕ) (s : Script) → AreAfter w vs h → In v vs → AreStepsAnswered w v n
     → caller_of w v.caller ≡ IsScript s → n ≡ answered_by w h (v.caller, s)
 answered_in w vs h v n s are there is script =
     let owing : owes (after w h) v.caller ≡ not (length v.owed == 0) =
@@ -172,7 +172,7 @@ module _ {T : Type 0} where
   some_one c ps i le none there = not_itself c (callers_of ps) (subst (λ (l : List (Playing T)). NotIn c (callers_of l)) (take_all i ps le) none) there
 
   -- the player of a script is one of its group
-  pub script_here : (w : World) (n : ℕ) (gs : List (Grouped T)) → IsDealt w n (all_seats gs) → (deal : List ℕ) → Follows deal (all_seats gs)
+  pub script_here : (w : World) (n : ℕ) (gs : List (Grouped T)) → IsDealt w n (all_seats gs) → (deal : List ℕ) → FollowsDeal deal (all_seats gs)
       → (c : ℕ) (s : Script) → c < n → caller_of w c ≡ IsScript s
       → (k : ℕ) (g : Grouped T) → slice_get gs k ≡ Some g → k ≡ seat_of deal c (length gs) → In c (callers_of g.players)
   script_here w n gs dealt deal follows c s lt script k g there is =
@@ -203,7 +203,7 @@ module _ {T : Type 0} where
 
   -- what it tells is of the script
   pub found_in : (w : World) (c : ℕ) (gs : List (Grouped T)) (k : ℕ) (g : Grouped T) (p : Playing T) (o : Option ℕ) → slice_get gs k ≡ Some g → In p g.players
-      → caller p ≡ c → IfSome o (IsAnswered w p.visit) → IfSome o (λ (n : ℕ). IsAnsweredOf w c (all_members gs) n)
+      → caller p ≡ c → IfSome o (AreStepsAnswered w p.visit) → IfSome o (λ (n : ℕ). IsAnsweredOf w c (all_members gs) n)
   found_in w c gs k g p None there among is answers = tt
   found_in w c gs k g p (Some n) there among is answers = (p, group_in gs k g p there among, is, answers)
 

@@ -21,7 +21,7 @@ use Rattle.net_base.specs.Stamped.{at, at_from, matches}
 use Rattle.net_base.specs.Tasks.{Tasks}
 use Rattle.locked.specs.Acts.{state, state_at}
 use Rattle.script_task.specs.Fitting.{fits}
-use Rattle.guest_laws.specs.Named.{Named, answer_in, named, opening}
+use Rattle.guest_laws.specs.Named.{Named, answer_in, named, named_opening}
 use Rattle.guest_laws.specs.Works.{entries, noted_net}
 use Rattle.net_base.proofs.Shared.{number_itself}
 use Rattle.guest_laws.proofs.Nets.{named_left}
@@ -122,18 +122,18 @@ plays_of xs = map (λ (x : ℕ × Noted). record { moment = x.1.entry.moment; wo
 
 -- what is known of what lies under a lock, and of replies
 abbrev pub KeepsActors : Type 0
-KeepsActors = (w : World) (log : List Noted) (a : ActorName) → state_at (opening w) (answer_in w) a log ≡ named a ((noted_net w log).actors a)
+KeepsActors = (w : World) (log : List Noted) (a : ActorName) → state_at (named_opening w) (answer_in w) a log ≡ named a ((noted_net w log).actors a)
 
 abbrev pub FitWorks : Type 0
 FitWorks = (w : World) (a : ActorName) (ps : List nets.WorkAt) (now : ℕ) (work : Work) (t : Step Actor)
     → actor_step w a (played w a (opening_actor w.timers a) ps) now work ≡ Some t → fits work.event t.outcome.reply ≡ true
 
 module _ (w : World) (a : ActorName) where
-  state_played : (s : Actor) (xs : List (ℕ × Noted)) → state (opening w) (answer_in w) (named a s) xs ≡ named a (played w a s (plays_of xs))
+  state_played : (s : Actor) (xs : List (ℕ × Noted)) → state (named_opening w) (answer_in w) (named a s) xs ≡ named a (played w a s (plays_of xs))
   state_played s [] = refl
   state_played s (x ∷ xs) =
       let t = actor_step w a s x.1.entry.moment x.1.work in
-      ap (λ (n : Named). state (opening w) (answer_in w) n xs) (named_left a s t) ∙ state_played (stepped_to s t) xs
+      ap (λ (n : Named). state (named_opening w) (answer_in w) n xs) (named_left a s t) ∙ state_played (stepped_to s t) xs
 
   pub fits_there : KeepsActors → FitWorks → (log : List Noted) (now : ℕ) (work : Work) (t : Step Actor)
       → actor_step w a ((noted_net w log).actors a) now work ≡ Some t → fits work.event t.outcome.reply ≡ true

@@ -12,7 +12,7 @@ use Rattle.net_base.specs.Next.{finished_by, own_replies, zone_of}
 use Rattle.net_base.specs.Tasks.{Asking, Tasks}
 use Rattle.net_base.specs.Versions.{Tuples}
 use Rattle.net_base.specs.Steps.{Names, no_names}
-use Rattle.locked.specs.Acts.{made, without_copy}
+use Rattle.locked.specs.Acts.{made, act_without_copy}
 use Rattle.net_base.specs.declared.request.Request.{Request}
 use Rattle.script_task.specs.Fitting.{fits}
 use Rattle.net_base.specs.Requests.{settled}
@@ -24,8 +24,8 @@ use Rattle.host_net.specs.declared.player.Role.{Role}
 use Rattle.host_net.specs.declared.player.Role.TheVariants as role
 use Rattle.net_locks.specs.declared.turn.Turn.{Turn}
 use Rattle.net_locks.specs.declared.turn.Turn.TheVariants as turn
-use Rattle.host_net.specs.Playing.{Counts, GoesOn, HasRole, Heard, IsCounted, Told, before_last, replies_of}
-use Rattle.net_guests.specs.Visits.{Asked, IsFresh, IsSame, Operated, Visit}
+use Rattle.host_net.specs.Playing.{CountsTurn, GoesOn, VisitHasRole, Heard, IsCounted, ToldReply, before_last, replies_of}
+use Rattle.net_guests.specs.Visits.{Asked, IsFresh, IsSameVisit, Operated, Visit}
 use Rattle.net_locks.specs.Turns.{bare}
 use Rattle.host_net.proofs.Continuing.{FitWorks, KeepsActors, fits_there, own_reply, own_stays}
 use Rattle.host_net.proofs.Keeping.{is_script}
@@ -35,13 +35,13 @@ all_but_last rs r = take_at rs (r ∷ []) (length (rs ++ r ∷ []) - 1) (omega (
 
 -- One entry of a script that owed nothing.
 
-module _ (ts : Tasks) (w : World) (old new : Visit) (same : IsSame old new) (h : ℕ) (q : Request) (stamp : ℕ) (r : Reply)
+module _ (ts : Tasks) (w : World) (old new : Visit) (same : IsSameVisit old new) (h : ℕ) (q : Request) (stamp : ℕ) (r : Reply)
     (is : Asked ts w h q old (turn.Recorded stamp r) new) where
   -- its reply is one more
   pub one_reply_more : replies_of new ≡ replies_of old ++ r ∷ []
   one_reply_more =
       let rec = is.takes in
-      let x = made is.ask.actor old.caller old.now (bare is.ask.event) None (without_copy rec.step.outcome) in
+      let x = made is.ask.actor old.caller old.now (bare is.ask.event) None (act_without_copy rec.step.outcome) in
       ap (own_replies (entries new.sight.seen)) same.caller
       ∙ (ap (λ (l : List Noted). own_replies (entries l) old.caller) rec.seen
       ∙ (own_reply old.caller rec.past x refl refl
@@ -101,21 +101,21 @@ module _ {T : Type 0} (Plays : Tuples → Script → List Reply → Names → T 
   -- The turn of a script.
 
   module _ (ts : Tasks) (asks : T → Names → Option Request) (after : T → Reply → T) (plays_on : whole.PlaysOn T asks after Plays) (old new : Visit)
-      (same : IsSame old new)
-      (who : Role) (script : who ≡ role.Script) (has : HasRole w old.caller who) (t : T) (lost : Bool) (keeps_told : lost ≡ false) (before : ℕ)
+      (same : IsSameVisit old new)
+      (who : Role) (script : who ≡ role.Script) (has : VisitHasRole w old.caller who) (t : T) (lost : Bool) (keeps_told : lost ≡ false) (before : ℕ)
       (is : IsCounted Plays w old t lost before) (free : old.owed ≡ []) (q : Request) (asks_it : Some q ≡ asks t old.names) (keeps : KeepsActors)
       (fit : FitWorks) where
     abbrev Operates : Turn → Type 0
     Operates answer = (s : Script) → caller_of w old.caller ≡ IsScript s → Operated ts w s.host q old answer new
 
     its_script : (s : Script) × (caller_of w old.caller ≡ IsScript s)
-    its_script = subst (λ (r : Role). HasRole w old.caller r) script has
+    its_script = subst (λ (r : Role). VisitHasRole w old.caller r) script has
 
     was : (s : Script) → caller_of w new.caller ≡ IsScript s → caller_of w old.caller ≡ IsScript s
     was s now = ap (caller_of w) (sym same.caller) ∙ now
 
     tells : (stamp : ℕ) (r : Reply) → Operates (turn.Recorded stamp r) → (result : Played) (t' : T) (lost' : Bool) (before' : ℕ)
-        → Told after t lost r result t' lost' → Counts Plays t before (turn.Recorded stamp r) before' → IsCounted Plays w new t' lost' before'
+        → ToldReply after t lost r result t' lost' → CountsTurn Plays t before (turn.Recorded stamp r) before' → IsCounted Plays w new t' lost' before'
     tells stamp r does result t' lost' before' told counts =
         record {
           plays = λ s now again. plays_then result told s now again;
@@ -125,7 +125,7 @@ module _ {T : Type 0} (Plays : Tuples → Script → List Reply → Names → T 
               (sym (ap before_last (one_reply_more ts w old new same s.host q stamp r (does s (was s now))) ∙ all_but_last (replies_of old) r));
         }
       where
-        plays_then : (p : Played) → Told after t lost r p t' lost' → (s : Script) → caller_of w new.caller ≡ IsScript s → lost' ≡ false
+        plays_then : (p : Played) → ToldReply after t lost r p t' lost' → (s : Script) → caller_of w new.caller ≡ IsScript s → lost' ≡ false
             → Plays (zone_of w) s (replies_of new) new.names t'
         plays_then played.Recorded came s now again =
             let asked = does s (was s now) in
@@ -146,7 +146,7 @@ module _ {T : Type 0} (Plays : Tuples → Script → List Reply → Names → T 
 
     -- it is counted still
     pub heard_counts : (answer : Turn) → Operates answer → (result : Played) (t' : T) (lost' : Bool) (before' : ℕ)
-        → Heard after t lost answer result t' lost' → Counts Plays t before answer before' → IsCounted Plays w new t' lost' before'
+        → Heard after t lost answer result t' lost' → CountsTurn Plays t before answer before' → IsCounted Plays w new t' lost' before'
     heard_counts (turn.Recorded stamp r) does result t' lost' before' heard counts = tells stamp r does result t' lost' before' heard counts
     heard_counts turn.NotReady does result t' lost' before' heard counts =
         let asked = does its_script.0 its_script.1 in

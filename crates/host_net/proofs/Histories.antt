@@ -16,7 +16,7 @@ use Rattle.guest_laws.specs.Own.{IsLegalButScripts}
 use Rattle.guest_laws.specs.Works.{entries, noted_net}
 use Rattle.host_net.specs.Advancing.{AfterAll, IsHistoryOf}
 use Rattle.net_guests.specs.Visits.{HasGuest, Visit}
-use Rattle.net_locks.specs.Turns.{own}
+use Rattle.net_locks.specs.Turns.{own_seen}
 
 lists_from : (c n : ℕ) (log : List Noted) → entries_from (number.Caller c) n (entries log) ≡ map plain (at_from (number.Caller c) n log)
 lists_from c n [] = refl
@@ -40,7 +40,7 @@ AreOne =
 
 module _ (ts : Tasks) (w : World) (r : Roster) (p : Sight) (guests : IsOfGuests w r p.seen) (one : AreOne)
     (but : IsLegalButScripts w (entries p.seen)) (net : noted_net w p.seen ≡ after w (entries p.seen)) (vs : List Visit)
-    (all : (c : ℕ) → c < r.callers → HasGuest c vs) (alone : (v : Visit) → In v vs → own v.caller p ≡ own v.caller v.sight) where
+    (all : (c : ℕ) → c < r.callers → HasGuest c vs) (alone : (v : Visit) → In v vs → own_seen v.caller p ≡ own_seen v.caller v.sight) where
   same_lists : (h : List Entry) → IsHistoryOf ts w vs h → (c : ℕ) → c < caller_count w → of_caller c h ≡ of_caller c (entries p.seen)
   same_lists h is c lt =
       let v = all c (subst (λ (n : ℕ). c < n) (sym guests.callers_are) lt) in

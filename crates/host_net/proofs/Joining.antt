@@ -4,9 +4,9 @@ use Rattle.std.proofs.Common.{None, Some, ◌⊎◌, inl, inr, slice_get, slice_
 use Rattle.net_base.specs.declared.world.World.{World}
 use Rattle.host_net.specs.declared.player.Role.{Role}
 use Rattle.host_net.specs.declared.player.Role.TheVariants as role
-use Rattle.host_net.specs.Groups.{Follows, Grouped, Grouping, IsDealt, all_seats, caller, callers_of, joined, joined_as, joined_at, seat_of, visits}
+use Rattle.host_net.specs.Groups.{FollowsDeal, Grouped, Grouping, IsDealt, all_seats, caller, callers_of, joined, joined_as, joined_at, seat_of, visits}
 use Rattle.host_net.specs.Groups.{with_last}
-use Rattle.host_net.specs.Playing.{HasRole, Playing}
+use Rattle.host_net.specs.Playing.{VisitHasRole, Playing}
 use Rattle.host_net.proofs.Naming.{one_clock}
 use Rattle.host_net.proofs.Seating.{alone_at, dealt_more, follows_more, set_joined, visits_more}
 use Rattle.net_guests.specs.Visits.{Visit}
@@ -30,7 +30,7 @@ pub groups_set : {T : Type 0} (gs : List (Grouped T)) (k : ℕ) (d : Grouped T) 
 groups_set gs k d p new joins = ap (slice_set gs k) joins ∙ set_joined gs k d p
 
 module _ {T : Type 0} (w : World) (n : ℕ) (gs : List (Grouped T)) (dealt : IsDealt w n (all_seats gs)) (p : Playing T) (next : caller p ≡ n)
-    (has : HasRole w (caller p) p.role)
+    (has : VisitHasRole w (caller p) p.role)
     (k : ℕ) (lt : k < length gs) (d : Grouped T) where
   -- the group that the player joins
   pub alone_index : p.role ≡ role.Clock → (slice_index_or gs k d).clock ≡ None
@@ -41,10 +41,10 @@ module _ {T : Type 0} (w : World) (n : ℕ) (gs : List (Grouped T)) (dealt : IsD
       subst (λ (l : List (Grouped T)). IsDealt w (n + 1) (all_seats l)) (sym (groups_set gs k d p new joins))
       (dealt_more w n gs dealt p next has k lt (alone_at w n gs dealt p next has k (one_clock w)))
 
-  pub follows_set : (deal : List ℕ) → Follows deal (all_seats gs) → k ≡ seat_of deal n (length gs) → (new : Grouped T)
-      → new ≡ joined (slice_index_or gs k d) p → Follows deal (all_seats (slice_set gs k new))
+  pub follows_set : (deal : List ℕ) → FollowsDeal deal (all_seats gs) → k ≡ seat_of deal n (length gs) → (new : Grouped T)
+      → new ≡ joined (slice_index_or gs k d) p → FollowsDeal deal (all_seats (slice_set gs k new))
   follows_set deal follows is new joins =
-      subst (λ (l : List (Grouped T)). Follows deal (all_seats l)) (sym (groups_set gs k d p new joins))
+      subst (λ (l : List (Grouped T)). FollowsDeal deal (all_seats l)) (sym (groups_set gs k d p new joins))
       (follows_more w n gs dealt p next has k deal follows is (alone_at w n gs dealt p next has k (one_clock w)))
 
 -- the players of a group, and then its clock

@@ -23,15 +23,15 @@ use Rattle.net_base.specs.Tasks.{Asking, Tasks}
 use Rattle.net_base.specs.Versions.{Tuples}
 use Rattle.duties.specs.Queue.{work_of_duty}
 use Rattle.journal.specs.declared.tokens.Sight.{Sight}
-use Rattle.locked.specs.Acts.{made, without_copy}
-use Rattle.guest_laws.specs.Own.{AreNext, AreTimely, StandsStill}
+use Rattle.locked.specs.Acts.{made, act_without_copy}
+use Rattle.guest_laws.specs.Own.{AreNext, AreTimely, OwnStandsStill}
 use Rattle.guest_laws.specs.Works.{entries, noted_net}
 use Rattle.host_net.specs.declared.player.Role.{Role}
 use Rattle.net_locks.specs.declared.turn.Turn.{Turn}
 use Rattle.net_locks.specs.declared.turn.Turn.TheVariants as turn
-use Rattle.host_net.specs.Playing.{GoesOn, HasMore, HasRole, IsPlayed, IsPlayer, IsUnmoved, IsUnready, Playing, PlaysOn, played_by}
-use Rattle.net_guests.specs.Visits.{IsSame, Takes, Visit}
-use Rattle.net_locks.specs.Turns.{IsFull, Recorded, Stays, Unready, bare, own}
+use Rattle.host_net.specs.Playing.{GoesOn, HasMore, VisitHasRole, IsVisitPlayed, IsPlayer, IsUnmoved, IsUnready, Playing, PlaysOn, played_by}
+use Rattle.net_guests.specs.Visits.{IsSameVisit, TakesPasses, Visit}
+use Rattle.net_locks.specs.Turns.{IsFull, RecordedTurn, StaysOwn, Unready, bare, own_seen}
 use Rattle.host_net.proofs.Continuing.{duty_replies, own_push, own_stays}
 
 abbrev pub playing : {T : Type 0} → Visit → Role → T → Bool → Bool → Playing T
@@ -39,37 +39,37 @@ playing v who t lost counts = record { visit = v; role = who; task = t; lost = l
 
 -- One turn, whatever is done.
 
-module _ (ts : Tasks) (w : World) (a : ActorName) (work : Work) (cites : Option ℕ) (old new : Visit) (same : IsSame old new) where
+module _ (ts : Tasks) (w : World) (a : ActorName) (work : Work) (cites : Option ℕ) (old new : Visit) (same : IsSameVisit old new) where
   abbrev AskedFor : Type 0
   AskedFor = (o : Outcome) → IsAsked old.owed (caller_of w old.caller) (next_by ts w (entries old.sight.seen) old.caller)
       (made a old.caller old.now work cites o).entry
 
   abbrev RecordsIt : ℕ → Reply → Type 0
-  RecordsIt stamp r = Recorded ts w old.caller old.now a work cites old.sight old.owed stamp r new.sight new.owed
+  RecordsIt stamp r = RecordedTurn ts w old.caller old.now a work cites old.sight old.owed stamp r new.sight new.owed
 
-  by_stands : StandsStill w old.caller old.sight.seen new.sight.seen → IsPlayed ts w old → IsPlayed ts w new
+  by_stands : OwnStandsStill w old.caller old.sight.seen new.sight.seen → IsVisitPlayed ts w old → IsVisitPlayed ts w new
   by_stands stands is =
       record {
         nexts = subst (λ (c : ℕ). AreNext ts w c new.sight.seen) (sym same.caller) (stands.nexts ts is.nexts);
         timely = subst (λ (c : ℕ). AreTimely ts w c new.sight.seen) (sym same.caller) (stands.timely ts is.timely);
       }
 
-  by_sight : new.sight ≡ old.sight → IsPlayed ts w old → IsPlayed ts w new
+  by_sight : new.sight ≡ old.sight → IsVisitPlayed ts w old → IsVisitPlayed ts w new
   by_sight sight is =
       record {
         nexts = subst (λ (c : ℕ). AreNext ts w c new.sight.seen) (sym same.caller) (subst (λ (p : Sight). AreNext ts w old.caller p.seen) (sym sight) is.nexts);
         timely = subst (λ (c : ℕ). AreTimely ts w c new.sight.seen) (sym same.caller) (subst (λ (p : Sight). AreTimely ts w old.caller p.seen) (sym sight) is.timely);
       }
 
-  pub by_record : (stamp : ℕ) (r : Reply) → RecordsIt stamp r → AskedFor → IsPlayed ts w old → IsPlayed ts w new
+  pub by_record : (stamp : ℕ) (r : Reply) → RecordsIt stamp r → AskedFor → IsVisitPlayed ts w old → IsVisitPlayed ts w new
   by_record stamp r rec asked is =
       record {
-        nexts = subst (λ (c : ℕ). AreNext ts w c new.sight.seen) (sym same.caller) (rec.nexts (asked (without_copy rec.step.outcome)) is.nexts);
+        nexts = subst (λ (c : ℕ). AreNext ts w c new.sight.seen) (sym same.caller) (rec.nexts (asked (act_without_copy rec.step.outcome)) is.nexts);
         timely = subst (λ (c : ℕ). AreTimely ts w c new.sight.seen) (sym same.caller) (rec.timely is.timely);
       }
 
   -- its own entries are still its turns
-  pub turn_played : (answer : Turn) → Takes ts w a work cites old answer new → AskedFor → IsPlayed ts w old → IsPlayed ts w new
+  pub turn_played : (answer : Turn) → TakesPasses ts w a work cites old answer new → AskedFor → IsVisitPlayed ts w old → IsVisitPlayed ts w new
   turn_played (turn.Recorded stamp r) takes asked is = by_record stamp r takes asked is
   turn_played turn.NotReady takes asked is = by_stands takes.0.stays.stands is
   turn_played turn.Owes takes asked is = absurd takes
@@ -79,18 +79,18 @@ module _ (ts : Tasks) (w : World) (a : ActorName) (work : Work) (cites : Option 
   -- one of them more
   pub more : (stamp : ℕ) (r : Reply) → RecordsIt stamp r → HasMore old new
   more stamp r rec =
-      let x = made a old.caller old.now work cites (without_copy rec.step.outcome) in
+      let x = made a old.caller old.now work cites (act_without_copy rec.step.outcome) in
       let push = own_push old.caller rec.past x refl in (
         (push.0, x),
-        ap (λ (c : ℕ). own c new.sight) same.caller ∙ (ap (at (number.Caller old.caller)) rec.seen
+        ap (λ (c : ℕ). own_seen c new.sight) same.caller ∙ (ap (at (number.Caller old.caller)) rec.seen
             ∙ (push.1 ∙ ap (λ (l : List (ℕ × Noted)). l ++ (push.0, x) ∷ []) rec.alone)),
       )
 
-  pub own_sight : new.sight ≡ old.sight → own new.caller new.sight ≡ own old.caller old.sight
-  own_sight sight = ap (λ (c : ℕ). own c new.sight) same.caller ∙ ap (own old.caller) sight
+  pub own_sight : new.sight ≡ old.sight → own_seen new.caller new.sight ≡ own_seen old.caller old.sight
+  own_sight sight = ap (λ (c : ℕ). own_seen c new.sight) same.caller ∙ ap (own_seen old.caller) sight
 
-  own_stands : Unready w old.caller old.now a work old.sight new.sight → own new.caller new.sight ≡ own old.caller old.sight
-  own_stands is = ap (λ (c : ℕ). own c new.sight) same.caller ∙ is.stays.alone
+  own_stands : Unready w old.caller old.now a work old.sight new.sight → own_seen new.caller new.sight ≡ own_seen old.caller old.sight
+  own_stands is = ap (λ (c : ℕ). own_seen c new.sight) same.caller ∙ is.stays.alone
 
   pub full : IsFull old.caller old.sight → new.sight ≡ old.sight → IsFull new.caller new.sight
   full is sight = subst (λ (c : ℕ). IsFull c new.sight) (sym same.caller) (subst (λ (p : Sight). IsFull old.caller p) (sym sight) is)
@@ -102,13 +102,13 @@ module _ (ts : Tasks) (w : World) (a : ActorName) (work : Work) (cites : Option 
   unready_now is = ap (λ (m : ℕ). actor_step w a ((noted_net w new.sight.seen).actors a) m work) same.now ∙ is.unready
 
   module _ {T : Type 0} (who : Role) (t : T) (lost counts : Bool) (names : new.names ≡ old.names) where
-    unmoved : own new.caller new.sight ≡ own old.caller old.sight → new.owed ≡ old.owed
+    unmoved : own_seen new.caller new.sight ≡ own_seen old.caller old.sight → new.owed ≡ old.owed
         → IsUnmoved (playing old who t lost counts) (playing new who t lost counts)
     unmoved own_is owed = record { own_is = own_is; owed = owed; names = names; task = refl; lost = refl }
 
     -- what its turn came to
-    pub turn_plays : (answer : Turn) → Takes ts w a work cites old answer new
-        → (UnreadyNow → Stays w old.caller old.sight new.sight → new.owed ≡ old.owed → IsUnready ts w new new.owed)
+    pub turn_plays : (answer : Turn) → TakesPasses ts w a work cites old answer new
+        → (UnreadyNow → StaysOwn w old.caller old.sight new.sight → new.owed ≡ old.owed → IsUnready ts w new new.owed)
         → PlaysOn ts w (playing old who t lost counts) (played_by answer) (playing new who t lost counts)
     turn_plays (turn.Recorded stamp r) takes unready = (more stamp r takes, refl)
     turn_plays turn.NotReady takes unready = (unmoved (own_stands takes.0) takes.1, inr (unready (unready_now takes.0) takes.0.stays takes.1))
@@ -117,9 +117,9 @@ module _ (ts : Tasks) (w : World) (a : ActorName) (work : Work) (cites : Option 
     turn_plays turn.Memory takes unready = inl (unmoved (own_sight takes.1) takes.2)
 
 -- what comes next isn't ready
-pub unready_next : (ts : Tasks) (w : World) (old new : Visit) → IsSame old new → (ask : Ask)
+pub unready_next : (ts : Tasks) (w : World) (old new : Visit) → IsSameVisit old new → (ask : Ask)
     → actor_step w ask.actor ((noted_net w new.sight.seen).actors ask.actor) new.now (bare ask.event) ≡ None
-    → Stays w old.caller old.sight new.sight → next_by ts w (entries old.sight.seen) old.caller ≡ Some ask → IsUnready ts w new []
+    → StaysOwn w old.caller old.sight new.sight → next_by ts w (entries old.sight.seen) old.caller ≡ Some ask → IsUnready ts w new []
 unready_next ts w old new same ask unready stays is = λ other comes.
     let found : ask ≡ other = same_Some ask other (sym is ∙ (sym (stays.stands.comes_next ts) ∙ (ap (next_by ts w (entries new.sight.seen)) (sym same.caller) ∙ comes))) in
     subst (λ (x : Ask). actor_step w x.actor ((noted_net w new.sight.seen).actors x.actor) new.now (bare x.event) ≡ None) found unready
@@ -131,7 +131,7 @@ is_script _ = false
 -- A player after a turn.
 
 module _ {T : Type 0} (Goes : Option Asking → Tuples → Script → List Reply → Names → T → Type 0) (ts : Tasks) (w : World) (old new : Visit)
-    (same : IsSame old new) where
+    (same : IsSameVisit old new) where
   pub goes_stay : (s : Script) (t : T) → new.names ≡ old.names → own_replies (entries new.sight.seen) old.caller
       ≡ own_replies (entries old.sight.seen) old.caller
       → GoesOn Goes (ts old.caller) (zone_of w) s old t → GoesOn Goes (ts new.caller) (zone_of w) s new t
@@ -140,22 +140,22 @@ module _ {T : Type 0} (Goes : Option Asking → Tuples → Script → List Reply
       (subst (λ (rs : List Reply). Goes (ts old.caller) (zone_of w) s rs new.names t) (sym replies)
       (subst (λ (l : Names). Goes (ts old.caller) (zone_of w) s (own_replies (entries old.sight.seen) old.caller) l t) (sym names) goes))
 
-  pub still_player : (who : Role) (t : T) (lost : Bool) → IsPlayer Goes ts w old who t lost → IsPlayed ts w new
+  pub still_player : (who : Role) (t : T) (lost : Bool) → IsPlayer Goes ts w old who t lost → IsVisitPlayed ts w new
       → ((s : Script) → GoesOn Goes (ts old.caller) (zone_of w) s old t → GoesOn Goes (ts new.caller) (zone_of w) s new t) → IsPlayer Goes ts w new who t lost
   still_player who t lost is plays goes =
       record {
-        role_is = subst (λ (c : ℕ). HasRole w c who) (sym same.caller) is.role_is;
+        role_is = subst (λ (c : ℕ). VisitHasRole w c who) (sym same.caller) is.role_is;
         plays = plays;
         goes_on = λ s script told. goes s (is.goes_on s (ap (caller_of w) (sym same.caller) ∙ script) told);
       }
 
 -- The first duty.
 
-module _ (ts : Tasks) (w : World) (d : Duty) (old new : Visit) (same : IsSame old new) (names : new.names ≡ old.names) where
-  pub duty_stays : (a : ActorName) (work : Work) (answer : Turn) → Takes ts w a work (Some d.cites) old answer new
+module _ (ts : Tasks) (w : World) (d : Duty) (old new : Visit) (same : IsSameVisit old new) (names : new.names ≡ old.names) where
+  pub duty_stays : (a : ActorName) (work : Work) (answer : Turn) → TakesPasses ts w a work (Some d.cites) old answer new
       → own_replies (entries new.sight.seen) old.caller ≡ own_replies (entries old.sight.seen) old.caller
   duty_stays a work (turn.Recorded stamp r) takes =
-      let x = made a old.caller old.now work (Some d.cites) (without_copy takes.step.outcome) in
+      let x = made a old.caller old.now work (Some d.cites) (act_without_copy takes.step.outcome) in
       ap (λ (l : List Noted). own_replies (entries l) old.caller) takes.seen ∙ (duty_replies old.caller d.cites takes.past x refl refl
       ∙ own_stays old.caller old.sight.seen takes.past takes.alone)
   duty_stays a work turn.NotReady takes = own_stays old.caller old.sight.seen new.sight.seen takes.0.stays.alone
@@ -172,7 +172,7 @@ module _ (ts : Tasks) (w : World) (d : Duty) (old new : Visit) (same : IsSame ol
       (made d.actor old.caller old.now (work_of_duty d) (Some d.cites) o).entry)
       (sym is) refl
 
-  module _ (rest : List Duty) (is : old.owed ≡ d ∷ rest) (answer : Turn) (takes : Takes ts w d.actor (work_of_duty d) (Some d.cites) old answer new) where
+  module _ (rest : List Duty) (is : old.owed ≡ d ∷ rest) (answer : Turn) (takes : TakesPasses ts w d.actor (work_of_duty d) (Some d.cites) old answer new) where
     pub duty_keeps : {T : Type 0} (Goes : Option Asking → Tuples → Script → List Reply → Names → T → Type 0) (who : Role) (t : T) (lost : Bool)
         → IsPlayer Goes ts w old who t lost → IsPlayer Goes ts w new who t lost
     duty_keeps Goes who t lost player =
@@ -188,9 +188,9 @@ module _ (ts : Tasks) (w : World) (d : Duty) (old new : Visit) (same : IsSame ol
 
 -- The copy that a courier takes.
 
-module _ (ts : Tasks) (w : World) (m : ℕ) (old new : Visit) (same : IsSame old new) (names : new.names ≡ old.names)
+module _ (ts : Tasks) (w : World) (m : ℕ) (old new : Visit) (same : IsSameVisit old new) (names : new.names ≡ old.names)
     (courier : caller_of w old.caller ≡ IsCourier m) (free : old.owed ≡ [])
-    (answer : Turn) (takes : Takes ts w (name.Medium m) (bare event.Take) None old answer new) where
+    (answer : Turn) (takes : TakesPasses ts w (name.Medium m) (bare event.Take) None old answer new) where
   take_next : next_by ts w (entries old.sight.seen) old.caller ≡ Some (record { actor = name.Medium m; event = event.Take })
   take_next = ap (λ (k : Caller). next_of_by ts w k (entries old.sight.seen) old.caller) courier
 
@@ -211,7 +211,7 @@ module _ (ts : Tasks) (w : World) (m : ℕ) (old new : Visit) (same : IsSame old
       → IsPlayer Goes ts w old who t lost → IsPlayer Goes ts w new who t lost
   take_keeps Goes who t lost player =
       record {
-        role_is = subst (λ (c : ℕ). HasRole w c who) (sym same.caller) player.role_is;
+        role_is = subst (λ (c : ℕ). VisitHasRole w c who) (sym same.caller) player.role_is;
         plays = turn_played ts w (name.Medium m) (bare event.Take) None old new same answer takes take_asked player.plays;
         goes_on = λ s script told. absurd (no_script s (ap (caller_of w) (sym same.caller) ∙ script));
       }

@@ -18,7 +18,7 @@ use Rattle.net_locks.specs.Standings.{AllStand, StandsAt}
 use Rattle.net_guests.specs.Deciding.{Decided}
 use Rattle.host_net.specs.Groups.{Grouped}
 use Rattle.net_guests.specs.Visits.{IsWith, Visit}
-use Rattle.net_locks.specs.Turns.{own}
+use Rattle.net_locks.specs.Turns.{own_seen}
 
 module _ (ts : Tasks) (w : World) (r : Roster) where
   -- a standing holds after all that the pass has seen with which its caller is
@@ -29,11 +29,11 @@ module _ (ts : Tasks) (w : World) (r : Roster) where
         guest = subst (λ (c : ℕ). IsGuest w r c p v.owed) (sym stands.caller_is) is.guest;
         owes_is = stands.owes_is;
         full_is = stands.full_is ∙ (ap (λ (l : List (ℕ × Noted)). length l == 131072) (sym is.stays.alone)
-            ∙ ap (λ (c : ℕ). length (own c p) == 131072) (sym stands.caller_is));
+            ∙ ap (λ (c : ℕ). length (own_seen c p) == 131072) (sym stands.caller_is));
         next_is = stands.next_is ∙ (sym (is.stays.stands.comes_next ts) ∙ ap (λ (c : ℕ). next_by ts w (entries p.seen) c) (sym stands.caller_is));
         given = stands.given;
         timely = subst (λ (c : ℕ). AreTimely ts w c p.seen) (sym stands.caller_is) (is.stays.stands.timely ts stands.timely);
-        covers = subst (λ (c : ℕ). Covers (own c p) s.touched) (sym stands.caller_is)
+        covers = subst (λ (c : ℕ). Covers (own_seen c p) s.touched) (sym stands.caller_is)
             (subst (λ (l : List (ℕ × Noted)). Covers l s.touched) (sym is.stays.alone) stands.covers);
       }
 

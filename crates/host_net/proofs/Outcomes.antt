@@ -36,10 +36,10 @@ use Rattle.host_net.specs.Advancing.{StayAtOnce, moved, other_players}
 use Rattle.net_guests.specs.Deciding.{Decided, Moves}
 use Rattle.net_locks.specs.Moving.{IsLeast}
 use Rattle.host_net.specs.Groups.{Grouped, all_members, visits}
-use Rattle.host_net.specs.Playing.{GoesOn, HasRole, IsPlayed, IsPlayer, Playing}
+use Rattle.host_net.specs.Playing.{GoesOn, VisitHasRole, IsVisitPlayed, IsPlayer, Playing}
 use Rattle.net_guests.specs.Visits.{HasGuest, IsWith, Visit}
-use Rattle.net_locks.specs.Turns.{Stays, bare, own}
-use Rattle.locked.specs.Acts.{made, without_copy}
+use Rattle.net_locks.specs.Turns.{StaysOwn, bare, own_seen}
+use Rattle.locked.specs.Acts.{made, act_without_copy}
 use Rattle.net_base.proofs.Shared.{number_itself}
 use Rattle.host_net.proofs.Continuing.{own_stays}
 
@@ -47,10 +47,10 @@ use Rattle.host_net.proofs.Continuing.{own_stays}
 
 module _ {T : Type 0} (Goes : Option Asking → Tuples → Script → List Reply → Names → T → Type 0) (ts : Tasks) (w : World) where
   pub player_stays : (old new : Visit) (who : Role) (t : T) (lost : Bool) → IsPlayer Goes ts w old who t lost → new.caller ≡ old.caller
-      → new.names ≡ old.names → Stays w old.caller old.sight new.sight → IsPlayer Goes ts w new who t lost
+      → new.names ≡ old.names → StaysOwn w old.caller old.sight new.sight → IsPlayer Goes ts w new who t lost
   player_stays old new who t lost is caller names stays =
       record {
-        role_is = subst (λ (c : ℕ). HasRole w c who) (sym caller) is.role_is;
+        role_is = subst (λ (c : ℕ). VisitHasRole w c who) (sym caller) is.role_is;
         plays = record {
           nexts = subst (λ (c : ℕ). AreNext ts w c new.sight.seen) (sym caller) (stays.stands.nexts ts is.plays.nexts);
           timely = subst (λ (c : ℕ). AreTimely ts w c new.sight.seen) (sym caller) (stays.stands.timely ts is.plays.timely);
@@ -67,17 +67,17 @@ module _ {T : Type 0} (Goes : Option Asking → Tuples → Script → List Reply
 
   -- the clock's player has no task
   pub clock_player : (old new : Visit) (who : Role) (t : T) (lost : Bool) → IsPlayer Goes ts w old who t lost → new.caller ≡ old.caller
-      → caller_of w old.caller ≡ IsClock → IsPlayed ts w new → IsPlayer Goes ts w new who t lost
+      → caller_of w old.caller ≡ IsClock → IsVisitPlayed ts w new → IsPlayer Goes ts w new who t lost
   clock_player old new who t lost is caller clock plays =
       record {
-        role_is = subst (λ (c : ℕ). HasRole w c who) (sym caller) is.role_is;
+        role_is = subst (λ (c : ℕ). VisitHasRole w c who) (sym caller) is.role_is;
         plays = plays;
         goes_on = λ s script told. absurd (no_script w old.caller s clock (ap (caller_of w) (sym caller) ∙ script));
       }
 
 -- what the clock recorded came next, and in time
 pub clock_played : (ts : Tasks) (w : World) (r : Roster) (vs : List Visit) (old : Visit) (answer : Advance) (new : Visit) → Advances ts w r vs old answer new
-    → IsWith w r old old.sight → IsPlayed ts w old → IsPlayed ts w new
+    → IsWith w r old old.sight → IsVisitPlayed ts w old → IsVisitPlayed ts w new
 clock_played ts w r vs old answer new a mine is =
     let stands = (a.gathers.kept old mine).stays.stands in
     record {
@@ -123,23 +123,23 @@ move_owes w actors stamp m step = append-nil (owed_ticks w actors name.Clock sta
 -- a move of the same caller at the same moment is one
 same_move : (u v : Visit) (m : ℕ) (step : Step Actor) → u.caller ≡ v.caller → u.now ≡ v.now → moved u m step ≡ moved v m step
 same_move u v m step caller now =
-    ap (λ (c : ℕ). made name.Clock c u.now (bare (event.Move m)) None (without_copy step.outcome)) caller
-    ∙ ap (λ (n : ℕ). made name.Clock v.caller n (bare (event.Move m)) None (without_copy step.outcome)) now
+    ap (λ (c : ℕ). made name.Clock c u.now (bare (event.Move m)) None (act_without_copy step.outcome)) caller
+    ∙ ap (λ (n : ℕ). made name.Clock v.caller n (bare (event.Move m)) None (act_without_copy step.outcome)) now
 
 module _ {T : Type 0} (ts : Tasks) (w : World) (r : Roster) (gs lent : List (Grouped T)) (p q : Playing T) (answer : Advance)
     (a : Advances ts w r (visits (other_players lent)) p.visit answer q.visit)
     (placed : (x : Playing T) → In x (all_members gs) → In x (other_players lent) ⊎ (x ≡ p)) (mine : IsWith w r p.visit p.visit.sight)
     (all : (c : ℕ) → c < r.callers → HasGuest c (visits (all_members gs)))
     (one : AreOne) (but : IsLegalButScripts w (entries a.at.sight.seen)) (net : noted_net w a.at.sight.seen ≡ after w (entries a.at.sight.seen)) where
-  alone : (v : Visit) → In v (visits (all_members gs)) → own v.caller a.at.sight ≡ own v.caller v.sight
+  alone : (v : Visit) → In v (visits (all_members gs)) → own_seen v.caller a.at.sight ≡ own_seen v.caller v.sight
   alone v there =
       let found = in_visits v (all_members gs) there in
-      subst (λ (u : Visit). own u.caller a.at.sight ≡ own u.caller u.sight) (sym found.2) (at_place found.0 (placed found.0 found.1))
+      subst (λ (u : Visit). own_seen u.caller a.at.sight ≡ own_seen u.caller u.sight) (sym found.2) (at_place found.0 (placed found.0 found.1))
     where
-      at_place : (x : Playing T) → In x (other_players lent) ⊎ (x ≡ p) → own x.visit.caller a.at.sight ≡ own x.visit.caller x.visit.sight
+      at_place : (x : Playing T) → In x (other_players lent) ⊎ (x ≡ p) → own_seen x.visit.caller a.at.sight ≡ own_seen x.visit.caller x.visit.sight
       at_place x (inl i) = (a.gathers.taken x.visit (visit_in x (other_players lent) i)).stays.alone
       at_place x (inr e) =
-          subst (λ (y : Playing T). own y.visit.caller a.at.sight ≡ own y.visit.caller y.visit.sight) (sym e) (a.gathers.kept p.visit mine).stays.alone
+          subst (λ (y : Playing T). own_seen y.visit.caller a.at.sight ≡ own_seen y.visit.caller y.visit.sight) (sym e) (a.gathers.kept p.visit mine).stays.alone
 
   pub clock_told : (K : Net → Type 0) → K (noted_net w a.at.sight.seen) → AfterAll ts w (visits (all_members gs)) K
   clock_told K holds = after_all ts w r a.at.sight a.guests one but net (visits (all_members gs)) all alone K holds
@@ -148,17 +148,17 @@ module _ {T : Type 0} (ts : Tasks) (w : World) (r : Roster) (gs lent : List (Gro
   history_is : (h : List Entry) → IsHistoryOf ts w (visits (all_members gs)) h → h ≡ entries a.at.sight.seen
   history_is h is = one_history ts w r a.at.sight a.guests one but net (visits (all_members gs)) all alone h is
 
-  same_entries : own q.visit.caller q.visit.sight ≡ own p.visit.caller a.to.sight
+  same_entries : own_seen q.visit.caller q.visit.sight ≡ own_seen p.visit.caller a.to.sight
   same_entries =
-      ap (λ (c : ℕ). own c q.visit.sight) a.caller_is ∙ ap (at (number.Caller p.visit.caller)) a.seen_is
+      ap (λ (c : ℕ). own_seen c q.visit.sight) a.caller_is ∙ ap (at (number.Caller p.visit.caller)) a.seen_is
 
-  stays : own p.visit.caller a.at.sight ≡ own p.visit.caller p.visit.sight
+  stays : own_seen p.visit.caller a.at.sight ≡ own_seen p.visit.caller p.visit.sight
   stays = (a.gathers.kept p.visit mine).stays.alone
 
   rested : a.to ≡ a.at → HasRested p.visit q.visit
   rested same =
       record {
-        own_is = same_entries ∙ (ap (λ (v : Visit). own p.visit.caller v.sight) same ∙ stays);
+        own_is = same_entries ∙ (ap (λ (v : Visit). own_seen p.visit.caller v.sight) same ∙ stays);
         owed_is = a.owed_is ∙ (ap (λ (v : Visit). v.owed) same ∙ a.owed_at);
         now_is = a.now_is ∙ (ap (λ (v : Visit). v.now) same ∙ a.now_at);
       }
@@ -167,8 +167,8 @@ module _ {T : Type 0} (ts : Tasks) (w : World) (r : Roster) (gs lent : List (Gro
     past_is : d.entry.turn.past ≡ a.at.sight.seen
     past_is = d.entry.whole
 
-    gains : own q.visit.caller q.visit.sight
-        ≡ own p.visit.caller p.visit.sight ++ (d.entry.stamp, moved p.visit m d.entry.turn.step) ∷ []
+    gains : own_seen q.visit.caller q.visit.sight
+        ≡ own_seen p.visit.caller p.visit.sight ++ (d.entry.stamp, moved p.visit m d.entry.turn.step) ∷ []
     gains =
         let t = d.entry.turn in
         let c = p.visit.caller in
@@ -177,7 +177,7 @@ module _ {T : Type 0} (ts : Tasks) (w : World) (r : Roster) (gs lent : List (Gro
         ∙ (pushed c d.entry.stamp t.past (moved a.at m t.step) a.caller_at t.stamp_is
         ∙ (ap (λ (l : List (ℕ × Noted)). l ++ (d.entry.stamp, moved a.at m t.step) ∷ [])
         (ap (at (number.Caller c)) past_is ∙ stays)
-        ∙ ap (λ (y : Noted). own c p.visit.sight ++ (d.entry.stamp, y) ∷ []) (same_move a.at p.visit m t.step a.caller_at a.now_at))))
+        ∙ ap (λ (y : Noted). own_seen c p.visit.sight ++ (d.entry.stamp, y) ∷ []) (same_move a.at p.visit m t.step a.caller_at a.now_at))))
 
     stamp_is : (h : List Entry) → IsHistoryOf ts w (visits (all_members gs)) h → d.entry.stamp ≡ length h
     stamp_is h is =
@@ -258,18 +258,18 @@ module _ {T : Type 0} (ts : Tasks) (w : World) (r : Roster) (gs lent ks new : Li
     (all : (c : ℕ) → c < r.callers → HasGuest c (visits (all_members gs))) (all_new : (c : ℕ) → c < r.callers → HasGuest c (visits (all_members new)))
     (one : AreOne) (but : IsLegalButScripts w (entries a.at.sight.seen)) (net : noted_net w a.at.sight.seen ≡ after w (entries a.at.sight.seen)) where
   -- where the clock didn't move, the callers know the same entries as before
-  alone_new : a.to ≡ a.at → (v : Visit) → In v (visits (all_members new)) → own v.caller a.at.sight ≡ own v.caller v.sight
+  alone_new : a.to ≡ a.at → (v : Visit) → In v (visits (all_members new)) → own_seen v.caller a.at.sight ≡ own_seen v.caller v.sight
   alone_new rests v there =
       let found = in_visits v (all_members new) there in
-      subst (λ (u : Visit). own u.caller a.at.sight ≡ own u.caller u.sight) (sym found.2) (at_place found.0 (replaced found.0 found.1))
+      subst (λ (u : Visit). own_seen u.caller a.at.sight ≡ own_seen u.caller u.sight) (sym found.2) (at_place found.0 (replaced found.0 found.1))
     where
-      at_place : (x : Playing T) → In x (other_players ks) ⊎ (x ≡ q) → own x.visit.caller a.at.sight ≡ own x.visit.caller x.visit.sight
+      at_place : (x : Playing T) → In x (other_players ks) ⊎ (x ≡ q) → own_seen x.visit.caller a.at.sight ≡ own_seen x.visit.caller x.visit.sight
       at_place x (inl i) =
           let was = all_lent w q.visit.now lent ks back x i in
-          subst (λ (c : ℕ). own c a.at.sight ≡ own c x.visit.sight) (sym was.2.caller_is)
+          subst (λ (c : ℕ). own_seen c a.at.sight ≡ own_seen c x.visit.sight) (sym was.2.caller_is)
           ((a.gathers.taken was.0.visit (visit_in was.0 (other_players lent) was.1)).stays.alone ∙ sym was.2.stays.alone)
       at_place x (inr e) =
-          subst (λ (y : Playing T). own y.visit.caller a.at.sight ≡ own y.visit.caller y.visit.sight) (sym e)
+          subst (λ (y : Playing T). own_seen y.visit.caller a.at.sight ≡ own_seen y.visit.caller y.visit.sight) (sym e)
           (ap (at (number.Caller q.visit.caller)) (sym (a.seen_is ∙ ap (λ (v : Visit). v.sight.seen) rests)))
 
   told : (K : Net → Type 0) → K (noted_net w a.at.sight.seen) → AfterAll ts w (visits (all_members gs)) K

@@ -6,7 +6,7 @@ use Rattle.net_base.specs.declared.world.World.{World}
 use Rattle.net_base.specs.Steps.{Names}
 use Rattle.net_base.specs.Tasks.{Asking, Tasks}
 use Rattle.net_base.specs.Versions.{Tuples}
-use Rattle.host_net.specs.Playing.{AreGoing, ArePlayed, IsGoing, IsPlayed, guests_of}
+use Rattle.host_net.specs.Playing.{AreGoing, AreVisitsPlayed, IsGoing, IsVisitPlayed, guests_of}
 use Rattle.host_net.proofs.Seating.{plays_more}
 use Rattle.net_guests.specs.Visits.{Visit}
 
@@ -19,10 +19,10 @@ module _ {T : Type 0} where
       on [] = refl
       on (z ∷ zs) = ap (λ (l : List Visit). z.0 ∷ l) (on zs)
 
-  pub plays_part : (ts : Tasks) (w : World) (xs ys : List (Visit × T)) (x : Visit × T) → ys ≡ xs ++ x ∷ [] → ArePlayed ts w (guests_of xs) → IsPlayed ts w x.0
-      → ArePlayed ts w (guests_of ys)
+  pub plays_part : (ts : Tasks) (w : World) (xs ys : List (Visit × T)) (x : Visit × T) → ys ≡ xs ++ x ∷ [] → AreVisitsPlayed ts w (guests_of xs) → IsVisitPlayed ts w x.0
+      → AreVisitsPlayed ts w (guests_of ys)
   plays_part ts w xs ys x is are one =
-      subst (λ (l : List Visit). ArePlayed ts w l) (sym (guests_push xs ys x is)) (plays_more ts w (guests_of xs) x.0 are one)
+      subst (λ (l : List Visit). AreVisitsPlayed ts w l) (sym (guests_push xs ys x is)) (plays_more ts w (guests_of xs) x.0 are one)
 
   module _ (Goes : Option Asking → Tuples → Script → List Reply → Names → T → Type 0) (ts : Tasks) (w : World) where
     going_more : (xs : List (Visit × T)) (x : Visit × T) → AreGoing Goes ts w xs → IsGoing Goes ts w x → AreGoing Goes ts w (xs ++ x ∷ [])

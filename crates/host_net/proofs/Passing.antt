@@ -11,7 +11,7 @@ use Rattle.net_guests.specs.Visits.{IsWith, Visit}
 use Rattle.host_net.proofs.Lending.{advances_on, lent_on}
 use Rattle.host_net.specs.declared.player.Role.{Role}
 use Rattle.host_net.specs.Advancing.{Advances, AreBack, AreLent, other_players}
-use Rattle.host_net.specs.Groups.{Apart, Grouped, NotIn, callers_of, visits}
+use Rattle.host_net.specs.Groups.{GroupsApart, Grouped, NotIn, callers_of, visits}
 use Rattle.host_net.specs.Playing.{Playing}
 use Rattle.net_base.proofs.Shared.{apart_turned}
 
@@ -27,7 +27,7 @@ OthersStay w r cs p p' = (v : Visit) → NotIn v.caller cs → IsWith w r v p �
 module _ {T : Type 0} (ts : Tasks) (w : World) (r : Roster) (who : Role) (task : T) (lost counts : Bool) (me clock now_clock : Visit)
     (one : Playing T) (others ps : List (Playing T)) (gs : List (Grouped T))
     (is_one : player me who task lost counts ≡ one) (parts : ps ≡ one ∷ others) (is_clock : clock ≡ now_clock) (ss : List Standing)
-    (apart : Apart (now_clock.caller ∷ callers_of (ps ++ other_players gs)))
+    (apart : GroupsApart (now_clock.caller ∷ callers_of (ps ++ other_players gs)))
     (lent : AreLent ts w r (visits (ps ++ other_players gs)) now_clock.sight ss)
     (with : Visit) (with_is : with ≡ with_sight clock with.sight) (lent_one : IsWith w r me with.sight)
     (had_still : (v : Visit) → IsWith w r v clock.sight → IsWith w r v with.sight) where
@@ -37,10 +37,10 @@ module _ {T : Type 0} (ts : Tasks) (w : World) (r : Roster) (who : Role) (task :
   lists : ps ++ other_players gs ≡ player me who task lost counts ∷ left
   lists = ap (λ (l : List (Playing T)). l ++ other_players gs) (parts ∙ ap (λ (x : Playing T). x ∷ others) (sym is_one))
 
-  apart_here : Apart (clock.caller ∷ me.caller ∷ callers_of left)
+  apart_here : GroupsApart (clock.caller ∷ me.caller ∷ callers_of left)
   apart_here =
-      subst (λ (v : Visit). Apart (v.caller ∷ me.caller ∷ callers_of left)) (sym is_clock)
-      (subst (λ (l : List (Playing T)). Apart (now_clock.caller ∷ callers_of l)) lists apart)
+      subst (λ (v : Visit). GroupsApart (v.caller ∷ me.caller ∷ callers_of left)) (sym is_clock)
+      (subst (λ (l : List (Playing T)). GroupsApart (now_clock.caller ∷ callers_of l)) lists apart)
 
   lent_here : AreLent ts w r (me ∷ visits left) clock.sight ss
   lent_here =
@@ -50,9 +50,9 @@ module _ {T : Type 0} (ts : Tasks) (w : World) (r : Roster) (who : Role) (task :
   with_caller : with.caller ≡ clock.caller
   with_caller = ap (λ (v : Visit). v.caller) with_is
 
-  pub next_apart : Apart (with.caller ∷ callers_of left)
+  pub next_apart : GroupsApart (with.caller ∷ callers_of left)
   next_apart =
-      subst (λ (c : ℕ). Apart (c ∷ callers_of left)) (sym with_caller) (apart_here.0.1, apart_here.1.1)
+      subst (λ (c : ℕ). GroupsApart (c ∷ callers_of left)) (sym with_caller) (apart_here.0.1, apart_here.1.1)
 
   pub next_lent : AreLent ts w r (visits left) with.sight ss
   next_lent = lent_on ts w r me (visits left) clock.sight with.sight ss lent_here had_still lent_one

@@ -19,7 +19,7 @@ use Rattle.host_net.proofs.Standings.{all_clocks, clock_apart, clock_seated, has
 use Rattle.host_net.proofs.Taking.{NoClocks, all_placed, clock_among, emptied, emptied_again, filled, filled_at, filled_kept, filled_others}
 use Rattle.host_net.proofs.Taking.{none_left, others_stay, place_back, seats_kept, still_none}
 use Rattle.host_net.specs.Advancing.{Advanced, Advances, AreLent, AreStandings, GroupsAreBack, GroupsAreKept, IsClockKept, IsTaken, StayAtOnce, other_players}
-use Rattle.host_net.specs.Groups.{Apart, AreUpTo, Grouped, IsDealt, all_callers, all_members, all_seats, caller, callers_of, visits}
+use Rattle.host_net.specs.Groups.{GroupsApart, AreUpTo, Grouped, IsDealt, all_callers, all_members, all_seats, caller, callers_of, visits}
 use Rattle.host_net.specs.Playing.{Playing}
 use Rattle.net_guests.specs.Visits.{HasGuest, IsWith}
 
@@ -50,9 +50,9 @@ module _ {T : Type 0} (ts : Tasks) (w : World) (r : Roster) (gs lent : List (Gro
   same_others : other_players lent ≡ other_players gs
   same_others = ap other_players taken.new_is ∙ others_stay gs place taken.group taken.there
 
-  pub clock_alone : Apart (caller p ∷ callers_of (other_players lent))
+  pub clock_alone : GroupsApart (caller p ∷ callers_of (other_players lent))
   clock_alone =
-      subst (λ (l : List (Playing T)). Apart (caller p ∷ callers_of l)) (sym same_others)
+      subst (λ (l : List (Playing T)). GroupsApart (caller p ∷ callers_of l)) (sym same_others)
       (clock_apart w (caller p) gs is_clock dealt.seated dealt.callers.apart)
 
   placed : (x : Playing T) → In x (all_members gs) → In x (other_players lent) ⊎ (x ≡ p)

@@ -15,10 +15,10 @@ use Rattle.net_base.specs.Stamped.{In}
 use Rattle.net_base.specs.Tasks.{Tasks}
 use Rattle.host_net.specs.declared.player.Role.{Role}
 use Rattle.host_net.specs.declared.player.Role.TheVariants as role
-use Rattle.host_net.specs.Groups.{Apart, AreUpTo, AreWaiting, Follows, Grouped, Inserts, IsDealt, IsSeated, NotIn, Seats, all_callers, all_members}
+use Rattle.host_net.specs.Groups.{GroupsApart, AreUpTo, AreWaiting, FollowsDeal, Grouped, Inserts, IsDealt, IsSeated, NotIn, Seats, all_callers, all_members}
 use Rattle.host_net.specs.Groups.{all_seats, caller, callers_in, callers_of, joined, joined_as, joined_at, members, seat_of, seats, visits}
 use Rattle.host_net.specs.Groups.{with_last}
-use Rattle.host_net.specs.Playing.{ArePlayed, HasRole, IsPlayed, IsWaiting, Playing}
+use Rattle.host_net.specs.Playing.{AreVisitsPlayed, VisitHasRole, IsVisitPlayed, IsWaiting, Playing}
 use Rattle.net_guests.specs.Visits.{HasGuest, Visit}
 use Rattle.net_base.proofs.Shared.{apart_turned, in_front, in_back, in_parts, in_of_get}
 
@@ -59,7 +59,7 @@ not_in_more : (d n : ℕ) (xs ys : List ℕ) → (d == n) ≡ false → NotIn d 
 not_in_more d n [] ys other not_in = (other, not_in)
 not_in_more d n (x ∷ xs) ys other not_in = (not_in.0, not_in_more d n xs ys other not_in.1)
 
-apart_more : (n : ℕ) (xs ys : List ℕ) → Apart (xs ++ ys) → NotIn n (xs ++ ys) → Apart (xs ++ n ∷ ys)
+apart_more : (n : ℕ) (xs ys : List ℕ) → GroupsApart (xs ++ ys) → NotIn n (xs ++ ys) → GroupsApart (xs ++ n ∷ ys)
 apart_more n [] ys apart not_in = (not_in, apart)
 apart_more n (x ∷ xs) ys apart not_in = (not_in_more x n xs ys (apart_turned n x not_in.0) apart.0, apart_more n xs ys apart.1 not_in.1)
 
@@ -139,7 +139,7 @@ module _ {T : Type 0} where
       which c (inr (inl same)) = λ clock. other (ap (caller_of w) (sym same) ∙ clock)
       which c (inr (inr none)) = absurd none
 
-  pub group_seated : (w : World) (r : Role) (g : Grouped T) (p : Playing T) → HasRole w (caller p) r → IsSeated w (seats g)
+  pub group_seated : (w : World) (r : Role) (g : Grouped T) (p : Playing T) → VisitHasRole w (caller p) r → IsSeated w (seats g)
       → IsSeated w (seats (joined_as r g p))
   group_seated w role.Clock g p has is = record { clock_is = has; others_are = is.others_are }
   group_seated w role.Script g p has is = other_seats w g p is (λ clock. true≢false (ap is_clock (sym clock ∙ has.1)))
@@ -215,13 +215,13 @@ in_all (x ∷ ss) s c (inl here) there = in_front c (callers_in x) (all_callers 
 in_all (x ∷ ss) s c (inr behind) there = in_back c (callers_in x) (all_callers ss) (in_all ss s c behind there)
 
 module _ {T : Type 0} (w : World) (n : ℕ) (gs : List (Grouped T)) (dealt : IsDealt w n (all_seats gs)) (p : Playing T) (next : caller p ≡ n)
-    (has : HasRole w (caller p) p.role) (place : ℕ) where
+    (has : VisitHasRole w (caller p) p.role) (place : ℕ) where
   alone_from : (one : (a b : ℕ) → caller_of w a ≡ IsClock → caller_of w b ≡ IsClock → a ≡ b) → (g : Grouped T) → In (seats g) (all_seats gs)
       → p.role ≡ role.Clock → g.clock ≡ None
   alone_from one g there clock = by_clock g.clock refl
     where
       is_clock_too : caller_of w n ≡ IsClock
-      is_clock_too = ap (caller_of w) (sym next) ∙ subst (λ (r : Role). HasRole w (caller p) r) clock has
+      is_clock_too = ap (caller_of w) (sym next) ∙ subst (λ (r : Role). VisitHasRole w (caller p) r) clock has
 
       by_clock : (o : Option (Playing T)) → g.clock ≡ o → g.clock ≡ None
       by_clock None is = is
@@ -253,7 +253,7 @@ module _ {T : Type 0} (w : World) (n : ℕ) (gs : List (Grouped T)) (dealt : IsD
       subst (λ (x : Seats). IsSeated w x) (sym new.is)
       (group_seated w p.role new.group p has (dealt.seated (seats new.group) (in_of_get (all_seats gs) j (seats new.group) (get_seats gs j new.group new.there))))
 
-  placed_at : (deal : List ℕ) → Follows deal (all_seats gs) → place ≡ seat_of deal n (length gs) → IsAlone place gs p → (j : ℕ) (s : Seats) (c : ℕ)
+  placed_at : (deal : List ℕ) → FollowsDeal deal (all_seats gs) → place ≡ seat_of deal n (length gs) → IsAlone place gs p → (j : ℕ) (s : Seats) (c : ℕ)
       → (slice_get (all_seats gs) j ≡ Some s) ⊎ Joined place gs p j s → In c (callers_in s) → seat_of deal c (length (all_seats gs)) ≡ j
   placed_at deal follows is alone j s c (inl old) there = follows j s c old there
   placed_at deal follows is alone j s c (inr new) there = which (inserted (caller p) c (callers_in (seats new.group)) (callers_in (seats (joined new.group p))) inserts among)
@@ -282,8 +282,8 @@ module _ {T : Type 0} (w : World) (n : ℕ) (gs : List (Grouped T)) (dealt : IsD
       }
 
   -- and it is the one that the deal says
-  pub follows_more : (deal : List ℕ) → Follows deal (all_seats gs) → place ≡ seat_of deal n (length gs) → IsAlone place gs p
-      → Follows deal (all_seats (joined_at place gs p))
+  pub follows_more : (deal : List ℕ) → FollowsDeal deal (all_seats gs) → place ≡ seat_of deal n (length gs) → IsAlone place gs p
+      → FollowsDeal deal (all_seats (joined_at place gs p))
   follows_more deal follows is alone j s c there among =
       let long : length (all_seats (joined_at place gs p)) ≡ length (all_seats gs) = seats_long (joined_at place gs p)
       ∙ (joined_long place gs p ∙ sym seats_many) in
@@ -343,7 +343,7 @@ none_dealt w gs some are =
       seated = λ s there. no_others w s (are s there);
     }
 
-pub none_follow : {T : Type 0} (deal : List ℕ) (gs : List (Grouped T)) → AreEmpty gs → Follows deal (all_seats gs)
+pub none_follow : {T : Type 0} (deal : List ℕ) (gs : List (Grouped T)) → AreEmpty gs → FollowsDeal deal (all_seats gs)
 none_follow deal gs are k s c is there = absurd (subst (λ (l : List ℕ). In c l) (are s (in_of_get (all_seats gs) k s is)) there)
 
 -- What is set at a place.
@@ -494,10 +494,10 @@ module _ {T : Type 0} where
       ∙ so_far))
 
 -- each of these guests was played, and one more
-pub plays_more : (ts : Tasks) (w : World) (vs : List Visit) (v : Visit) → ArePlayed ts w vs → IsPlayed ts w v → ArePlayed ts w (vs ++ v ∷ [])
+pub plays_more : (ts : Tasks) (w : World) (vs : List Visit) (v : Visit) → AreVisitsPlayed ts w vs → IsVisitPlayed ts w v → AreVisitsPlayed ts w (vs ++ v ∷ [])
 plays_more ts w vs v are is u there = which (in_parts u vs (v ∷ []) there)
   where
-    which : In u vs ⊎ In u (v ∷ []) → IsPlayed ts w u
+    which : In u vs ⊎ In u (v ∷ []) → IsVisitPlayed ts w u
     which (inl first) = are u first
-    which (inr (inl same)) = subst (λ (x : Visit). IsPlayed ts w x) (sym same) is
+    which (inr (inl same)) = subst (λ (x : Visit). IsVisitPlayed ts w x) (sym same) is
     which (inr (inr none)) = absurd none

@@ -15,8 +15,8 @@ use Rattle.journal.specs.declared.law.Roster.{Roster}
 use Rattle.net_locks.specs.declared.clock.Standing.{Standing}
 use Rattle.net_guests.proofs.Shared.{apart_test}
 use Rattle.host_net.proofs.Taking.{ClockIs, Clocks, all_callers_are, all_not, caller_in, in_visits, of_both, of_callers, others_apart, visit_in}
-use Rattle.host_net.specs.Advancing.{Adds, AreLent, AreStandings, IsStanding, other_players}
-use Rattle.host_net.specs.Groups.{Apart, AreUpTo, Grouped, IsSeated, Seats, all_callers, all_members, all_seats, caller, callers_of}
+use Rattle.host_net.specs.Advancing.{AddsToGroups, AreLent, AreStandings, IsStanding, other_players}
+use Rattle.host_net.specs.Groups.{GroupsApart, AreUpTo, Grouped, IsSeated, Seats, all_callers, all_members, all_seats, caller, callers_of}
 use Rattle.host_net.specs.Groups.{members, seats, visits, with_last}
 use Rattle.host_net.specs.Playing.{Playing}
 use Rattle.net_guests.specs.Visits.{HasGuest, IsWith, Visit}
@@ -41,7 +41,7 @@ standings_more ts w [] vs (s ∷ ss) rest one two = absurd one
 standings_more ts w (u ∷ us) vs [] rest one two = absurd one
 standings_more ts w (u ∷ us) vs (s ∷ ss) rest one two = (one.0, standings_more ts w us vs ss rest one.1 two)
 
-pub adds_on : (ts : Tasks) (w : World) (us vs : List Visit) (old mid new : List Standing) → Adds ts w us old mid → Adds ts w vs mid new → Adds ts w (us ++ vs) old new
+pub adds_on : (ts : Tasks) (w : World) (us vs : List Visit) (old mid new : List Standing) → AddsToGroups ts w us old mid → AddsToGroups ts w vs mid new → AddsToGroups ts w (us ++ vs) old new
 adds_on ts w us vs old mid new one two =
     record {
       added = one.added ++ two.added;
@@ -49,7 +49,7 @@ adds_on ts w us vs old mid new one two =
       standings = standings_more ts w us vs one.added two.added one.standings two.standings;
     }
 
-pub adds_one : (ts : Tasks) (w : World) (v : Visit) (s : Standing) (old new : List Standing) → IsStanding ts w v s → new ≡ old ++ s ∷ [] → Adds ts w (v ∷ []) old new
+pub adds_one : (ts : Tasks) (w : World) (v : Visit) (s : Standing) (old new : List Standing) → IsStanding ts w v s → new ≡ old ++ s ∷ [] → AddsToGroups ts w (v ∷ []) old new
 adds_one ts w v s old new is behind = record { added = s ∷ []; behind = behind; standings = (is, tt) }
 
 standing_in : (ts : Tasks) (w : World) (vs : List Visit) (ss : List Standing) → AreStandings ts w vs ss → (s : Standing) → In s ss
@@ -71,22 +71,22 @@ standing_for ts w (x ∷ vs) (t ∷ ss) are v (inr there) = let found = standing
 -- The standings of players, one more at a time.
 module _ {T : Type 0} (ts : Tasks) (w : World) where
   pub adds_player : (ps : List (Playing T)) (i : ℕ) (p : Playing T) (old mid new : List Standing) (s : Standing) → i < length ps → p ≡ get_or ps i p
-      → Adds ts w (visits (take i ps)) old mid → IsStanding ts w p.visit s → new ≡ mid ++ s ∷ [] → Adds ts w (visits (take (i + 1) ps)) old new
+      → AddsToGroups ts w (visits (take i ps)) old mid → IsStanding ts w p.visit s → new ≡ mid ++ s ∷ [] → AddsToGroups ts w (visits (take (i + 1) ps)) old new
   adds_player ps i p old mid new s lt is adds stands push =
-      subst (λ (l : List (Playing T)). Adds ts w (visits l) old new)
+      subst (λ (l : List (Playing T)). AddsToGroups ts w (visits l) old new)
       (sym (take_more ps i p lt ∙ ap (λ (x : Playing T). take i ps ++ x ∷ []) (sym is)))
-      (subst (λ (l : List Visit). Adds ts w l old new) (sym (map-append (λ (x : Playing T). x.visit) (take i ps) (p ∷ [])))
+      (subst (λ (l : List Visit). AddsToGroups ts w l old new) (sym (map-append (λ (x : Playing T). x.visit) (take i ps) (p ∷ [])))
       (adds_on ts w (visits (take i ps)) (p.visit ∷ []) old mid new adds (adds_one ts w p.visit s mid new stands push)))
 
   -- and the clock's behind them
   pub adds_clock : (g : Grouped T) (ps : List (Playing T)) (i : ℕ) (p : Playing T) (old mid new : List Standing) (s : Standing) → length ps ≤ i
-      → ps ≡ g.players → g.clock ≡ Some p → Adds ts w (visits (take i ps)) old mid → IsStanding ts w p.visit s → new ≡ mid ++ s ∷ []
-      → Adds ts w (visits (members g)) old new
+      → ps ≡ g.players → g.clock ≡ Some p → AddsToGroups ts w (visits (take i ps)) old mid → IsStanding ts w p.visit s → new ≡ mid ++ s ∷ []
+      → AddsToGroups ts w (visits (members g)) old new
   adds_clock g ps i p old mid new s le players clock adds stands push =
-      subst (λ (c : Option (Playing T)). Adds ts w (visits (with_last g.players c)) old new) (sym clock)
-      (subst (λ (l : List Visit). Adds ts w l old new) (sym (map-append (λ (x : Playing T). x.visit) g.players (p ∷ [])))
+      subst (λ (c : Option (Playing T)). AddsToGroups ts w (visits (with_last g.players c)) old new) (sym clock)
+      (subst (λ (l : List Visit). AddsToGroups ts w l old new) (sym (map-append (λ (x : Playing T). x.visit) g.players (p ∷ [])))
       (adds_on ts w (visits g.players) (p.visit ∷ []) old mid new
-      (subst (λ (l : List (Playing T)). Adds ts w (visits l) old mid) (take_all i ps le ∙ players) adds) (adds_one ts w p.visit s mid new stands push)))
+      (subst (λ (l : List (Playing T)). AddsToGroups ts w (visits l) old mid) (take_all i ps le ∙ players) adds) (adds_one ts w p.visit s mid new stands push)))
 
   one_more : (gs : List (Grouped T)) (g : Grouped T) → all_members (gs ++ g ∷ []) ≡ all_members gs ++ members g
   one_more [] g = append-nil (members g)
@@ -95,7 +95,7 @@ module _ {T : Type 0} (ts : Tasks) (w : World) where
 
   -- a group more
   pub standings_group : (gs : List (Grouped T)) (i : ℕ) (g : Grouped T) (ss new : List Standing) → i < length gs → g ≡ get_or gs i g
-      → AreStandings ts w (visits (all_members (take i gs))) ss → Adds ts w (visits (members g)) ss new
+      → AreStandings ts w (visits (all_members (take i gs))) ss → AddsToGroups ts w (visits (members g)) ss new
       → AreStandings ts w (visits (all_members (take (i + 1) gs))) new
   standings_group gs i g ss new lt is are adds =
       subst (λ (l : List (Grouped T)). AreStandings ts w (visits (all_members l)) new)
@@ -151,7 +151,7 @@ module _ {T : Type 0} where
 
   -- the clock is none of the others, and no two of these are one caller
   pub clock_apart : (w : World) (k : ℕ) (gs : List (Grouped T)) → caller_of w k ≡ IsClock → ((s : Seats) → In s (all_seats gs) → IsSeated w s)
-      → Apart (all_callers (all_seats gs)) → Apart (k ∷ callers_of (other_players gs))
+      → GroupsApart (all_callers (all_seats gs)) → GroupsApart (k ∷ callers_of (other_players gs))
   clock_apart w k gs clock seated apart = (
     all_not k (callers_of (other_players gs)) (λ d there.
         let found = of_callers d (other_players gs) there in

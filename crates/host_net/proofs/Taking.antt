@@ -13,9 +13,9 @@ use Rattle.net_locks.specs.declared.clock.Advance.{Advance}
 use Rattle.net_locks.specs.declared.clock.Advance.TheVariants as advance
 use Rattle.host_net.specs.Advancing.{AreBack, AreKept, ClockStays, EachIsKept, GroupsAreBack, GroupsAreKept, IsBack, IsClockKept}
 use Rattle.host_net.specs.Advancing.{IsGroupKept, IsKept, other_players}
-use Rattle.host_net.specs.Groups.{Apart, Grouped, NotIn, all_callers, all_members, all_seats, caller, callers_in, callers_of, members, seats, visits, with_last}
+use Rattle.host_net.specs.Groups.{GroupsApart, Grouped, NotIn, all_callers, all_members, all_seats, caller, callers_in, callers_of, members, seats, visits, with_last}
 use Rattle.host_net.specs.Playing.{Playing}
-use Rattle.net_locks.specs.Turns.{Stays}
+use Rattle.net_locks.specs.Turns.{StaysOwn}
 use Rattle.net_guests.specs.Visits.{Visit}
 use Rattle.net_base.proofs.Shared.{number_itself, in_front, in_back}
 
@@ -41,21 +41,21 @@ pub all_not : (c : ℕ) (xs : List ℕ) → ((d : ℕ) → In d xs → (c == d) 
 all_not c [] each = tt
 all_not c (x ∷ xs) each = (each x (inl refl), all_not c xs (λ d there. each d (inr there)))
 
-pub apart_back : (xs ys : List ℕ) → Apart (xs ++ ys) → Apart ys
+pub apart_back : (xs ys : List ℕ) → GroupsApart (xs ++ ys) → GroupsApart ys
 apart_back [] ys apart = apart
 apart_back (x ∷ xs) ys apart = apart_back xs ys apart.1
 
-apart_front : (xs ys : List ℕ) → Apart (xs ++ ys) → Apart xs
+apart_front : (xs ys : List ℕ) → GroupsApart (xs ++ ys) → GroupsApart xs
 apart_front [] ys apart = tt
 apart_front (x ∷ xs) ys apart = (not_front x xs ys apart.0, apart_front xs ys apart.1)
 
-apart_between : (c : ℕ) (xs ys : List ℕ) → Apart (xs ++ ys) → In c xs → NotIn c ys
+apart_between : (c : ℕ) (xs ys : List ℕ) → GroupsApart (xs ++ ys) → In c xs → NotIn c ys
 apart_between c [] ys apart there = absurd there
 apart_between c (x ∷ xs) ys apart (inl is) = subst (λ (n : ℕ). NotIn n ys) (sym is) (not_back x xs ys apart.0)
 apart_between c (x ∷ xs) ys apart (inr there) = apart_between c xs ys apart.1 there
 
 -- where each of some comes from these
-join_apart : (xs ys : List ℕ) → Apart xs → Apart ys → ((c : ℕ) → In c xs → NotIn c ys) → Apart (xs ++ ys)
+join_apart : (xs ys : List ℕ) → GroupsApart xs → GroupsApart ys → ((c : ℕ) → In c xs → NotIn c ys) → GroupsApart (xs ++ ys)
 join_apart [] ys one two between = two
 join_apart (x ∷ xs) ys one two between =
     (join_not x xs ys one.0 (between x (inl refl)), join_apart xs ys one.1 two (λ c there. between c (inr there)))
@@ -65,7 +65,7 @@ join_apart (x ∷ xs) ys one two between =
     join_not c (x ∷ xs) ys one two = (one.0, join_not c xs ys one.1 two)
 
 -- nothing more was seen
-stays_itself : (w : World) (v : Visit) → Stays w v.caller v.sight v.sight
+stays_itself : (w : World) (v : Visit) → StaysOwn w v.caller v.sight v.sight
 stays_itself w v =
     record {
       before = none_more v.sight.seen;
@@ -185,7 +185,7 @@ module _ {T : Type 0} where
 
   -- what stands before the clock has none
   none_before : (k : ℕ) (x : Grouped T) (gs : List (Grouped T)) → ClockIs k x.clock → In k (all_callers (all_seats gs))
-      → Apart (callers_in (seats x) ++ all_callers (all_seats gs)) → x.clock ≡ None
+      → GroupsApart (callers_in (seats x) ++ all_callers (all_seats gs)) → x.clock ≡ None
   none_before k x gs is there apart = by_clock x.clock is refl
     where
       by_clock : (c : Option (Playing T)) → ClockIs k c → x.clock ≡ c → c ≡ None
@@ -196,7 +196,7 @@ module _ {T : Type 0} where
 
   module _ (k : ℕ) (g : Grouped T) (p : Playing T) (is : g.clock ≡ Some p) (at_k : caller p ≡ k) where
     pub none_left : (gs : List (Grouped T)) (place : ℕ) → slice_get gs place ≡ Some g → Clocks k gs
-        → Apart (all_callers (all_seats gs)) → NoClocks (slice_set gs place (emptied g))
+        → GroupsApart (all_callers (all_seats gs)) → NoClocks (slice_set gs place (emptied g))
     none_left [] place there are apart = absurd (none-some g there)
     none_left (x ∷ gs) zero there are apart = (
       refl,
@@ -271,14 +271,14 @@ module _ {T : Type 0} where
       place rest (inr behind) = in_back q (members g) (all_members gs) (rest behind)
 
   -- no two of the others are one caller
-  pub others_apart : (gs : List (Grouped T)) → Apart (all_callers (all_seats gs)) → Apart (callers_of (other_players gs))
+  pub others_apart : (gs : List (Grouped T)) → GroupsApart (all_callers (all_seats gs)) → GroupsApart (callers_of (other_players gs))
   others_apart [] apart = tt
   others_apart (g ∷ gs) apart =
-      subst (λ (l : List ℕ). Apart l) (sym (map-append caller g.players (other_players gs)))
+      subst (λ (l : List ℕ). GroupsApart l) (sym (map-append caller g.players (other_players gs)))
       (join_apart (callers_of g.players) (callers_of (other_players gs)) (front g.clock (apart_front (callers_in (seats g)) (all_callers (all_seats gs)) apart))
       (others_apart gs (apart_back (callers_in (seats g)) (all_callers (all_seats gs)) apart)) between)
     where
-      front : (c : Option (Playing T)) → Apart (with_last (callers_of g.players) (option_map caller c)) → Apart (callers_of g.players)
+      front : (c : Option (Playing T)) → GroupsApart (with_last (callers_of g.players) (option_map caller c)) → GroupsApart (callers_of g.players)
       front None a = a
       front (Some p) a = apart_front (callers_of g.players) (caller p ∷ []) a
 

@@ -25,8 +25,8 @@ use Rattle.host_net.specs.declared.player.Role.{Role}
 use Rattle.host_net.specs.declared.player.Role.TheVariants as role
 use Rattle.net_locks.specs.declared.turn.Turn.{Turn}
 use Rattle.net_locks.specs.declared.turn.Turn.TheVariants as turn
-use Rattle.host_net.specs.Playing.{GoesOn, HasMore, HasRole, Heard, IsPlayed, IsPlayer, IsUnmoved, IsUnready, IsWaiting, PlaysOn, Told, replies_of}
-use Rattle.net_guests.specs.Visits.{Asked, IsSame, Operated, Visit}
+use Rattle.host_net.specs.Playing.{GoesOn, HasMore, VisitHasRole, Heard, IsVisitPlayed, IsPlayer, IsUnmoved, IsUnready, IsWaiting, PlaysOn, ToldReply, replies_of}
+use Rattle.net_guests.specs.Visits.{Asked, IsSameVisit, Operated, Visit}
 use Rattle.net_locks.specs.Turns.{bare}
 use Rattle.host_net.proofs.Continuing.{FitWorks, KeepsActors, own_stays, script_next}
 use Rattle.host_net.proofs.Counting.{one_reply_more, reply_fits}
@@ -63,7 +63,7 @@ module _ {T : Type 0} (asks : T → Names → Option Request) (after : T → Rep
       let nothing : next_by ts w (entries v.sight.seen) v.caller ≡ None = script_next ts w v.caller v.sight.seen s script ∙ comes v s t goes None none in
       inr (subst (λ (ds : List Duty). IsUnready ts w v ds) (sym free) (λ ask comes. absurd (none-some ask (sym nothing ∙ comes))))
 
-  module _ (old new : Visit) (same : IsSame old new) (s : Script) (script : caller_of w old.caller ≡ IsScript s) (t : T) (goes : GoesOn Goes (ts old.caller) (zone_of w) s old t)
+  module _ (old new : Visit) (same : IsSameVisit old new) (s : Script) (script : caller_of w old.caller ≡ IsScript s) (t : T) (goes : GoesOn Goes (ts old.caller) (zone_of w) s old t)
       (q : Request) (asks_it : asks t old.names ≡ Some q) where
     asked_next : (ask : Ask) → planned s.host old.names q ≡ Some ask → next_by ts w (entries old.sight.seen) old.caller ≡ Some ask
     asked_next ask is =
@@ -80,7 +80,7 @@ module _ {T : Type 0} (asks : T → Names → Option Request) (after : T → Rep
         (subst (λ (l : Names). Goes (ts old.caller) (zone_of w) s (replies_of old ++ r ∷ []) l (after t r)) (sym is.names) on))
 
     -- the entry, and what isn't ready
-    pub asked_played : (answer : Turn) → Asked ts w s.host q old answer new → IsPlayed ts w old → IsPlayed ts w new
+    pub asked_played : (answer : Turn) → Asked ts w s.host q old answer new → IsVisitPlayed ts w old → IsVisitPlayed ts w new
     asked_played answer is plays =
         turn_played ts w is.ask.actor (bare is.ask.event) None old new same answer is.takes
         (next_asked ts w old s is.ask script is.free (asked_next is.ask is.asks)) plays
@@ -100,7 +100,7 @@ module _ {T : Type 0} (asks : T → Names → Option Request) (after : T → Rep
 
   -- The turn of a script.
 
-  module _ (old new : Visit) (same : IsSame old new) (who : Role) (t : T) (lost : Bool) (keeps_told : lost ≡ false) (player : IsPlayer Goes ts w old who t lost)
+  module _ (old new : Visit) (same : IsSameVisit old new) (who : Role) (t : T) (lost : Bool) (keeps_told : lost ≡ false) (player : IsPlayer Goes ts w old who t lost)
       (free : old.owed ≡ []) (q : Request) (asks_it : asks t old.names ≡ Some q) (keeps : KeepsActors) (fit : FitWorks) where
     abbrev Operates : Turn → Type 0
     Operates answer = (s : Script) → caller_of w old.caller ≡ IsScript s → Operated ts w s.host q old answer new
@@ -108,12 +108,12 @@ module _ {T : Type 0} (asks : T → Names → Option Request) (after : T → Rep
     goes_from : (s : Script) → caller_of w old.caller ≡ IsScript s → GoesOn Goes (ts old.caller) (zone_of w) s old t
     goes_from s script = player.goes_on s script keeps_told
 
-    kept_role : HasRole w new.caller who
-    kept_role = subst (λ (c : ℕ). HasRole w c who) (sym same.caller) player.role_is
+    kept_role : VisitHasRole w new.caller who
+    kept_role = subst (λ (c : ℕ). VisitHasRole w c who) (sym same.caller) player.role_is
 
     tells : (s : Script) → caller_of w old.caller ≡ IsScript s → (stamp : ℕ) (r : Reply) → Operates (turn.Recorded stamp r)
         → (result : Played) (t' : T) (lost' : Bool)
-        → Told after t lost r result t' lost' → IsPlayer Goes ts w new who t' lost'
+        → ToldReply after t lost r result t' lost' → IsPlayer Goes ts w new who t' lost'
     tells s script stamp r does played.Recorded t' lost' told =
         record {
           role_is = kept_role;
@@ -155,7 +155,7 @@ module _ {T : Type 0} (asks : T → Names → Option Request) (after : T → Rep
     script_keeps s script turn.Memory does result t' lost' heard =
         alike t' lost' heard.1 heard.2 (subst (λ (v : Visit). IsPlayer Goes ts w v who t lost) (sym (does s script).2) player)
 
-    told_plays : (counts : Bool) (result : Played) (r : Reply) (t' : T) (lost' : Bool) → Told after t lost r result t' lost' → HasMore old new
+    told_plays : (counts : Bool) (result : Played) (r : Reply) (t' : T) (lost' : Bool) → ToldReply after t lost r result t' lost' → HasMore old new
         → PlaysOn ts w (playing old who t lost counts) result (playing new who t' lost' counts)
     told_plays counts played.Recorded r t' lost' told more_it = (more_it, told.1)
     told_plays counts played.Waits r t' lost' told more_it = absurd told
@@ -197,17 +197,17 @@ module _ {T : Type 0} (asks : T → Names → Option Request) (after : T → Rep
       → v.owed ≡ [] → asks t v.names ≡ None
       → PlaysOn ts w (playing v who t lost counts) played.Waits (playing v who t lost counts)
   through_plays v who t lost counts script told player free none =
-      let s = subst (λ (r : Role). HasRole w v.caller r) script player.role_is in
+      let s = subst (λ (r : Role). VisitHasRole w v.caller r) script player.role_is in
       (record { own_is = refl; owed = refl; names = refl; task = refl; lost = refl }, through_waits v s.0 t s.1 free (player.goes_on s.0 s.1 told) none)
 
   -- a script's turn
-  module _ (old new : Visit) (same : IsSame old new) (who : Role) (t : T) (lost : Bool) (script : who ≡ role.Script) (told : lost ≡ false)
+  module _ (old new : Visit) (same : IsSameVisit old new) (who : Role) (t : T) (lost : Bool) (script : who ≡ role.Script) (told : lost ≡ false)
       (player : IsPlayer Goes ts w old who t lost)
       (free : old.owed ≡ []) (q : Request) (asks_it : Some q ≡ asks t old.names) (keeps : KeepsActors) (fit : FitWorks) (answer : Turn)
       (does : (s : Script) → caller_of w old.caller ≡ IsScript s → Operated ts w s.host q old answer new) (result : Played) (t' : T) (lost' : Bool)
       (heard : Heard after t lost answer result t' lost') where
     scripted : (s : Script) × (caller_of w old.caller ≡ IsScript s)
-    scripted = subst (λ (r : Role). HasRole w old.caller r) script player.role_is
+    scripted = subst (λ (r : Role). VisitHasRole w old.caller r) script player.role_is
 
     pub heard_keeps : IsPlayer Goes ts w new who t' lost'
     heard_keeps = script_keeps old new same who t lost told player free q (sym asks_it) keeps fit scripted.0 scripted.1 answer does result t' lost' heard

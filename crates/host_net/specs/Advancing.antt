@@ -24,19 +24,19 @@ use Rattle.journal.specs.declared.tokens.Sight.{Sight}
 use Rattle.journal.specs.Closing.{plain}
 use Rattle.due_moments.specs.Marks.{Covers}
 use Rattle.guest_laws.specs.Guests.{IsOfGuests}
-use Rattle.locked.specs.Acts.{made, without_copy}
+use Rattle.locked.specs.Acts.{made, act_without_copy}
 use Rattle.guest_laws.specs.Own.{AreNext, AreTimely}
 use Rattle.guest_laws.specs.Works.{entries}
 use Rattle.net_locks.specs.declared.clock.Advance.{Advance}
 use Rattle.net_locks.specs.declared.clock.Advance.TheVariants as advance
 use Rattle.net_locks.specs.declared.clock.Standing.{Standing}
 use Rattle.net_guests.specs.Deciding.{Decided}
-use Rattle.net_locks.specs.Standings.{HasStanding, IsBare, ask_of}
+use Rattle.net_locks.specs.Standings.{HasStanding, IsBare, standing_ask}
 use Rattle.net_locks.specs.Moving.{IsLeast}
 use Rattle.host_net.specs.Groups.{Grouped, all_members, visits}
 use Rattle.host_net.specs.Playing.{Playing}
-use Rattle.net_guests.specs.Visits.{Gathers, IsWith, Visit}
-use Rattle.net_locks.specs.Turns.{Stays, bare, own}
+use Rattle.net_guests.specs.Visits.{GathersPasses, IsWith, Visit}
+use Rattle.net_locks.specs.Turns.{StaysOwn, bare, own_seen}
 
 -- How a caller stands.
 
@@ -45,11 +45,11 @@ use Rattle.net_locks.specs.Turns.{Stays, bare, own}
 pub record IsStanding (ts : Tasks) (w : World) (v : Visit) (s : Standing) : Type 0 where
   pub caller_is : s.caller ≡ v.caller
   pub owes_is : s.owes ≡ not (length v.owed == 0)
-  pub full_is : s.full ≡ (length (own v.caller v.sight) == 131072)
-  pub next_is : option_map ask_of s.next ≡ next_by ts w (entries v.sight.seen) v.caller
+  pub full_is : s.full ≡ (length (own_seen v.caller v.sight) == 131072)
+  pub next_is : option_map standing_ask s.next ≡ next_by ts w (entries v.sight.seen) v.caller
   pub given : IsBare s.next
   pub timely : AreTimely ts w v.caller v.sight.seen
-  pub covers : Covers (own v.caller v.sight) s.touched
+  pub covers : Covers (own_seen v.caller v.sight) s.touched
 
 -- of each of these callers, in their order
 abbrev pub AreStandings : Tasks → World → List Visit → List Standing → Type 0
@@ -58,7 +58,7 @@ AreStandings ts w (v ∷ vs) (s ∷ ss) = IsStanding ts w v s × AreStandings ts
 AreStandings ts w _ _ = ⊥
 
 -- to the standings so far come those of these callers
-pub record Adds (ts : Tasks) (w : World) (vs : List Visit) (old new : List Standing) : Type 0 where
+pub record AddsToGroups (ts : Tasks) (w : World) (vs : List Visit) (old new : List Standing) : Type 0 where
   pub added : List Standing
   pub behind : new ≡ old ++ added
   pub standings : AreStandings ts w vs added
@@ -74,7 +74,7 @@ pub record AreLent (ts : Tasks) (w : World) (r : Roster) (left : List Visit) (p 
 pub record IsHistoryOf (ts : Tasks) (w : World) (vs : List Visit) (h : List Entry) : Type 0 where
   pub legal : IsLegalBy ts w h
   pub timed : IsTimedBy ts w h
-  pub lists : (v : Visit) → In v vs → of_caller v.caller h ≡ map plain (own v.caller v.sight)
+  pub lists : (v : Visit) → In v vs → of_caller v.caller h ≡ map plain (own_seen v.caller v.sight)
 
 -- so stands the net after it
 abbrev pub AfterAll : Tasks → World → List Visit → (Net → Type 0) → Type 0
@@ -97,19 +97,19 @@ Advanced ts w old advance.Limit new = AfterAll ts w new (λ (net : Net). limited
 Advanced ts w old advance.Memory new = Unit {0}
 
 -- these callers have this moment
-abbrev pub AreAt : ℕ → List Visit → Type 0
-AreAt m vs = (v : Visit) → In v vs → v.now ≡ m
+abbrev pub AreGroupsAt : ℕ → List Visit → Type 0
+AreGroupsAt m vs = (v : Visit) → In v vs → v.now ≡ m
 
 -- unless the clock moved, callers that had one moment have it still
 abbrev pub StayAtOnce : Advance → List Visit → List Visit → Type 0
 StayAtOnce (advance.Moved m) old new = Unit {0}
-StayAtOnce answer old new = (m : ℕ) → AreAt m old → AreAt m new
+StayAtOnce answer old new = (m : ℕ) → AreGroupsAt m old → AreGroupsAt m new
 
 -- What the clock recorded.
 
 -- the entry of its move to this moment, with what its step gives
 abbrev pub moved : Visit → ℕ → Step Actor → Noted
-moved v m step = made name.Clock v.caller v.now (bare (event.Move m)) None (without_copy step.outcome)
+moved v m step = made name.Clock v.caller v.now (bare (event.Move m)) None (act_without_copy step.outcome)
 
 -- Its list gained one entry, its move to this moment, after all that the callers had recorded and where it owed nothing.
 -- Now it owes the ticks of that entry: one for each conversation whose due moment has come, in the order of host, protocol
@@ -117,7 +117,7 @@ moved v m step = made name.Clock v.caller v.now (bare (event.Move m)) None (with
 pub record HasMoved (ts : Tasks) (w : World) (all : List Visit) (m : ℕ) (old new : Visit) : Type 0 where
   pub stamp : ℕ
   pub step : Step Actor
-  pub gains : own new.caller new.sight ≡ own old.caller old.sight ++ (stamp, moved old m step) ∷ []
+  pub gains : own_seen new.caller new.sight ≡ own_seen old.caller old.sight ++ (stamp, moved old m step) ∷ []
   pub free : old.owed ≡ []
   pub stamp_is : (h : List Entry) → IsHistoryOf ts w all h → stamp ≡ length h
   pub stepped : AfterAll ts w all (λ (net : Net).
@@ -126,7 +126,7 @@ pub record HasMoved (ts : Tasks) (w : World) (all : List Visit) (m : ℕ) (old n
 
 -- it recorded nothing, and has the moment that it had
 pub record HasRested (old new : Visit) : Type 0 where
-  pub own_is : own new.caller new.sight ≡ own old.caller old.sight
+  pub own_is : own_seen new.caller new.sight ≡ own_seen old.caller old.sight
   pub owed_is : new.owed ≡ old.owed
   pub now_is : new.now ≡ old.now
 
@@ -143,7 +143,7 @@ pub record Advances (ts : Tasks) (w : World) (r : Roster) (left : List Visit) (o
     : Type 0 where
   pub at : Visit
   pub to : Visit
-  pub gathers : Gathers w r old.sight left at.sight
+  pub gathers : GathersPasses w r old.sight left at.sight
   pub guests : IsOfGuests w r at.sight.seen
   pub caller_at : at.caller ≡ old.caller
   pub now_at : at.now ≡ old.now
@@ -167,7 +167,7 @@ module _ {T : Type 0} where
     pub task_is : new.task ≡ old.task
     pub lost_is : new.lost ≡ old.lost
     pub counts_is : new.counts ≡ old.counts
-    pub stays : Stays w old.visit.caller old.visit.sight new.visit.sight
+    pub stays : StaysOwn w old.visit.caller old.visit.sight new.visit.sight
 
   -- so are these, each in its place
   abbrev pub AreKept : World → List (Playing T) → List (Playing T) → Type 0

@@ -9,19 +9,19 @@ use Rattle.net_base.specs.Next.{answered}
 use Rattle.net_base.specs.Stamped.{In, of_caller}
 use Rattle.journal.specs.Closing.{plain}
 use Rattle.guest_laws.specs.Works.{entries}
-use Rattle.net_locks.specs.Turns.{own}
+use Rattle.net_locks.specs.Turns.{own_seen}
 use Rattle.host_net.specs.Groups.{caller}
 use Rattle.host_net.specs.Playing.{Playing}
 use Rattle.net_guests.specs.Visits.{Visit}
 
 -- each of these callers has in the history the entries that it knows, and owes after it what it knows
 pub record AreAfter (w : World) (vs : List Visit) (h : List Entry) : Type 0 where
-  pub lists : (v : Visit) → In v vs → of_caller v.caller h ≡ map plain (own v.caller v.sight)
+  pub lists : (v : Visit) → In v vs → of_caller v.caller h ≡ map plain (own_seen v.caller v.sight)
   pub owes : (v : Visit) → In v vs → owed w h v.caller ≡ v.owed
 
 -- so many steps of its script are answered by what it knows
-abbrev pub IsAnswered : World → Visit → ℕ → Type 0
-IsAnswered w v n =
+abbrev pub AreStepsAnswered : World → Visit → ℕ → Type 0
+AreStepsAnswered w v n =
     (s : Script) → caller_of w v.caller ≡ IsScript s
     → n ≡ answered w (entries v.sight.seen) v.caller (not (length v.owed == 0)) s
 
@@ -44,4 +44,4 @@ module _ {T : Type 0} where
 
   -- one of these players is the caller's, and so many of its steps are answered
   abbrev pub IsAnsweredOf : World → ℕ → List (Playing T) → ℕ → Type 0
-  IsAnsweredOf w c ps n = (p : Playing T) × In p ps × (caller p ≡ c) × IsAnswered w p.visit n
+  IsAnsweredOf w c ps n = (p : Playing T) × In p ps × (caller p ≡ c) × AreStepsAnswered w p.visit n

@@ -104,15 +104,15 @@ NotIn c [] = Unit {0}
 NotIn c (d ∷ ds) = ((c == d) ≡ false) × NotIn c ds
 
 -- no number stands twice
-abbrev pub Apart : List ℕ → Type 0
-Apart [] = Unit {0}
-Apart (c ∷ cs) = NotIn c cs × Apart cs
+abbrev pub GroupsApart : List ℕ → Type 0
+GroupsApart [] = Unit {0}
+GroupsApart (c ∷ cs) = NotIn c cs × GroupsApart cs
 
 -- the callers up to this number are there, each once, and no others
 pub record AreUpTo (n : ℕ) (cs : List ℕ) : Type 0 where
   pub all : (c : ℕ) → c < n → In c cs
   pub known : (c : ℕ) → In c cs → c < n
-  pub apart : Apart cs
+  pub apart : GroupsApart cs
 
 -- the clock, where it is in this group, has its own place, and the others are scripts and couriers
 pub record IsSeated (w : World) (s : Seats) : Type 0 where
@@ -126,8 +126,8 @@ pub record IsDealt (w : World) (n : ℕ) (ss : List Seats) : Type 0 where
   pub seated : (s : Seats) → In s ss → IsSeated w s
 
 -- each caller stands in the group of its number by the deal
-abbrev pub Follows : List ℕ → List Seats → Type 0
-Follows deal ss = (k : ℕ) (s : Seats) (c : ℕ) → slice_get ss k ≡ Some s → In c (callers_in s) → seat_of deal c (length ss) ≡ k
+abbrev pub FollowsDeal : List ℕ → List Seats → Type 0
+FollowsDeal deal ss = (k : ℕ) (s : Seats) (c : ℕ) → slice_get ss k ≡ Some s → In c (callers_in s) → seat_of deal c (length ss) ≡ k
 
 -- one number more stands somewhere among these
 pub record Inserts (c : ℕ) (old new : List ℕ) : Type 0 where

@@ -24,23 +24,23 @@ use Rattle.host_net.specs.declared.player.Role.{Role}
 use Rattle.host_net.specs.declared.player.Role.TheVariants as role
 use Rattle.net_locks.specs.declared.turn.Turn.{Turn}
 use Rattle.net_locks.specs.declared.turn.Turn.TheVariants as turn
-use Rattle.net_locks.specs.Turns.{IsFull, bare, own}
+use Rattle.net_locks.specs.Turns.{IsFull, bare, own_seen}
 use Rattle.net_guests.specs.Visits.{Visit}
 
 -- who a caller is
-abbrev pub HasRole : World → ℕ → Role → Type 0
-HasRole w c role.Script = (s : Script) × (caller_of w c ≡ IsScript s)
-HasRole w c (role.Courier m) = caller_of w c ≡ IsCourier m
-HasRole w c role.Clock = caller_of w c ≡ IsClock
+abbrev pub VisitHasRole : World → ℕ → Role → Type 0
+VisitHasRole w c role.Script = (s : Script) × (caller_of w c ≡ IsScript s)
+VisitHasRole w c (role.Courier m) = caller_of w c ≡ IsCourier m
+VisitHasRole w c role.Clock = caller_of w c ≡ IsClock
 
 -- each entry of the guest's caller was its first duty or what came next, and each of its moves came in time
-pub record IsPlayed (ts : Tasks) (w : World) (v : Visit) : Type 0 where
+pub record IsVisitPlayed (ts : Tasks) (w : World) (v : Visit) : Type 0 where
   pub nexts : AreNext ts w v.caller v.sight.seen
   pub timely : AreTimely ts w v.caller v.sight.seen
 
 -- and so for each of these guests
-abbrev pub ArePlayed : Tasks → World → List Visit → Type 0
-ArePlayed ts w vs = (v : Visit) → In v vs → IsPlayed ts w v
+abbrev pub AreVisitsPlayed : Tasks → World → List Visit → Type 0
+AreVisitsPlayed ts w vs = (v : Visit) → In v vs → IsVisitPlayed ts w v
 
 -- of guests with what they played, the guests
 abbrev pub guests_of : {T : Type 0} → List (Visit × T) → List Visit
@@ -59,13 +59,13 @@ pub record Playing (T : Type 0) : Type 0 where
 module _ {T : Type 0} (Goes : Option Asking → Tuples → Script → List Reply → Names → T → Type 0) where
   -- the task goes on where the own entries leave what is played in the place of the script
   abbrev pub GoesOn : Option Asking → Tuples → Script → Visit → T → Type 0
-  GoesOn own zone s v t = Goes own zone s (own_replies (entries v.sight.seen) v.caller) v.names t
+  GoesOn own_seen zone s v t = Goes own_seen zone s (own_replies (entries v.sight.seen) v.caller) v.names t
 
   -- what a player keeps: its role is who its caller is, what its caller recorded was its duties and what came next, and
   -- unless a reply was lost for want of memory, the task in the place of a script goes on there
   pub record IsPlayer (ts : Tasks) (w : World) (v : Visit) (who : Role) (t : T) (lost : Bool) : Type 0 where
-    pub role_is : HasRole w v.caller who
-    pub plays : IsPlayed ts w v
+    pub role_is : VisitHasRole w v.caller who
+    pub plays : IsVisitPlayed ts w v
     pub goes_on : (s : Script) → caller_of w v.caller ≡ IsScript s → lost ≡ false → GoesOn (ts v.caller) (zone_of w) s v t
 
   -- what was played in the place of a script goes on there
@@ -93,10 +93,10 @@ pub record IsCounted {T : Type 0} (Plays : Tuples → Script → List Reply → 
   pub before_is : (s : Script) → caller_of w v.caller ≡ IsScript s → before ≡ finished_by (zone_of w) (before_last (replies_of v)) s
 
 -- what stands for the steps before the last reply after a turn: where that recorded an entry, the steps that were finished
-abbrev pub Counts : {T : Type 0} → (Tuples → Script → List Reply → Names → T → Type 0) → T → ℕ → Turn → ℕ → Type 0
-Counts Plays t before (turn.Recorded stamp answer) before' =
+abbrev pub CountsTurn : {T : Type 0} → (Tuples → Script → List Reply → Names → T → Type 0) → T → ℕ → Turn → ℕ → Type 0
+CountsTurn Plays t before (turn.Recorded stamp answer) before' =
     (zone : Tuples) (s : Script) (rs : List Reply) (names : Names) → Plays zone s rs names t → before' ≡ finished_by zone rs s
-Counts Plays t before answer before' = before' ≡ before
+CountsTurn Plays t before answer before' = before' ≡ before
 
 -- Turns.
 
@@ -109,14 +109,14 @@ played_by turn.Limit = played.Waits
 played_by turn.Memory = played.Memory
 
 -- the task took the reply; or it is as before, and the reply is lost
-abbrev pub Told : {T : Type 0} → (T → Reply → T) → T → Bool → Reply → Played → T → Bool → Type 0
-Told after t lost r played.Recorded t' lost' = (t' ≡ after t r) × (lost' ≡ lost)
-Told after t lost r played.Waits t' lost' = ⊥
-Told after t lost r played.Memory t' lost' = (t' ≡ t) × (lost' ≡ true)
+abbrev pub ToldReply : {T : Type 0} → (T → Reply → T) → T → Bool → Reply → Played → T → Bool → Type 0
+ToldReply after t lost r played.Recorded t' lost' = (t' ≡ after t r) × (lost' ≡ lost)
+ToldReply after t lost r played.Waits t' lost' = ⊥
+ToldReply after t lost r played.Memory t' lost' = (t' ≡ t) × (lost' ≡ true)
 
 -- where the turn recorded an entry, the task was told the reply
 abbrev pub Heard : {T : Type 0} → (T → Reply → T) → T → Bool → Turn → Played → T → Bool → Type 0
-Heard after t lost (turn.Recorded stamp answer) result t' lost' = Told after t lost answer result t' lost'
+Heard after t lost (turn.Recorded stamp answer) result t' lost' = ToldReply after t lost answer result t' lost'
 Heard after t lost answer result t' lost' = (result ≡ played_by answer) × (t' ≡ t) × (lost' ≡ lost)
 
 -- a player of this caller at this moment, whose task tells as much
@@ -140,12 +140,12 @@ IsWaiting ts w v = IsFull v.caller v.sight ⊎ IsUnready ts w v v.owed
 
 -- one entry of its own more
 abbrev pub HasMore : Visit → Visit → Type 0
-HasMore old new = (x : ℕ × Noted) × (own new.caller new.sight ≡ own old.caller old.sight ++ x ∷ [])
+HasMore old new = (x : ℕ × Noted) × (own_seen new.caller new.sight ≡ own_seen old.caller old.sight ++ x ∷ [])
 
 module _ {T : Type 0} where
   -- its caller recorded nothing
   pub record IsUnmoved (old new : Playing T) : Type 0 where
-    pub own_is : own new.visit.caller new.visit.sight ≡ own old.visit.caller old.visit.sight
+    pub own_is : own_seen new.visit.caller new.visit.sight ≡ own_seen old.visit.caller old.visit.sight
     pub owed : new.visit.owed ≡ old.visit.owed
     pub names : new.visit.names ≡ old.visit.names
     pub task : new.task ≡ old.task

@@ -6,10 +6,10 @@ ghost use Rattle.net_base.specs.Next.{next_by};
 ghost use Rattle.net_base.specs.World.{IsWorld};
 ghost use Rattle.guest_laws.specs.Guests.{IsGuest};
 ghost use Rattle.guest_laws.specs.Works.{entries};
-ghost use Rattle.host_net.specs.Advancing.{Adds, Advanced, Advances, AreBack, AreLent, AreStandings, GroupsAreBack, GroupsAreKept};
+ghost use Rattle.host_net.specs.Advancing.{AddsToGroups, Advanced, Advances, AreBack, AreLent, AreStandings, GroupsAreBack, GroupsAreKept};
 ghost use Rattle.host_net.specs.Advancing.{IsStanding, IsTaken, StayAtOnce, other_players};
-ghost use Rattle.net_locks.specs.Standings.{IsBare, ask_of};
-ghost use Rattle.host_net.specs.Groups.{Apart, Grouped, IsDealt, NotIn, all_members, all_seats, callers_of, members, visits};
+ghost use Rattle.net_locks.specs.Standings.{IsBare, standing_ask};
+ghost use Rattle.host_net.specs.Groups.{GroupsApart, Grouped, IsDealt, NotIn, all_members, all_seats, callers_of, members, visits};
 ghost use Rattle.net_locks.specs.Turns as turns;
 ghost use Rattle.net_guests.specs.Visits.{IsWith, Visit};
 
@@ -59,7 +59,7 @@ fn next_of<J: Naming + Placing, T: WholeTask>(
     alloc: Global,
     player: &Player<J, T>,
 ) -> Result<Option<(ActorName, Work)>, AllocError>
-    ensures next { IfOk result (λ n. option_map ask_of n
+    ensures next { IfOk result (λ n. option_map standing_ask n
         ≡ next_by J.tasks J.world (entries player.now.visit.sight.seen) player.now.visit.caller) }
     ensures bare { IfOk result (λ n. IsBare n) }
 {
@@ -76,7 +76,7 @@ fn script_next<J: Naming + Placing, T: WholeTask>(
     player: &Player<J, T>,
 ) -> Result<Option<(ActorName, Work)>, AllocError>
     requires script { (s : AnyScript) × (caller_of J.world player.now.visit.caller ≡ IsScript s) }
-    ensures next { IfOk result (λ n. option_map ask_of n
+    ensures next { IfOk result (λ n. option_map standing_ask n
         ≡ next_by J.tasks J.world (entries player.now.visit.sight.seen) player.now.visit.caller) }
     ensures bare { IfOk result (λ n. IsBare n) }
 {
@@ -115,7 +115,7 @@ fn add_standings<J: Naming + Placing, T: WholeTask + Drop>(
     group: &Group<J, T>,
     standings: &mut Vec<Standing>,
 ) -> Result<(), AllocError>
-    ensures { OnOk result (Adds J.tasks J.world (visits (members group.now)) standings.old.items standings.new.items) }
+    ensures { OnOk result (AddsToGroups J.tasks J.world (visits (members group.now)) standings.old.items standings.new.items) }
 {
     for player in &group.players {
         standings.push(standing_of(alloc, player)?)?;
@@ -217,7 +217,7 @@ impl<J: Naming + Placing> Net<J, WorldActor<J>> {
         requires world { J.world ≡ world.now }
         requires is { IsWorld world.now }
         requires clock { caller_of J.world clock.old.caller ≡ IsClock }
-        requires apart { Apart (clock.old.caller ∷ callers_of (players.old ++ other_players groups.old)) }
+        requires apart { GroupsApart (clock.old.caller ∷ callers_of (players.old ++ other_players groups.old)) }
         requires lent { AreLent J.tasks J.world J.run.roster (visits (players.old ++ other_players groups.old))
             clock.old.sight standings.now }
         ensures others { (v : Visit)

@@ -1,5 +1,5 @@
 //! The end: the passes of all guests.
-ghost use Rattle.net_guests.specs.Visits.{Gathers};
+ghost use Rattle.net_guests.specs.Visits.{GathersPasses};
 
 use crate::guest::Guest;
 use journal::{Journal, Naming, Pass};
@@ -11,7 +11,7 @@ pub(crate) fn gather<J: Naming + Placing>(
     all: &mut Pass<J>,
     mut guests: Vec<Guest<J>>,
 )
-    ensures { Gathers J.world J.run.roster all.old guests.items all.new }
+    ensures { GathersPasses J.world J.run.roster all.old guests.items all.new }
 {
     while let Some(guest) = guests.pop() {
         guest.meet(journal, all);

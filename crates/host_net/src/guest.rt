@@ -9,7 +9,7 @@ ghost use Rattle.net_base.specs.Stamped.{In};
 ghost use Rattle.due_moments.specs.Marks.{Covers};
 ghost use Rattle.guest_laws.specs.Guests.{IsGuest};
 ghost use Rattle.net_guests.specs.Visits.{IsFresh, IsWith, Visit};
-ghost use Rattle.net_locks.specs.Turns.{own};
+ghost use Rattle.net_locks.specs.Turns.{own_seen};
 
 use due_moments::Touched;
 use journal::{Journal, Naming, Pass};
@@ -79,7 +79,7 @@ impl<J: Naming + Placing> Guest<J> {
 
     // The conversations at which something was recorded since the clock last moved.
     pub(crate) fn touched(&self, alloc: Global) -> Result<Touched, AllocError>
-        ensures { IfOk result (Covers (own self.entry.now.caller self.entry.now.sight)) }
+        ensures { IfOk result (Covers (own_seen self.entry.now.caller self.entry.now.sight)) }
     {
         self.bundle.touched(alloc)
     }
@@ -114,7 +114,7 @@ impl<J: Naming + Placing> Guest<J> {
 
     // Whether the caller has recorded as much as it may.
     pub(crate) fn is_full(&self) -> bool
-        ensures { result ≡ (length (own self.entry.now.caller self.entry.now.sight) == 131072) }
+        ensures { result ≡ (length (own_seen self.entry.now.caller self.entry.now.sight) == 131072) }
     {
         self.bundle.is_full()
     }

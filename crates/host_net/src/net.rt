@@ -13,8 +13,8 @@ ghost use Rattle.duties.specs.Queue.{work_of_duty};
 ghost use Rattle.guest_laws.specs.Guests.{IsOfGuests};
 ghost use Rattle.net_locks.specs.Rosters.{IsRosterOf};
 ghost use Rattle.net_locks.specs.Standings.{AllStand};
-ghost use Rattle.net_guests.specs.Deciding.{Leaves};
-ghost use Rattle.net_guests.specs.Visits.{AreFresh, Finished, HasGuest, IsSame, Operated, Takes};
+ghost use Rattle.net_guests.specs.Deciding.{LeavesGuest};
+ghost use Rattle.net_guests.specs.Visits.{AreFresh, Finished, HasGuest, IsSameVisit, Operated, TakesPasses};
 ghost use Rattle.net_locks.specs.Turns.{bare};
 
 use crate::finishing::gather;
@@ -67,10 +67,10 @@ impl<J: Naming + Placing> Net<J, WorldActor<J>> {
     /// The first duty of a guest is recorded.
     pub fn serve<R: Wait, G: Gate>(&self, rt: &R, gate: &G, guest: &mut Guest<J>) -> Turn
         requires owes { guest.old.owed ≢ [] }
-        ensures same { IsSame guest.old guest.new }
+        ensures same { IsSameVisit guest.old guest.new }
         ensures names { guest.new.names ≡ guest.old.names }
         ensures turn { (d : AnyDuty) → slice_get guest.old.owed 0 ≡ Some d
-            → Takes J.tasks J.world d.actor (work_of_duty d) (Some d.cites) guest.old result guest.new }
+            → TakesPasses J.tasks J.world d.actor (work_of_duty d) (Some d.cites) guest.old result guest.new }
     {
         guest.bundle.serve(rt, gate, &self.locks)
     }
@@ -84,12 +84,12 @@ impl<J: Naming + Placing> Net<J, WorldActor<J>> {
         medium: u32,
     ) -> Turn
         requires courier { caller_of J.world guest.old.caller ≡ IsCourier medium }
-        ensures same { IsSame guest.old guest.new }
+        ensures same { IsSameVisit guest.old guest.new }
         ensures names { guest.new.names ≡ guest.old.names }
         ensures duty { (d : AnyDuty) → slice_get guest.old.owed 0 ≡ Some d
-            → Takes J.tasks J.world d.actor (work_of_duty d) (Some d.cites) guest.old result guest.new }
+            → TakesPasses J.tasks J.world d.actor (work_of_duty d) (Some d.cites) guest.old result guest.new }
         ensures free { guest.old.owed ≡ []
-            → Takes J.tasks J.world (name.Medium medium) (bare event.Take) None guest.old result guest.new }
+            → TakesPasses J.tasks J.world (name.Medium medium) (bare event.Take) None guest.old result guest.new }
     {
         guest.bundle.courier_turn(rt, gate, &self.locks, medium)
     }
@@ -103,7 +103,7 @@ impl<J: Naming + Placing> Net<J, WorldActor<J>> {
         request: &Request,
     ) -> Turn
         requires script { (s : AnyScript) × (caller_of J.world guest.old.caller ≡ IsScript s) }
-        ensures same { IsSame guest.old guest.new }
+        ensures same { IsSameVisit guest.old guest.new }
         ensures turn { (s : AnyScript) → caller_of J.world guest.old.caller ≡ IsScript s
             → Operated J.tasks J.world s.host request.now guest.old result guest.new }
     {
@@ -122,7 +122,7 @@ impl<J: Naming + Placing> Net<J, WorldActor<J>> {
         spot: &mut Spot,
     ) -> Turn
         requires script { (s : AnyScript) × (caller_of J.world guest.old.caller ≡ IsScript s) }
-        ensures same { IsSame guest.old guest.new }
+        ensures same { IsSameVisit guest.old guest.new }
         ensures turn { (s : AnyScript) → caller_of J.world guest.old.caller ≡ IsScript s
             → Operated J.tasks J.world s.host request guest.old result guest.new }
     {
@@ -145,7 +145,7 @@ impl<J: Naming + Placing> Net<J, WorldActor<J>> {
         requires clock { caller_of J.world clock.old.caller ≡ IsClock }
         requires all { AllStand J.tasks J.world J.run.roster clock.old.sight standings.now }
         ensures guests { IsOfGuests J.world J.run.roster clock.old.sight.seen }
-        ensures leaves { Leaves J.tasks J.world J.run.roster clock.old result clock.new }
+        ensures leaves { LeavesGuest J.tasks J.world J.run.roster clock.old result clock.new }
     {
         clock.bundle.decide(rt, gate, &self.locks, world, standings)
     }

@@ -5,8 +5,8 @@ ghost use Rattle.net_base.specs.Callers.{IsScript, caller_count, caller_of};
 ghost use Rattle.net_base.specs.Steps.{no_names};
 ghost use Rattle.net_base.specs.World.{IsWorld};
 ghost use Rattle.net_base.specs.Next.{zone_of};
-ghost use Rattle.host_net.specs.Answering.{CannotTell, CanTell, IsAnswered};
-ghost use Rattle.host_net.specs.Playing.{Counts, HasRole, IsGoing, IsPlayed, IsSamePlayer, PlaysOn, Heard, Told, played_by};
+ghost use Rattle.host_net.specs.Answering.{CannotTell, CanTell, AreStepsAnswered};
+ghost use Rattle.host_net.specs.Playing.{CountsTurn, VisitHasRole, IsGoing, IsVisitPlayed, IsSamePlayer, PlaysOn, Heard, ToldReply, played_by};
 ghost use Rattle.net_locks.specs.Rosters.{IsRosterOf};
 ghost use Rattle.net_guests.specs.Visits.{IsFresh};
 ghost use Rattle.host_net.specs.declared.player.Role.TheVariants as role;
@@ -73,7 +73,7 @@ impl<J: Naming + Placing, T: WholeTask> Player<J, T> {
         requires task { (s : AnyScript) → caller_of J.world guest.caller ≡ IsScript s
             → T.Goes (J.tasks guest.caller) (zone_of J.world) s [] (no_names (zone_of J.world)) task }
         ensures visit { result.visit ≡ guest }
-        ensures role { HasRole J.world guest.caller result.role }
+        ensures role { VisitHasRole J.world guest.caller result.role }
         ensures task { result.task ≡ task }
         ensures told { result.lost ≡ false }
         ensures counts { result.counts ≡ false }
@@ -101,7 +101,7 @@ impl<J: Naming + Placing, T: WholeTask> Player<J, T> {
         requires plays { (s : AnyScript) → caller_of J.world guest.caller ≡ IsScript s
             → T.Plays (zone_of J.world) s [] (no_names (zone_of J.world)) task }
         ensures visit { result.visit ≡ guest }
-        ensures role { HasRole J.world guest.caller result.role }
+        ensures role { VisitHasRole J.world guest.caller result.role }
         ensures task { result.task ≡ task }
         ensures told { result.lost ≡ false }
         ensures counts { result.counts ≡ true }
@@ -116,7 +116,7 @@ impl<J: Naming + Placing, T: WholeTask> Player<J, T> {
     // Which caller. Its role is who that is.
     pub(crate) fn caller(&self) -> u32
         ensures same { result ≡ self.now.visit.caller }
-        ensures role { HasRole J.world self.now.visit.caller self.now.role }
+        ensures role { VisitHasRole J.world self.now.visit.caller self.now.role }
     {
         self.guest.caller()
     }
@@ -138,7 +138,7 @@ impl<J: Naming + Placing, T: WholeTask> Player<J, T> {
     /// How many steps of its script are answered, where it can tell: one that owes nothing, and whose last reply was lost for
     /// want of memory, can't, and none that `new` made.
     pub fn answered(&self) -> Option<usize>
-        ensures count { IfSome result (IsAnswered J.world self.now.visit) }
+        ensures count { IfSome result (AreStepsAnswered J.world self.now.visit) }
         ensures tells { OnSome result (CanTell self.now) }
         ensures none { IfNone result (CannotTell self.now) }
     {
@@ -160,7 +160,7 @@ impl<J: Naming + Placing, T: WholeTask + Drop> Player<J, T> {
     // The guest alone.
     pub(crate) fn into_guest(self) -> Guest<J>
         ensures same { result ≡ self.visit }
-        ensures plays { IsPlayed J.tasks J.world result }
+        ensures plays { IsVisitPlayed J.tasks J.world result }
     {
         let Player {
             guest,
@@ -179,7 +179,7 @@ impl<J: Naming + Placing, T: WholeTask + Drop> Player<J, T> {
     // The guest, and what was played, unless its last reply was lost for want of memory.
     pub(crate) fn into_part(self) -> Result<(Guest<J>, T), AllocError>
         ensures same { IfOk result (λ part. part ≡ (self.visit, self.task)) }
-        ensures plays { IfOk result (λ part. IsPlayed J.tasks J.world part.0) }
+        ensures plays { IfOk result (λ part. IsVisitPlayed J.tasks J.world part.0) }
         ensures goes { IfOk result (λ part. IsGoing T.Goes J.tasks J.world part) }
     {
         let Player {
@@ -202,7 +202,7 @@ impl<J: Naming + Placing, T: WholeTask + Drop> Player<J, T> {
 fn role_of(world: &World, caller: u32) -> Role
     requires is { IsWorld world.now }
     requires known { caller < caller_count world.now }
-    ensures { HasRole world.now caller result }
+    ensures { VisitHasRole world.now caller result }
 {
     let scripts = world.scripts.len() as u32;
     let media = world.media.len() as u32;
@@ -247,7 +247,7 @@ fn hear<T: WholeTask>(
     turn: Turn,
 ) -> Played
     ensures heard { Heard T.after task.old lost.old turn result task.new lost.new }
-    ensures counts { Counts T.Plays task.old before.old turn before.new }
+    ensures counts { CountsTurn T.Plays task.old before.old turn before.new }
 {
     match turn {
         Turn::Recorded { stamp: _, reply } => {
@@ -263,7 +263,7 @@ fn hear<T: WholeTask>(
 
 // The task takes the reply to the event that it asked for.
 fn tell<T: WholeTask>(task: &mut T, lost: &mut bool, alloc: Global, reply: Reply) -> Played
-    ensures { Told T.after task.old lost.old reply result task.new lost.new }
+    ensures { ToldReply T.after task.old lost.old reply result task.new lost.new }
 {
     if task.told(alloc, reply).is_err() {
         *lost = true;

@@ -9,7 +9,7 @@ ghost use Rattle.net_base.specs.Stamped.{In};
 ghost use Rattle.net_base.specs.Summary.{answered_steps};
 ghost use Rattle.host_net.specs.Answering.{AreAfter, CannotTellOf, IsAnsweredOf, SomeCannotTell};
 ghost use Rattle.host_net.specs.Groups.{AreWaiting, all_members, all_seats, caller, callers_of, dealt, joined, members, no_players, seat_of, seats, visits, with_last};
-ghost use Rattle.host_net.specs.Playing.{AreGoing, ArePlayed, IsSamePlayer, IsWaiting, guests_of};
+ghost use Rattle.host_net.specs.Playing.{AreGoing, AreVisitsPlayed, IsSamePlayer, IsWaiting, guests_of};
 ghost use Rattle.net_guests.specs.Visits.{HasGuest};
 ghost use Rattle.host_net.specs.declared.player.Played.TheVariants as played;
 ghost use Rattle.host_net.specs.declared.player.Role.TheVariants as role;
@@ -63,14 +63,14 @@ pub struct Players<J: Naming + Placing, T: Task> {
 }
 
 impl<J: Naming + Placing, T: Task> Model for Players<J, T> {
-    ghost use Rattle.host_net.specs.Groups.{Follows, Grouping, IsDealt, all_seats};
+    ghost use Rattle.host_net.specs.Groups.{FollowsDeal, Grouping, IsDealt, all_seats};
 
     ghost Value = { Grouping T };
 
     ghost view = { λ p. record { groups = p.groups.items; callers = p.callers; deal = p.deal.items } };
 
     ghost invariant = { λ p. IsDealt J.world p.callers (all_seats p.groups.items)
-        × Follows p.deal.items (all_seats p.groups.items) };
+        × FollowsDeal p.deal.items (all_seats p.groups.items) };
 }
 
 impl<J: Naming + Placing, T: Task + Drop> Group<J, T> {
@@ -206,7 +206,7 @@ impl<J: Naming + Placing, T: Task + Drop> Players<J, T> {
     /// The guests of all callers. What each of these recorded was its duties and what came next, and in time.
     pub fn into_guests(self, alloc: Global) -> Result<Vec<Guest<J>>, AllocError>
         ensures all { IfOk result (λ guests. (c : ℕ) → c < self.callers → HasGuest c guests.items) }
-        ensures plays { IfOk result (λ guests. ArePlayed J.tasks J.world guests.items) }
+        ensures plays { IfOk result (λ guests. AreVisitsPlayed J.tasks J.world guests.items) }
         ensures same { IfOk result (λ guests. guests.items ≡ visits (all_members self.groups)) }
     {
         let Players {
@@ -227,7 +227,7 @@ impl<J: Naming + Placing, T: Task + Drop> Players<J, T> {
     /// finds none either.
     pub fn into_parts(self, alloc: Global) -> Result<Vec<(Guest<J>, T)>, AllocError>
         ensures all { IfOk result (λ parts. (c : ℕ) → c < self.callers → HasGuest c (guests_of parts.items)) }
-        ensures plays { IfOk result (λ parts. ArePlayed J.tasks J.world (guests_of parts.items)) }
+        ensures plays { IfOk result (λ parts. AreVisitsPlayed J.tasks J.world (guests_of parts.items)) }
         ensures same { IfOk result (λ parts. guests_of parts.items ≡ visits (all_members self.groups)) }
         ensures goes { IfOk result (λ parts. AreGoing T.Goes J.tasks J.world parts.items) }
     {
@@ -252,7 +252,7 @@ fn add_parts<J: Naming + Placing, T: Task + Drop>(
     parts: &mut Vec<(Guest<J>, T)>,
 ) -> Result<(), AllocError>
     ensures same { OnOk result (guests_of parts.new.items ≡ guests_of parts.old.items ++ visits (members group)) }
-    ensures plays { OnOk result (ArePlayed J.tasks J.world (guests_of parts.old.items) → ArePlayed J.tasks J.world (guests_of parts.new.items)) }
+    ensures plays { OnOk result (AreVisitsPlayed J.tasks J.world (guests_of parts.old.items) → AreVisitsPlayed J.tasks J.world (guests_of parts.new.items)) }
     ensures goes { OnOk result (AreGoing T.Goes J.tasks J.world parts.old.items → AreGoing T.Goes J.tasks J.world parts.new.items) }
 {
     let Group {
@@ -270,7 +270,7 @@ fn add_player_parts<J: Naming + Placing, T: Task + Drop>(
     parts: &mut Vec<(Guest<J>, T)>,
 ) -> Result<(), AllocError>
     ensures same { OnOk result (guests_of parts.new.items ≡ guests_of parts.old.items ++ visits players.items) }
-    ensures plays { OnOk result (ArePlayed J.tasks J.world (guests_of parts.old.items) → ArePlayed J.tasks J.world (guests_of parts.new.items)) }
+    ensures plays { OnOk result (AreVisitsPlayed J.tasks J.world (guests_of parts.old.items) → AreVisitsPlayed J.tasks J.world (guests_of parts.new.items)) }
     ensures goes { OnOk result (AreGoing T.Goes J.tasks J.world parts.old.items → AreGoing T.Goes J.tasks J.world parts.new.items) }
 {
     players.reverse();
@@ -286,7 +286,7 @@ fn add_clock_part<J: Naming + Placing, T: Task + Drop>(
     parts: &mut Vec<(Guest<J>, T)>,
 ) -> Result<(), AllocError>
     ensures same { OnOk result (guests_of parts.new.items ≡ guests_of parts.old.items ++ visits (with_last [] clock)) }
-    ensures plays { OnOk result (ArePlayed J.tasks J.world (guests_of parts.old.items) → ArePlayed J.tasks J.world (guests_of parts.new.items)) }
+    ensures plays { OnOk result (AreVisitsPlayed J.tasks J.world (guests_of parts.old.items) → AreVisitsPlayed J.tasks J.world (guests_of parts.new.items)) }
     ensures goes { OnOk result (AreGoing T.Goes J.tasks J.world parts.old.items → AreGoing T.Goes J.tasks J.world parts.new.items) }
 {
     match clock {
@@ -305,7 +305,7 @@ fn add_guests<J: Naming + Placing, T: Task + Drop>(
     guests: &mut Vec<Guest<J>>,
 ) -> Result<(), AllocError>
     ensures same { OnOk result (guests.new.items ≡ guests.old.items ++ visits (members group)) }
-    ensures plays { OnOk result (ArePlayed J.tasks J.world guests.old.items → ArePlayed J.tasks J.world guests.new.items) }
+    ensures plays { OnOk result (AreVisitsPlayed J.tasks J.world guests.old.items → AreVisitsPlayed J.tasks J.world guests.new.items) }
 {
     let Group {
         players,
@@ -322,7 +322,7 @@ fn add_players<J: Naming + Placing, T: Task + Drop>(
     guests: &mut Vec<Guest<J>>,
 ) -> Result<(), AllocError>
     ensures same { OnOk result (guests.new.items ≡ guests.old.items ++ visits players.items) }
-    ensures plays { OnOk result (ArePlayed J.tasks J.world guests.old.items → ArePlayed J.tasks J.world guests.new.items) }
+    ensures plays { OnOk result (AreVisitsPlayed J.tasks J.world guests.old.items → AreVisitsPlayed J.tasks J.world guests.new.items) }
 {
     players.reverse();
     while let Some(player) = players.pop() {
@@ -336,7 +336,7 @@ fn add_clock<J: Naming + Placing, T: Task + Drop>(
     guests: &mut Vec<Guest<J>>,
 ) -> Result<(), AllocError>
     ensures same { OnOk result (guests.new.items ≡ guests.old.items ++ visits (with_last [] clock)) }
-    ensures plays { OnOk result (ArePlayed J.tasks J.world guests.old.items → ArePlayed J.tasks J.world guests.new.items) }
+    ensures plays { OnOk result (AreVisitsPlayed J.tasks J.world guests.old.items → AreVisitsPlayed J.tasks J.world guests.new.items) }
 {
     match clock {
         Some(player) => {

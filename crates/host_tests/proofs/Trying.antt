@@ -10,9 +10,9 @@ use Rattle.net_base.specs.Actors.{Actor, actor_step, has_actor, opening_actor}
 use Rattle.net_base.specs.Net.{WorkAt, actors_after, play, played, stepped_to}
 use Rattle.net_base.specs.Stamped.{same_actor}
 use Rattle.net_base.specs.World.{IsDatabase, IsWorld}
-use Rattle.net_actors.specs.Numbers.{is_among}
-use Rattle.net_actors.specs.Small.{IsSmall}
-use Rattle.net_actors.specs.Together.{AreActors, CanStep, Numbered, Steps}
+use Rattle.net_actors.specs.Numbers.{is_actor_among}
+use Rattle.net_actors.specs.Small.{IsSmallActor}
+use Rattle.net_actors.specs.Together.{AreActors, CanStep, Numbered, StepsTogether}
 use Rattle.host_tests.specs.Tried.{AreLedTo, IsLedTo, tried_world}
 use Rattle.net_actors.proofs.Shared.{few_works, among_is}
 use Rattle.net_base.proofs.Shared.{same_actor_is}
@@ -30,7 +30,7 @@ can_step w v n a now work told led few has is tells =
       states = led.states;
       are = led.are;
       has = has;
-      small = subst IsSmall (sym one.led) (few_works w a one.works (omega (arith, count, few)));
+      small = subst IsSmallActor (sym one.led) (few_works w a one.works (omega (arith, count, few)));
       ready = sym (tells w led.states led.are) ∙ is;
     }
 
@@ -54,7 +54,7 @@ one_more w a s t n now work o led step =
 kept : (w : World) (a : ActorName) (s : Actor) (n : ℕ) → IsLedTo w a s n → IsLedTo w a s (n + 1)
 kept w a s n led = let count = led.few in record { works = led.works; led = led.led; few = omega (arith, count) }
 
-pub led_more : (w : World) (old new : Numbered) (n : ℕ) (a : ActorName) (now : ℕ) (work : Work) (o : Outcome) → AreLedTo w old n → has_actor w a ≡ true → Steps old new a now work o → AreLedTo w new (n + 1)
+pub led_more : (w : World) (old new : Numbered) (n : ℕ) (a : ActorName) (now : ℕ) (work : Work) (o : Outcome) → AreLedTo w old n → has_actor w a ≡ true → StepsTogether old new a now work o → AreLedTo w new (n + 1)
 led_more w old new n a now work o led has steps =
     let s = steps w led.states led.are has in
     record { states = actors_after led.states a s.state; are = s.are; led = λ b. by_test s.state s.step b (same_actor a b) refl }
@@ -85,5 +85,5 @@ tried_world_is = record {
 pub tried_is_world : (w : World) → w ≡ tried_world → IsWorld w
 tried_is_world w is = subst IsWorld (sym is) tried_world_is
 
-pub tried_has : (a : ActorName) → is_among 2 1 a ≡ true → has_actor tried_world a ≡ true
+pub tried_has : (a : ActorName) → is_actor_among 2 1 a ≡ true → has_actor tried_world a ≡ true
 tried_has a is = among_is tried_world a ∙ is

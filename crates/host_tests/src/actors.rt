@@ -1,6 +1,6 @@
 //! Each kind of actor, with each group of its events, in a world of two hosts on one medium.
 ghost use Rattle.std.specs.Prelude.{◌≡◌, true};
-ghost use Rattle.net_actors.specs.Numbers.{is_among};
+ghost use Rattle.net_actors.specs.Numbers.{is_actor_among};
 
 mod asked;
 mod trial;
@@ -37,7 +37,7 @@ const UDP: ActorName = ActorName::Conv(0, Proto::Udp, 0);
 const IL: ActorName = ActorName::Conv(1, Proto::Il, 31);
 
 fn name_of(who: Who) -> ActorName
-    ensures { is_among 2 1 result ≡ true }
+    ensures { is_actor_among 2 1 result ≡ true }
 {
     match who {
         Who::Desk => DESK,

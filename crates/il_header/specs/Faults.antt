@@ -4,12 +4,12 @@ use Rattle.net_base.specs.Bytes.{word_at}
 use Rattle.wire_text.specs.IlWire.{il_sum, il_length}
 
 -- there are bytes enough for a header
-abbrev pub HasHeader : List ℕ → Type 0
-HasHeader bytes = 18 ≤ length bytes
+abbrev pub HasIlHeader : List ℕ → Type 0
+HasIlHeader bytes = 18 ≤ length bytes
 
 -- .. with the right sum
 abbrev pub HasSum : List ℕ → Type 0
-HasSum bytes = HasHeader bytes × (word_at 0 bytes ≡ il_sum bytes)
+HasSum bytes = HasIlHeader bytes × (word_at 0 bytes ≡ il_sum bytes)
 
 -- .. and the right length
 abbrev pub HasLength : List ℕ → Type 0

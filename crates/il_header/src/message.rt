@@ -2,8 +2,8 @@
 ghost use Rattle.std.specs.Prelude.{◌≡◌, ◌≢◌, ◌+◌, ◌<◌, ◌≤◌, ◌++◌, ◌↔◌, ℕ, List, length, take, drop, IfOk, IsOkAnd, IsErrOf};
 ghost use Rattle.net_base.specs.declared.il.IlMsg.{IlMsg};
 ghost use Rattle.net_base.specs.Bytes.{word_at};
-ghost use Rattle.wire_text.specs.IlWire.{IsMessage, SpellsIl, il_bytes, il_length, il_sum, il_with, kind_of, type_field, type_number};
-ghost use Rattle.il_header.specs.Faults.{HasHeader, HasLength, HasSum};
+ghost use Rattle.wire_text.specs.IlWire.{IsMessage, SpellsIl, il_bytes, il_length, il_sum, il_with, kind_of, il_type_field, type_number};
+ghost use Rattle.il_header.specs.Faults.{HasIlHeader, HasLength, HasSum};
 ghost use Rattle.il_header.specs.Views.{message_in};
 
 use crate::fault::IlError;
@@ -61,9 +61,9 @@ pub fn decode_il(bytes: &[u8]) -> Result<IlView<'_>, IlError>
     ensures only { (sport dport : ℕ) (m : IlMsg) → SpellsIl sport dport m bytes.now → IsOkAnd result (λ v. (v.sport ≡ sport) × (v.dport ≡ dport) × (message_in v.kind v.spec v.id v.ack v.text.now ≡ m)) }
     // Which fault it is: the first of these.
     ensures short { IsErrOf result IlError.Short ↔ (length bytes.now < 18) }
-    ensures sum { IsErrOf result IlError.Sum ↔ (HasHeader bytes.now × (word_at 0 bytes.now ≢ il_sum bytes.now)) }
+    ensures sum { IsErrOf result IlError.Sum ↔ (HasIlHeader bytes.now × (word_at 0 bytes.now ≢ il_sum bytes.now)) }
     ensures length { IsErrOf result IlError.Length ↔ (HasSum bytes.now × (il_length bytes.now ≢ length bytes.now)) }
-    ensures bad_type { IsErrOf result IlError.BadType ↔ (HasLength bytes.now × (6 < type_field bytes.now)) }
+    ensures bad_type { IsErrOf result IlError.BadType ↔ (HasLength bytes.now × (6 < il_type_field bytes.now)) }
 {
     if bytes.len() < HEADER {
         return Err(IlError::Short);

@@ -1,7 +1,7 @@
 -- What is early moves in turn.
 use Rattle.std.proofs.Common.{◌≡◌, ℕ, zero, suc, ◌+◌, List, [], ◌∷◌, ◌++◌, length, Option, Some, None, refl, arith, ap, sym, ◌∙◌, append_assoc, append-nil, length-append}
 use Rattle.net_base.specs.IlEnd.{End, Early, early_at, without_early, comes_in_turn, come_in_turn}
-use Rattle.il_machine.specs.InTurn.{Turned, in_turn, next_of, with_turned}
+use Rattle.il_machine.specs.InTurn.{TurnedMessages, in_turn, next_in_turn, with_turned}
 use Rattle.il_machine.proofs.Near.{one_less}
 
 -- nothing is next in sequence
@@ -18,13 +18,13 @@ with_none : (e : End) → e ≡ with_turned e (record { texts = []; early = e.ea
 with_none e = rw append-nil refl
 
 -- with one message, and then others
-with_more : (e : End) (text : List ℕ) (left : List Early) (t : Turned)
+with_more : (e : End) (text : List ℕ) (left : List Early) (t : TurnedMessages)
     → with_turned (record e { got = e.got ++ text ∷ []; early = left }) t ≡ with_turned e (record t { texts = text ∷ t.texts })
 with_more e text left t = rw append_assoc refl
 
 step_in_turn : (n : ℕ) (e : End) (o : Option (List ℕ)) → early_at (length e.got + 1) e.early ≡ o
     → ((e' : End) → come_in_turn n e' ≡ with_turned e' (in_turn n (length e'.got) e'.early))
-    → come_in_turn n (comes_in_turn o e) ≡ with_turned e (next_of o e.early (in_turn n (length e.got + 1) (without_early (length e.got + 1) e.early)))
+    → come_in_turn n (comes_in_turn o e) ≡ with_turned e (next_in_turn o e.early (in_turn n (length e.got + 1) (without_early (length e.got + 1) e.early)))
 step_in_turn n e None none others = none_moves n e none ∙ with_none e
 step_in_turn n e (Some text) there others =
     others after
@@ -53,7 +53,7 @@ pub record Steps (last : ℕ) (text : List ℕ) (early left : List Early) : Type
   pub got : last + 1 + length (in_turn (length left) (last + 1) left).texts ≡ last + length (in_turn (length early) last early).texts
 
 one_in_turn : (m n got : ℕ) (text : List ℕ) (early : List Early) → n + 1 ≡ m → early_at (got + 1) early ≡ Some text
-    → in_turn m got early ≡ (let t : Turned = in_turn n (got + 1) (without_early (got + 1) early) in record t { texts = text ∷ t.texts })
+    → in_turn m got early ≡ (let t : TurnedMessages = in_turn n (got + 1) (without_early (got + 1) early) in record t { texts = text ∷ t.texts })
 one_in_turn zero n got text early more there = absurd (omega (arith, more))
 one_in_turn (suc m) n got text early more there =
     let same : m ≡ n = omega (arith, more) in
@@ -63,13 +63,13 @@ pub steps : (last : ℕ) (text : List ℕ) (early left : List Early) → left �
 steps last text early left is there =
     record {
       less = less;
-      texts = λ before. append_assoc before (text ∷ []) _ ∙ ap (λ (t : Turned). before ++ t.texts) (sym one);
-      early_left = ap (λ (t : Turned). t.early) (sym one);
-      got = omega (arith, ap (λ (t : Turned). length t.texts) one);
+      texts = λ before. append_assoc before (text ∷ []) _ ∙ ap (λ (t : TurnedMessages). before ++ t.texts) (sym one);
+      early_left = ap (λ (t : TurnedMessages). t.early) (sym one);
+      got = omega (arith, ap (λ (t : TurnedMessages). length t.texts) one);
     }
   where
     less : length left + 1 ≡ length early
     less = rw is (one_less (last + 1) text early there)
 
-    one : in_turn (length early) last early ≡ (let t : Turned = in_turn (length left) (last + 1) left in record t { texts = text ∷ t.texts })
-    one = one_in_turn (length early) (length left) last text early less there ∙ ap (λ (l : List Early). let t : Turned = in_turn (length left) (last + 1) l in record t { texts = text ∷ t.texts }) (sym is)
+    one : in_turn (length early) last early ≡ (let t : TurnedMessages = in_turn (length left) (last + 1) left in record t { texts = text ∷ t.texts })
+    one = one_in_turn (length early) (length left) last text early less there ∙ ap (λ (l : List Early). let t : TurnedMessages = in_turn (length left) (last + 1) l in record t { texts = text ∷ t.texts }) (sym is)

@@ -3,16 +3,16 @@ use Rattle.std.proofs.Common.{◌≡◌, ℕ, ◌+◌, ◌-◌, ◌<◌, ◌≤�
 use Rattle.std.proofs.lemmas.Bool.Decides.{nat_tests}
 use Rattle.std.proofs.lemmas.List.{drop-drop, drop_more}
 use Rattle.std.specs.List.{slice_index_or}
-use Rattle.il_queues.specs.Reading.{Waiting, IsCut, cut_first, left_after}
+use Rattle.il_queues.specs.Reading.{Waiting, IsCut, cut_first, left_of_read}
 use Rattle.il_queues.specs.Reading as reading
 use Rattle.net_base.specs.IlEnd.{End}
 use Rattle.net_base.specs.IlTable.{first_unread, has_unread, reads}
-use Rattle.il_machine.specs.Windows.{Windows, unread_of, windows_of}
-use Rattle.il_machine.specs.Stands.{after_read}
+use Rattle.il_machine.specs.Windows.{Windows, window_unread, windows_of}
+use Rattle.il_machine.specs.Stands.{end_after_read}
 
 -- what waits is what is unread of an end
 pub record Holds (w : Waiting) (accepted : ℕ) (e : End) : Type 0 where
-  pub unread : reading.unread_of w ≡ unread_of e
+  pub unread : reading.unread_of w ≡ window_unread e
   pub offset : w.offset ≡ e.read_offset
   pub got : accepted ≡ length e.got
   pub count : accepted - length w.texts ≡ e.read_count
@@ -48,7 +48,7 @@ first_is e some = drop_more e.got e.read_count [] some
 
 -- what a read leaves of what waits, by whether it leaves the first text
 left_some : (count offset : ℕ) (text rest : List ℕ) (texts : List (List ℕ)) (b : Bool) → drop offset text ≡ rest → nat_lt count (length rest) ≡ b
-    → left_after count offset (text ∷ texts) ≡ (if b then record { texts = text ∷ texts; offset = offset + count } else record { texts = texts; offset = 0 })
+    → left_of_read count offset (text ∷ texts) ≡ (if b then record { texts = text ∷ texts; offset = offset + count } else record { texts = texts; offset = 0 })
 left_some count offset text rest texts true same is = rw (same, is) refl
 left_some count offset text rest texts false same is = rw (same, is) refl
 
@@ -107,12 +107,12 @@ read_some count w got e text texts true is h some = read_part count w got e text
 read_some count w got e text texts false is h some = read_whole w got e text texts is h some
 
 read_by : (count : ℕ) (w : Waiting) (got : ℕ) (e : End) (texts : List (List ℕ)) → w.texts ≡ texts → Holds w got e
-    → kept_with (left_after count w.offset texts) got e ≡ windows_of (after_read count e)
+    → kept_with (left_of_read count w.offset texts) got e ≡ windows_of (end_after_read count e)
 read_by count w got e [] is h =
     let none : has_unread e ≡ false = grind (arith, nat_tests, same_length w got e h, ap (λ (xs : List (List ℕ)). length xs) is) in
-    let unread : [] ≡ unread_of e = sym (ap (λ (xs : List (List ℕ)). cut_first w.offset xs) is) ∙ h.unread in
+    let unread : [] ≡ window_unread e = sym (ap (λ (xs : List (List ℕ)). cut_first w.offset xs) is) ∙ h.unread in
     let read : got - 0 ≡ e.read_count = omega (arith, h.count, ap (λ (xs : List (List ℕ)). length xs) is) in
-    rw none (same_kept e (got - 0) w.offset e.read_count e.read_offset [] (unread_of e) read h.offset unread)
+    rw none (same_kept e (got - 0) w.offset e.read_count e.read_offset [] (window_unread e) read h.offset unread)
 read_by count w got e (text ∷ texts) is h =
     let past : e.read_count < length e.got = omega (arith, same_length w got e h, ap (λ (xs : List (List ℕ)). length xs) is) in
     let some : has_unread e ≡ true = grind (arith, nat_tests, past) in
@@ -123,5 +123,5 @@ read_by count w got e (text ∷ texts) is h =
     ∙ rw some refl
 
 -- a read leaves of what waits what it leaves of the end
-pub read_kept : (count : ℕ) (w : Waiting) (got : ℕ) (e : End) → Holds w got e → kept_with (reading.after_read count w) got e ≡ windows_of (after_read count e)
+pub read_kept : (count : ℕ) (w : Waiting) (got : ℕ) (e : End) → Holds w got e → kept_with (reading.after_read count w) got e ≡ windows_of (end_after_read count e)
 read_kept count w got e h = read_by count w got e w.texts refl h

@@ -4,7 +4,7 @@ use Rattle.std.proofs.lemmas.List.{drop_at, length-replicate}
 use Rattle.il_queues.specs.Reading.{cut_first}
 use Rattle.net_base.specs.IlEnd.{End}
 use Rattle.il_machine.specs.Windows.{Windows, windows_of}
-use Rattle.il_machine.specs.Stands.{StandsFor, StandsForSome, IsShort}
+use Rattle.il_machine.specs.Stands.{StandsFor, StandsForSomeEnd, IsEndShort}
 
 -- these texts, the first with so many bytes before it
 abbrev pub uncut : ℕ → List (List ℕ) → List (List ℕ)
@@ -62,7 +62,7 @@ stands_for w all_sent all_got =
 
 -- few messages are kept: some end with few messages is stood for
 pub some_short : (w : Windows) → w.acked + length w.unacked ≡ w.sent → w.read_count + length w.unread ≡ w.got → w.sent < 2 ^ 31 → w.got < 2 ^ 31
-    → StandsForSome w IsShort
+    → StandsForSomeEnd w IsEndShort
 unfolding StandsFor
 some_short w all_sent all_got few_sent few_got =
     let stands = stands_for w all_sent all_got in
@@ -71,7 +71,7 @@ some_short w all_sent all_got few_sent few_got =
     (end_of w, (stands, record { few_sent = omega (arith, sent, few_sent); few_got = omega (arith, got, few_got) }))
 
 -- and if so, few were got
-pub got_few : (w : Windows) → StandsForSome w IsShort → w.got < 2 ^ 31
+pub got_few : (w : Windows) → StandsForSomeEnd w IsEndShort → w.got < 2 ^ 31
 unfolding StandsFor
 got_few w (e, (stands, short)) =
     let got : w.got ≡ length e.got = ap (λ (x : Windows). x.got) stands in

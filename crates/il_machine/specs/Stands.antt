@@ -20,11 +20,11 @@ unfoldable pub StandsFor : Windows → End → Type 0
 StandsFor kept e = kept ≡ windows_of e
 
 -- it stands for an end of which this is so
-abbrev pub StandsForSome : Windows → (End → Type 0) → Type 0
-StandsForSome kept P = (e : End) × (StandsFor kept e × P e)
+abbrev pub StandsForSomeEnd : Windows → (End → Type 0) → Type 0
+StandsForSomeEnd kept P = (e : End) × (StandsFor kept e × P e)
 
 -- so few messages that their numbers tell their ids apart
-pub record IsShort (e : End) : Type 0 where
+pub record IsEndShort (e : End) : Type 0 where
   pub few_sent : length e.sent < 2 ^ 31
   pub few_got : length e.got < 2 ^ 31
 
@@ -34,26 +34,26 @@ pub record IsFew (kept : Windows) : Type 0 where
   pub few_got : kept.got < 2 ^ 31
 
 -- the end becomes what this turn of it leaves, and what it emits is emitted
-abbrev pub Turns : Windows → Windows → Option IlMsg → (End → Turn) → Type 0
-Turns old new emits turn = (e : End) → StandsFor old e → StandsFor new (turn e).end × (emits ≡ (turn e).emits)
+abbrev pub TurnsEnd : Windows → Windows → Option IlMsg → (End → Turn) → Type 0
+TurnsEnd old new emits turn = (e : End) → StandsFor old e → StandsFor new (turn e).end × (emits ≡ (turn e).emits)
 
 -- the end becomes this
 abbrev pub Becomes : Windows → Windows → (End → End) → Type 0
 Becomes old new after = (e : End) → StandsFor old e → StandsFor new (after e)
 
 -- the test tells of each end that it stands for whether this is so
-abbrev pub Decides : Windows → Bool → (End → Type 0) → Type 0
-Decides kept told P = (e : End) → StandsFor kept e → IsTrue told ↔ P e
+abbrev pub DecidesEnd : Windows → Bool → (End → Type 0) → Type 0
+DecidesEnd kept told P = (e : End) → StandsFor kept e → IsTrue told ↔ P e
 
 -- this is what the end says
-abbrev pub Says : {A : Type 0} → Windows → A → (End → A) → Type 0
-Says kept told said = (e : End) → StandsFor kept e → told ≡ said e
+abbrev pub SaysEnd : {A : Type 0} → Windows → A → (End → A) → Type 0
+SaysEnd kept told said = (e : End) → StandsFor kept e → told ≡ said e
 
 -- what is asked for has an answer
-abbrev pub is_ready : Ask → End → Bool
-is_ready ask.Write e = may_write e.state e
-is_ready ask.Read e = may_read e
-is_ready ask.Wait e = may_go_on e.state
+abbrev pub is_asked_ready : Ask → End → Bool
+is_asked_ready ask.Write e = may_write e.state e
+is_asked_ready ask.Read e = may_read e
+is_asked_ready ask.Wait e = may_go_on e.state
 
 -- The handshake.
 
@@ -76,13 +76,13 @@ abbrev pub read_refusal : End → Option Cause
 read_refusal e = if has_unread e || e.closed_by_peer then None else Some (cause_of e)
 
 -- the end after a read of so many bytes
-abbrev pub after_read : ℕ → End → End
-after_read count e = if has_unread e then reads count e else e
+abbrev pub end_after_read : ℕ → End → End
+end_after_read count e = if has_unread e then reads count e else e
 
 -- an error tells the end's refusal, or that there was no memory for what this says memory is taken for
 abbrev pub TellsRefusal : Windows → HungupError → (End → Option Cause) → (End → Bool) → Type 0
-TellsRefusal old (Hungup why) refusal takes = Says old (Some why) refusal
-TellsRefusal old Memory refusal takes = Says old true takes
+TellsRefusal old (Hungup why) refusal takes = SaysEnd old (Some why) refusal
+TellsRefusal old Memory refusal takes = SaysEnd old true takes
 
 -- Memory.
 

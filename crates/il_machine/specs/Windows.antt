@@ -35,8 +35,8 @@ abbrev pub unacked_of : End → List (List ℕ)
 unacked_of e = drop e.acked e.sent
 
 -- the messages that weren't read whole, the first without what was read of it
-abbrev pub unread_of : End → List (List ℕ)
-unread_of e = cut_first e.read_offset (drop e.read_count e.got)
+abbrev pub window_unread : End → List (List ℕ)
+window_unread e = cut_first e.read_offset (drop e.read_count e.got)
 
 -- what is kept of an end
 abbrev pub windows_of : End → Windows
@@ -53,7 +53,7 @@ windows_of e =
       early = e.early;
       read_count = e.read_count;
       read_offset = e.read_offset;
-      unread = unread_of e;
+      unread = window_unread e;
       closed_by_peer = e.closed_by_peer;
       cause = e.cause;
       timer = e.timer;
@@ -79,7 +79,7 @@ AreWithin low high [] = Unit {0}
 AreWithin low high (x ∷ xs) = (low < x.number) × (x.number ≤ high) × (early_at x.number xs ≡ None) × AreWithin low high xs
 
 -- the windows lie within the messages, and what is early lies beyond the next one
-pub record IsKept (sent : ℕ) (unacked : List (List ℕ)) (got : ℕ) (unread : Waiting) (early : List Early) : Type 0 where
+pub record IsWindowKept (sent : ℕ) (unacked : List (List ℕ)) (got : ℕ) (unread : Waiting) (early : List Early) : Type 0 where
   pub unacked_were_sent : length unacked ≤ sent
   pub unread_were_got : length unread.texts ≤ got
   pub first_is_cut : IsCut unread.offset unread.texts

@@ -12,7 +12,7 @@ ghost use Rattle.net_base.specs.IlTable as table;
 ghost use Rattle.il_machine.specs.InTurn.{in_turn, with_turned};
 ghost use Rattle.il_machine.specs.Windows as windows;
 ghost use Rattle.il_machine.specs.Windows.{rstart_kept};
-ghost use Rattle.il_machine.specs.Stands.{IsFew, StandsFor, StandsForSome, Decides, IsShort, Turns, Becomes, Says, TellsRefusal, after_read, arrival_takes, is_kept, is_ready, read_refusal, takes_no_memory, write_refusal, write_takes};
+ghost use Rattle.il_machine.specs.Stands.{IsFew, StandsFor, StandsForSomeEnd, DecidesEnd, IsEndShort, TurnsEnd, Becomes, SaysEnd, TellsRefusal, end_after_read, arrival_takes, is_kept, is_asked_ready, read_refusal, takes_no_memory, write_refusal, write_takes};
 
 mod rows;
 
@@ -54,7 +54,7 @@ pub struct IlEnd {
 impl Model for IlEnd {
     ghost use Rattle.std.specs.Prelude.{◌-◌, length};
     ghost use Rattle.il_queues.specs.Reading.{unread_of};
-    ghost use Rattle.il_machine.specs.Windows.{Windows, IsKept};
+    ghost use Rattle.il_machine.specs.Windows.{Windows, IsWindowKept};
 
     ghost Value = { Windows };
 
@@ -76,7 +76,7 @@ impl Model for IlEnd {
       timer = e.timer;
     } };
 
-    ghost invariant = { λ e. IsKept e.sent e.unacked e.got e.unread e.early };
+    ghost invariant = { λ e. IsWindowKept e.sent e.unacked e.got e.unread e.early };
 }
 
 /// The id of message k.
@@ -204,7 +204,7 @@ impl IlEnd {
 
     /// Whether it waits for an answer: for an ack, or for the other end's close.
     fn waits(&self) -> bool
-        ensures { Says self.now result (λ e. spec.has_unacked e || spec.is_closing e.state) }
+        ensures { SaysEnd self.now result (λ e. spec.has_unacked e || spec.is_closing e.state) }
     {
         !self.unacked.is_empty() || self.state == IlState::Closing
     }
@@ -212,7 +212,7 @@ impl IlEnd {
     /// How many messages are unread or early.
     #[tactic(auto, using(crate::proofs::Unread::length_cut), unfolding(crate::specs::Stands::StandsFor))]
     fn backlog(&self) -> usize
-        ensures said { Says self.now result spec.backlog }
+        ensures said { SaysEnd self.now result spec.backlog }
         ensures kept { result ≡ length self.now.unread + length self.now.early }
     {
         self.unread.len() + self.early.len()
@@ -225,7 +225,7 @@ impl IlEnd {
         ensures within { self.new.got ≤ self.old.got + 64 }
         ensures same { self.new.sent ≡ self.old.sent }
         ensures err { OnErr result (self.new ≡ self.old) }
-        ensures memory { OnErr result (Says self.old true (is_kept message.now)) }
+        ensures memory { OnErr result (SaysEnd self.old true (is_kept message.now)) }
     {
         let Some(k) = number(self.rstart.unwrap_or(0), message.id, self.got) else {
             return Ok(());
@@ -264,7 +264,7 @@ impl IlEnd {
             (λ e. spec.accepts message.now (spec.hears_ack now message.now e))) }
         ensures within { self.new.got ≤ self.old.got + 64 }
         ensures err { OnErr result (self.new ≡ self.old) }
-        ensures memory { OnErr result (Says self.old true (is_kept message.now)) }
+        ensures memory { OnErr result (SaysEnd self.old true (is_kept message.now)) }
     {
         self.accept(message)?;
         self.hear_ack(now, message);
@@ -275,9 +275,9 @@ impl IlEnd {
     fn retransmission(&self, acked: u64) -> Result<Option<IlMsg>, AllocError>
         requires short { self.now.sent < 2 ^ 31 }
         requires more { self.now.acked ≤ acked }
-        ensures ok { IfOk result (λ emits. Says self.now emits
+        ensures ok { IfOk result (λ emits. SaysEnd self.now emits
             (λ e. (retransmits (record e { acked = acked }) (silent e)).emits)) }
-        ensures memory { OnErr result (Says self.now true (λ e. spec.has_unacked (record e { acked = acked }))) }
+        ensures memory { OnErr result (SaysEnd self.now true (λ e. spec.has_unacked (record e { acked = acked }))) }
     {
         let Some(text) = self.first_unacked(acked) else {
             return Ok(None);
@@ -296,7 +296,7 @@ impl IlEnd {
     fn first_unacked(&self, acked: u64) -> Option<&[u8]>
         requires { self.now.acked ≤ acked }
         ensures found { IsSome result ↔ (acked < self.now.sent) }
-        ensures value { IfSome result (λ text. Says self.now text.now (λ e. slice_index_or e.sent acked [])) }
+        ensures value { IfSome result (λ text. SaysEnd self.now text.now (λ e. slice_index_or e.sent acked [])) }
     {
         let place = acked - self.acked();
         self.unacked.get(place as usize)
@@ -305,7 +305,7 @@ impl IlEnd {
     /// How many messages are acknowledged once this message's ack is taken.
     fn acked_after(&self, message: &IlMsg) -> u64
         requires { self.now.sent < 2 ^ 31 }
-        ensures acked { (now : ℕ) → Says self.now result (λ e. (spec.hears_ack now message.now e).acked) }
+        ensures acked { (now : ℕ) → SaysEnd self.now result (λ e. (spec.hears_ack now message.now e).acked) }
         ensures more { self.now.acked ≤ result }
     {
         match number(self.start, message.ack, self.acked()) {
@@ -352,7 +352,7 @@ impl IlEnd {
     /// Connects a fresh end, with a start that isn't 0, and gives its sync.
     pub fn connect(&mut self, now: u64, start: u32) -> IlMsg
         requires { now < 2 ^ 63 }
-        ensures { Turns self.old self.new (Some result) (λ e. table.connects now start e) }
+        ensures { TurnsEnd self.old self.new (Some result) (λ e. table.connects now start e) }
     {
         self.state = IlState::Syncer;
         self.fresh = false;
@@ -364,7 +364,7 @@ impl IlEnd {
     /// Brings a fresh end forth from the sync with the id `rstart`, with a start that isn't 0, and gives its own sync.
     pub fn born(&mut self, now: u64, start: u32, rstart: u32) -> IlMsg
         requires { now < 2 ^ 63 }
-        ensures { Turns self.old self.new (Some result) (λ e. table.is_born now start rstart e) }
+        ensures { TurnsEnd self.old self.new (Some result) (λ e. table.is_born now start rstart e) }
     {
         self.state = IlState::Syncee;
         self.fresh = false;
@@ -384,8 +384,8 @@ impl IlEnd {
 
     /// Whether so few messages were sent and got that the end may be asked for anything.
     pub fn is_short(&self) -> bool
-        ensures some { IsTrue result ↔ StandsForSome self.now IsShort }
-        ensures each { Decides self.now result IsShort }
+        ensures some { IsTrue result ↔ StandsForSomeEnd self.now IsEndShort }
+        ensures each { DecidesEnd self.now result IsEndShort }
     {
         self.sent < MOST_MESSAGES && self.got < MOST_MESSAGES
     }
@@ -393,10 +393,10 @@ impl IlEnd {
     /// Takes a message that comes, and gives what the end emits.
     pub fn arrive(&mut self, now: u64, message: &IlMsg) -> Result<Option<IlMsg>, AllocError>
         requires in_time { now < 2 ^ 63 }
-        requires short { StandsForSome self.old IsShort }
-        ensures ok { IfOk result (λ emits. Turns self.old self.new emits (λ e. table.arrives now message.now e)) }
+        requires short { StandsForSomeEnd self.old IsEndShort }
+        ensures ok { IfOk result (λ emits. TurnsEnd self.old self.new emits (λ e. table.arrives now message.now e)) }
         ensures err { OnErr result (self.new ≡ self.old) }
-        ensures memory { OnErr result (Says self.old true (arrival_takes now message.now)) }
+        ensures memory { OnErr result (SaysEnd self.old true (arrival_takes now message.now)) }
         ensures sure { IsTrue (takes_no_memory message.now.kind) → IsOk result }
     {
         if !is_sized(message.kind, message.text.len()) {
@@ -415,10 +415,10 @@ impl IlEnd {
     /// Writes a message and gives the data that carries it, or says why nothing more is written.
     pub fn write(&mut self, now: u64, text: &[u8]) -> Result<IlMsg, HungupError>
         requires in_time { now < 2 ^ 63 }
-        requires short { StandsForSome self.old IsShort }
-        requires ready { StandsForSome self.old (λ e. IsTrue (is_ready ask.Write e)) }
-        ensures ok { IfOk result (λ message. Says self.old None write_refusal
-            × Turns self.old self.new (Some message) (λ e. table.writes now text.now e)) }
+        requires short { StandsForSomeEnd self.old IsEndShort }
+        requires ready { StandsForSomeEnd self.old (λ e. IsTrue (is_asked_ready ask.Write e)) }
+        ensures ok { IfOk result (λ message. SaysEnd self.old None write_refusal
+            × TurnsEnd self.old self.new (Some message) (λ e. table.writes now text.now e)) }
         ensures err { IfErr result (λ error.
             TellsRefusal self.old error write_refusal write_takes × (self.new ≡ self.old)) }
     {
@@ -446,11 +446,11 @@ impl IlEnd {
     /// Reads the first bytes, at most `count`, of the first unread message; none where the other end closed after its last.
     /// Or says why nothing more is read.
     pub fn read(&mut self, count: usize) -> Result<Octets, HungupError>
-        requires ready { StandsForSome self.old (λ e. IsTrue (is_ready ask.Read e)) }
+        requires ready { StandsForSomeEnd self.old (λ e. IsTrue (is_asked_ready ask.Read e)) }
         requires some { 0 < count }
-        ensures ok { IfOk result (λ bytes. Says self.old None read_refusal
-            × Says self.old bytes (λ e. take count (table.first_unread e))) }
-        ensures end { OnOk result (Becomes self.old self.new (after_read count)) }
+        ensures ok { IfOk result (λ bytes. SaysEnd self.old None read_refusal
+            × SaysEnd self.old bytes (λ e. take count (table.first_unread e))) }
+        ensures end { OnOk result (Becomes self.old self.new (end_after_read count)) }
         ensures err { IfErr result (λ error.
             TellsRefusal self.old error read_refusal table.has_unread × (self.new ≡ self.old)) }
     {
@@ -477,7 +477,7 @@ impl IlEnd {
 
     /// The first bytes, at most `count`, of the first unread message.
     pub fn peek(&self, count: usize) -> &[u8]
-        ensures { Says self.now result.now (λ e. take count (table.first_unread e)) }
+        ensures { SaysEnd self.now result.now (λ e. take count (table.first_unread e)) }
     {
         self.unread.peek(count)
     }
@@ -485,7 +485,7 @@ impl IlEnd {
     /// Hangs the end up, and gives what it emits.
     pub fn hang_up(&mut self, now: u64) -> Option<IlMsg>
         requires { now < 2 ^ 63 }
-        ensures { Turns self.old self.new result (λ e. table.hangs_up now e) }
+        ensures { TurnsEnd self.old self.new result (λ e. table.hangs_up now e) }
     {
         match self.state {
             IlState::Syncer | IlState::Listening => {
@@ -505,7 +505,7 @@ impl IlEnd {
     /// Lets time pass, and gives what the end emits.
     pub fn tick(&mut self, now: u64) -> Option<IlMsg>
         requires { now < 2 ^ 63 }
-        ensures { Turns self.old self.new result (λ e. table.ticks now e) }
+        ensures { TurnsEnd self.old self.new result (λ e. table.ticks now e) }
     {
         match self.timer.tick(now) {
             Tick::NotDue => None,
@@ -519,7 +519,7 @@ impl IlEnd {
 
     /// What the end emits when it asks once more.
     fn ask_again(&self) -> Option<IlMsg>
-        ensures { Says self.now result (λ e. (table.asks_again e.state e).emits) }
+        ensures { SaysEnd self.now result (λ e. (table.asks_again e.state e).emits) }
     {
         match self.state {
             IlState::Syncer | IlState::Syncee => Some(self.sync()),
@@ -531,7 +531,7 @@ impl IlEnd {
 
     /// Whether what is asked for has an answer.
     pub fn ready(&self, ask: Ask) -> bool
-        ensures { Says self.now result (is_ready ask) }
+        ensures { SaysEnd self.now result (is_asked_ready ask) }
     {
         match ask {
             Ask::Write => match self.state {
@@ -548,28 +548,28 @@ impl IlEnd {
 
     /// The state.
     pub fn state(&self) -> IlState
-        ensures { Says self.now result (λ e. e.state) }
+        ensures { SaysEnd self.now result (λ e. e.state) }
     {
         self.state
     }
 
     /// When the end asks once more, if it waits for something.
     pub fn due(&self) -> Option<u64>
-        ensures { Says self.now result (λ e. e.timer.due) }
+        ensures { SaysEnd self.now result (λ e. e.timer.due) }
     {
         self.timer.due
     }
 
     /// Its kind of timers.
     pub fn timers(&self) -> Timers
-        ensures { Says self.now result (λ e. e.timer.timers) }
+        ensures { SaysEnd self.now result (λ e. e.timer.timers) }
     {
         self.timer.timers
     }
 
     /// Why the end is hung up.
     pub fn cause(&self) -> Option<Cause>
-        ensures { Says self.now result (λ e. e.cause) }
+        ensures { SaysEnd self.now result (λ e. e.cause) }
     {
         self.cause
     }

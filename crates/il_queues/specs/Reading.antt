@@ -21,16 +21,16 @@ bytes_read count [] = None
 bytes_read count (text ∷ texts) = Some (take count text)
 
 -- what a read leaves of these texts: the first of them where it has more bytes, and else the others
-abbrev pub left_after : ℕ → ℕ → List (List ℕ) → Waiting
-left_after count offset [] = record { texts = []; offset = offset }
-left_after count offset (text ∷ texts) =
+abbrev pub left_of_read : ℕ → ℕ → List (List ℕ) → Waiting
+left_of_read count offset [] = record { texts = []; offset = offset }
+left_of_read count offset (text ∷ texts) =
     if nat_lt count (length (drop offset text))
     then record { texts = text ∷ texts; offset = offset + count }
     else record { texts = texts; offset = 0 }
 
 -- what a read leaves
 abbrev pub after_read : ℕ → Waiting → Waiting
-after_read count w = left_after count w.offset w.texts
+after_read count w = left_of_read count w.offset w.texts
 
 -- the first bytes of the first text, none where there is no text
 abbrev pub first_bytes : ℕ → List (List ℕ) → List ℕ

@@ -20,7 +20,7 @@ text_in None = None
 text_in (Some m) = Some m.text
 
 -- the message with this number stands in this slot
-pub record IsAt (k : ℕ) (slots : List (Option Numbered)) (place : ℕ) : Type 0 where
+pub record IsAtSlot (k : ℕ) (slots : List (Option Numbered)) (place : ℕ) : Type 0 where
   pub within : place < length slots
   pub there : IsTrue (is_some (early_at k (messages_in slots)))
   pub text : text_in (slice_index_or slots place None) ≡ early_at k (messages_in slots)

@@ -2,7 +2,7 @@
 ghost use Rattle.std.specs.Prelude.{◌≡◌, ◌==◌, ◌<◌, ◌≤◌, ◌↔◌, [], ◌∷◌, length, is_some, IsTrue, IsErr, OnOk, IfErr, IfSome, IfNone};
 ghost use Rattle.std.specs.List.{position_from};
 ghost use Rattle.il_queues.specs.Slots as spec;
-ghost use Rattle.il_queues.specs.Slots.{has_number, text_in, IsAt, IsNowhere};
+ghost use Rattle.il_queues.specs.Slots.{has_number, text_in, IsAtSlot, IsNowhere};
 
 use arrayvec::ArrayVec;
 use net_base::Octets;
@@ -96,7 +96,7 @@ impl Early {
 // Where the message with this number stands.
 #[tactic(auto, using(crate::proofs::Places::is_at, crate::proofs::Places::is_nowhere))]
 fn place_of(slots: &[Option<Numbered>], k: u64) -> Option<usize>
-    ensures found { IfSome result (IsAt k slots.now) }
+    ensures found { IfSome result (IsAtSlot k slots.now) }
     ensures none { IfNone result (IsNowhere k slots.now) }
 {
     position_of(slots, k)

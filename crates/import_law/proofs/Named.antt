@@ -17,7 +17,7 @@ use Rattle.net_base.specs.World.{IsWorld, is_letter, is_name, is_name_byte, is_s
 use Rattle.net_base.specs.Written.{Conversation}
 use Rattle.history_laws.proofs.Shared.{all_at}
 use Rattle.import_law.specs.Scripted.{scripted}
-use Rattle.import_law.specs.Spans.{Scripted, Span, kept_after, left_by, own_of, spans_from}
+use Rattle.import_law.specs.Spans.{Scripted, Span, kept_in_span, left_by_span, own_stamped, spans_from}
 use Rattle.import_law.specs.WorldImports.{AllExported}
 
 -- ---- the script of a caller stands in the world
@@ -53,7 +53,7 @@ step_passes script test [] k xs i span all is = absurd (none-some span is)
 step_passes {N} {T} script test (s ∷ ss) k xs zero span all is =
     subst (λ (p : Span N T). test p.step ≡ true) (same_Some _ span is) (and_parts (test s) (list_all test ss) all).0
 step_passes script test (s ∷ ss) k xs (suc i) span all is =
-    step_passes script test ss (kept_after script k s xs) (left_by (script.play k s) xs) i span (and_parts (test s) (list_all test ss) all).1 is
+    step_passes script test ss (kept_in_span script k s xs) (left_by_span (script.play k s) xs) i span (and_parts (test s) (list_all test ss) all).1 is
 
 -- ---- names
 
@@ -67,5 +67,5 @@ pub undotted : (w : World) (h : List Entry) (s : ℕ) (far : Script) (f : Conver
 undotted w h s far f world is_far x =
     let script = all_at (is_script (length w.hosts)) w.scripts s far world.scripts (stands_in w s far is_far) in
     let steps = (and_parts (nat_lt far.host (length w.hosts)) (list_all is_step far.steps) script).1 in
-    let passes = step_passes (scripted (zone_of w) far) is_step far.steps (scripted (zone_of w) far).start (own_of h s) x.number x.span steps x.stands in
+    let passes = step_passes (scripted (zone_of w) far) is_step far.steps (scripted (zone_of w) far).start (own_stamped h s) x.number x.span steps x.stands in
     undotted_name x.called (subst (λ (st : Step). is_step st ≡ true) x.exports passes)

@@ -13,7 +13,7 @@ use Rattle.net_base.specs.declared.world.Step.{Step}
 use Rattle.net_base.specs.Legal.{asked_by}
 use Rattle.net_base.specs.Scripts.{Kept, heard_replies, kept_after, position, step_play}
 use Rattle.net_base.specs.Steps.{Ask, Names, Play, Asks, Ends, Position, Stand, Asking, Finished, position_by, stands}
-use Rattle.import_law.specs.Order.{Begins, Finishes, IsPlayed, StandInOrder}
+use Rattle.import_law.specs.Order.{Begins, Finishes, IsPlayRecorded, StandInOrder}
 use Rattle.net_base.specs.Versions.{Tuples}
 use Rattle.import_law.specs.Scripted.{scripted}
 
@@ -28,13 +28,13 @@ begins_asks (Ends names) xs first = absurd first
 begins_asks (Asks a e next) [] first = (record { actor = a; event = e }, refl)
 begins_asks (Asks a e next) (x ∷ xs) first = begins_asks (next x.reply) xs first.1
 
-pub played_finishes : (p : Play) (xs : List Entry) (bound : Names) (rs : List Reply) → IsPlayed p xs bound → stands p (replies xs ++ rs) ≡ Finished bound rs
+pub played_finishes : (p : Play) (xs : List Entry) (bound : Names) (rs : List Reply) → IsPlayRecorded p xs bound → stands p (replies xs ++ rs) ≡ Finished bound rs
 played_finishes (Ends names) [] bound rs played = ap (λ (ns : Names). Finished ns rs) played
 played_finishes (Ends names) (x ∷ xs) bound rs played = absurd played
 played_finishes (Asks a e next) [] bound rs played = absurd played
 played_finishes (Asks a e next) (x ∷ xs) bound rs played = played_finishes (next x.reply) xs bound rs played.1
 
-played_heard : (p : Play) (xs : List Entry) (bound : Names) (rs : List Reply) → IsPlayed p xs bound → heard_replies p (replies xs ++ rs) ≡ replies xs
+played_heard : (p : Play) (xs : List Entry) (bound : Names) (rs : List Reply) → IsPlayRecorded p xs bound → heard_replies p (replies xs ++ rs) ≡ replies xs
 played_heard (Ends names) [] bound rs played = refl
 played_heard (Ends names) (x ∷ xs) bound rs played = absurd played
 played_heard (Asks a e next) [] bound rs played = absurd played
@@ -42,7 +42,7 @@ played_heard (Asks a e next) (x ∷ xs) bound rs played = ap (λ (ys : List Repl
 
 -- the play isn't over after these entries, or it is
 abbrev Goes : Play → List Entry → Type 0
-Goes p xs = Begins p xs ⊎ ((bound : Names) × IsPlayed p xs bound)
+Goes p xs = Begins p xs ⊎ ((bound : Names) × IsPlayRecorded p xs bound)
 
 no_entry : (p : Play) → Goes p []
 no_entry (Ends names) = inr (names, refl)
@@ -71,7 +71,7 @@ begins_take (Asks a e next) [] (suc k) first = tt
 begins_take (Asks a e next) (x ∷ xs) zero first = tt
 begins_take (Asks a e next) (x ∷ xs) (suc k) first = (first.0, begins_take (next x.reply) xs k first.1)
 
-played_take : (p : Play) (xs : List Entry) (bound : Names) (k : ℕ) → k < length xs → IsPlayed p xs bound → Begins p (take k xs)
+played_take : (p : Play) (xs : List Entry) (bound : Names) (k : ℕ) → k < length xs → IsPlayRecorded p xs bound → Begins p (take k xs)
 played_take (Ends names) [] bound k lt played = absurd (omega (arith, lt))
 played_take (Ends names) (x ∷ xs) bound k lt played = absurd played
 played_take (Asks a e next) [] bound k lt played = absurd played

@@ -14,20 +14,20 @@ use Rattle.net_base.specs.Next.{zone_of}
 use Rattle.net_base.specs.Scripts.{Kept}
 use Rattle.net_base.specs.Steps.{fid_of}
 use Rattle.net_base.specs.Written.{Conversation, peer}
-use Rattle.import_law.specs.ImportLaw.{AreAll, Served, calls, of_steps, replies}
+use Rattle.import_law.specs.ImportLaw.{AreAll, Served, calls, of_steps, got_back}
 use Rattle.import_law.specs.Phases.{Reads, on_own}
 use Rattle.import_law.specs.Scripted.{is_importing, scripted}
-use Rattle.import_law.specs.Spans.{Span, own_of, spans}
+use Rattle.import_law.specs.Spans.{Span, own_stamped, spans}
 
 -- all that is read and written at a conversation is of the importing steps of a caller with this script
 abbrev pub AllImported : World → List Entry → ℕ → Script → Conversation → Type 0
-AllImported w h c near e = AreAll h e (of_steps is_importing (spans (scripted (zone_of w) near) (own_of h c)))
+AllImported w h c near e = AreAll h e (of_steps is_importing (spans (scripted (zone_of w) near) (own_stamped h c)))
 
 -- .. and at its peer of one exporting step of a caller with this script, on its own file: a name that is bound to a data file of the peer
 pub record AllExported (w : World) (h : List Entry) (s : ℕ) (far : Script) (f : Conversation) : Type 0 where
   pub number : ℕ
   pub span : Span Kept Step
-  pub stands : slice_get (spans (scripted (zone_of w) far) (own_of h s)) number ≡ Some span
+  pub stands : slice_get (spans (scripted (zone_of w) far) (own_stamped h s)) number ≡ Some span
   pub called : List ℕ
   pub exports : span.step ≡ step.Export called
   pub mode : Mode
@@ -39,7 +39,7 @@ pub record AllExported (w : World) (h : List Entry) (s : ℕ) (far : Script) (f 
 abbrev pub AnsweredInOrder : (w : World) (h : List Entry) (c s : ℕ) (near far : Script) (e f : Conversation) → AllExported w h s far f → Type 0
 AnsweredInOrder w h c s near far e f x =
     Served {S = Sharing} (exported far.host) (unheard x.span.kept.names) f (calls h c e (scripted (zone_of w) near) is_importing)
-    (replies h c e (scripted (zone_of w) near) is_importing) x.span.entries
+    (got_back h c e (scripted (zone_of w) near) is_importing) x.span.entries
 
 -- What a history has of calls that carry files: where two scripts are all that reads and writes at the ends of a call of IL, what is
 -- imported at the one end is what is answered at the other.

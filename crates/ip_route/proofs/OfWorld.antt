@@ -7,7 +7,7 @@ use Rattle.net_base.specs.declared.world.HostSpec.{HostSpec}
 use Rattle.net_base.specs.declared.world.Iface.{Iface}
 use Rattle.net_base.specs.declared.world.World.{World}
 use Rattle.net_base.specs.Routes.{Route, longest_match, way, way_from, way_by, way_of_route, host_routes, has_address, stands_at, station_of}
-use Rattle.ip_route.specs.Kept.{AreWaysOf, HostWays, has_out, is_own, out_of, own_out, stands_on, station_among, way_kept, way_out, way_to}
+use Rattle.ip_route.specs.Kept.{AreWaysOf, HostWays, has_out, is_own_address, out_of, own_out, stands_on, station_among, way_kept, way_out, way_to}
 
 abbrev ifaces : HostSpec → List Iface
 ifaces h = h.ifaces
@@ -76,7 +76,7 @@ pub are_ways : (w : World) (n : ℕ) (h : HostSpec) (k : HostWays) → slice_get
     → k ≡ record { host = n; outs = map (out_of w) h.ifaces; routes = host_routes h; hosts = map ifaces w.hosts } → AreWaysOf w n k
 unfolding AreWaysOf
 are_ways w n h k at is ip =
-    (ap (λ (k : HostWays). way_to k ip) is ∙ to ∙ sym (way_at w n h ip at), ap (λ (k : HostWays). is_own k ip) is ∙ has_is w ip h.ifaces ∙ sym (has_at w n h ip at))
+    (ap (λ (k : HostWays). way_to k ip) is ∙ to ∙ sym (way_at w n h ip at), ap (λ (k : HostWays). is_own_address k ip) is ∙ has_is w ip h.ifaces ∙ sym (has_at w n h ip at))
   where
     to : way_kept (own_out ip (map (out_of w) h.ifaces)) n (map (out_of w) h.ifaces) (host_routes h) (map ifaces w.hosts) ip
         ≡ way_from (find (λ (i : Iface). i.ip == ip) h.ifaces) w n h ip

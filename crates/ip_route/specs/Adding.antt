@@ -12,18 +12,18 @@ abbrev pub route_by : ℕ → ℕ → Hop → Route
 route_by net mask hop = record { net = net; mask = mask; iface = hop.iface; next = hop.next }
 
 -- the ones of the mask are its first bits, and the net has no bits outside it
-abbrev pub is_network : ℕ → ℕ → Bool
-is_network net mask = is_mask mask && (bit_and net mask == net)
+abbrev pub is_route_network : ℕ → ℕ → Bool
+is_route_network net mask = is_mask mask && (bit_and net mask == net)
 
 -- why a route isn't added to these: its network is none, or it is that of the route in this place
-abbrev pub refusal : Route → List Route → Option RouteError
-refusal r routes = if is_network r.net r.mask then option_map error.Twice (position (same_network r) routes) else Some error.BadMask
+abbrev pub refused_route : Route → List Route → Option RouteError
+refused_route r routes = if is_route_network r.net r.mask then option_map error.Twice (position (same_network r) routes) else Some error.BadMask
 
 -- the answer is the refusal, or else there may have been no memory
-abbrev pub Answers : Option RouteError → Result ⊤ RouteError → Type 0
-Answers refused (Ok done) = refused ≡ None
-Answers refused (Err error.Memory) = refused ≡ None
-Answers refused (Err e) = refused ≡ Some e
+abbrev pub AnswersAdding : Option RouteError → Result ⊤ RouteError → Type 0
+AnswersAdding refused (Ok done) = refused ≡ None
+AnswersAdding refused (Err error.Memory) = refused ≡ None
+AnswersAdding refused (Err e) = refused ≡ Some e
 
 -- the one of two routes with the longer mask, or the first, if there are any
 abbrev pub better : Option Route → Option Route → Option Route

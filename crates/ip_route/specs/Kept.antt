@@ -52,9 +52,9 @@ abbrev pub way_to : HostWays → ℕ → Option Way
 way_to k ip = way_kept (own_out ip k.outs) k.host k.outs k.routes k.hosts ip
 
 -- the address is one of the host's own
-abbrev pub is_own : HostWays → ℕ → Bool
-is_own k ip = has_out ip k.outs
+abbrev pub is_own_address : HostWays → ℕ → Bool
+is_own_address k ip = has_out ip k.outs
 
 -- these are the ways from the h-th host of the world, and its addresses
 unfoldable pub AreWaysOf : World → ℕ → HostWays → Type 0
-AreWaysOf w h k = (ip : ℕ) → (way_to k ip ≡ way w h ip) × (is_own k ip ≡ has_address w h ip)
+AreWaysOf w h k = (ip : ℕ) → (way_to k ip ≡ way w h ip) × (is_own_address k ip ≡ has_address w h ip)

@@ -4,7 +4,7 @@ ghost use Rattle.std.specs.List.{position_from};
 ghost use Rattle.std.specs.Option.{option_map};
 ghost use Rattle.net_base.specs.Routes as spec;
 ghost use Rattle.net_base.specs.World.{same_network};
-ghost use Rattle.ip_route.specs.Adding.{Answers, better, is_network, refusal, route_by};
+ghost use Rattle.ip_route.specs.Adding.{AnswersAdding, better, is_route_network, refused_route, route_by};
 ghost use Rattle.ip_route.specs.Hops.{hop_from};
 
 use crate::error::RouteError;
@@ -91,7 +91,7 @@ fn longest_match(routes: &[Route], ip: u32) -> Option<Route>
 
 /// Whether the ones of the mask are its first bits, and the net has no bits outside it.
 fn is_network(net: u32, mask: u32) -> bool
-    ensures { result ≡ is_network net mask }
+    ensures { result ≡ is_route_network net mask }
 {
     is_mask(mask) && net & mask == net
 }
@@ -184,7 +184,7 @@ impl Routes {
     /// Adds a route to a network, unless the network is none or has a route already.
     #[tactic(auto, using(crate::proofs::Refusals::twice, crate::proofs::Refusals::none))]
     pub fn add(&mut self, net: u32, mask: u32, hop: Hop) -> Result<(), RouteError>
-        ensures refused { Answers (refusal (route_by net mask hop) self.old) result }
+        ensures refused { AnswersAdding (refused_route (route_by net mask hop) self.old) result }
         ensures ok { OnOk result (self.new ≡ self.old ++ route_by net mask hop ∷ []) }
         ensures err { OnErr result (self.new ≡ self.old) }
     {

@@ -2,7 +2,7 @@
 ghost use Rattle.std.specs.Prelude.{◌≡◌, ◌<◌, ◌^◌, length, map, IfOk, IfSome};
 ghost use Rattle.net_base.specs.declared.world.HostSpec.{HostSpec as AnyHost};
 ghost use Rattle.net_base.specs.Routes as spec;
-ghost use Rattle.ip_route.specs.Kept.{AreWaysOf, is_own, out_of, own_out, station_among, stands_on, way_to};
+ghost use Rattle.ip_route.specs.Kept.{AreWaysOf, is_own_address, out_of, own_out, station_among, stands_on, way_to};
 
 use crate::routes::Routes;
 use net_base::{Iface, Ifaces, World};
@@ -180,7 +180,7 @@ impl Ways {
 
     /// Whether the host has the address.
     pub fn has(&self, ip: u32) -> bool
-        ensures { result ≡ is_own self.now ip }
+        ensures { result ≡ is_own_address self.now ip }
     {
         self.outs.iter().any(|out| out.ip == ip)
     }

@@ -1,20 +1,20 @@
 -- How far bytes look like a datagram: each step is what the fault after it presumes.
 use Rattle.std.specs.Prelude.{◌≡◌, ◌≤◌, ◌⊎◌, List, length, ℕ}
 use Rattle.net_base.specs.Bytes.{word_at}
-use Rattle.wire_text.specs.Ipv4.{version, header_words, fragment, header_sum}
+use Rattle.wire_text.specs.Ipv4.{version, length_words, fragment, header_sum}
 use Rattle.wire_text.specs.UdpWire.{sum_field, received_sum}
 
 -- there are bytes enough for a header
-abbrev pub HasHeader : List ℕ → Type 0
-HasHeader bytes = 20 ≤ length bytes
+abbrev pub HasIpHeader : List ℕ → Type 0
+HasIpHeader bytes = 20 ≤ length bytes
 
 -- .. of version 4
 abbrev pub IsVersion4 : List ℕ → Type 0
-IsVersion4 bytes = HasHeader bytes × (version bytes ≡ 4)
+IsVersion4 bytes = HasIpHeader bytes × (version bytes ≡ 4)
 
 -- .. without options
 abbrev pub HasNoOptions : List ℕ → Type 0
-HasNoOptions bytes = IsVersion4 bytes × (header_words bytes ≡ 5)
+HasNoOptions bytes = IsVersion4 bytes × (length_words bytes ≡ 5)
 
 -- .. of a whole datagram
 abbrev pub IsNoFragment : List ℕ → Type 0

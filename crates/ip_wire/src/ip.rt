@@ -1,8 +1,8 @@
 //! IPv4 headers.
 ghost use Rattle.std.specs.Prelude.{◌≡◌, ◌≢◌, ◌+◌, ◌^◌, ◌<◌, ◌≤◌, ◌++◌, ◌↔◌, ℕ, false, List, length, take, drop, IfOk, IsOkAnd, IsErrOf};
 ghost use Rattle.net_base.specs.Bytes.{word_at};
-ghost use Rattle.wire_text.specs.Ipv4.{Ipv4, IsHeader, SpellsIpv4, flags, fragment, header_of, header_sum, header_words, ipv4_bytes, summed, total_length, version};
-ghost use Rattle.ip_wire.specs.Faults.{HasHeader, HasHeaderSum, HasNoOptions, IsNoFragment, IsVersion4};
+ghost use Rattle.wire_text.specs.Ipv4.{Ipv4, IsHeader, SpellsIpv4, flags, fragment, header_of, header_sum, length_words, ipv4_bytes, summed, total_length, version};
+ghost use Rattle.ip_wire.specs.Faults.{HasIpHeader, HasHeaderSum, HasNoOptions, IsNoFragment, IsVersion4};
 ghost use Rattle.ip_wire.specs.Headers.{view};
 
 use crate::checksum::{add_words, complement, sum};
@@ -64,8 +64,8 @@ pub fn decode_ip(bytes: &[u8]) -> Result<IpView<'_>, WireError>
     ensures only { (h : Ipv4) (payload : List ℕ) → SpellsIpv4 h payload bytes.now → IsOkAnd result (λ v. (view v.header ≡ h) × (v.payload.now ≡ payload)) }
     // Which fault it is: the first of these.
     ensures short { IsErrOf result WireError.Short ↔ (length bytes.now < 20) }
-    ensures version { IsErrOf result WireError.Version ↔ (HasHeader bytes.now × (version bytes.now ≢ 4)) }
-    ensures options { IsErrOf result WireError.Options ↔ (IsVersion4 bytes.now × (header_words bytes.now ≢ 5)) }
+    ensures version { IsErrOf result WireError.Version ↔ (HasIpHeader bytes.now × (version bytes.now ≢ 4)) }
+    ensures options { IsErrOf result WireError.Options ↔ (IsVersion4 bytes.now × (length_words bytes.now ≢ 5)) }
     ensures fragment { IsErrOf result WireError.Fragment ↔ (HasNoOptions bytes.now × (fragment bytes.now ≢ 0)) }
     ensures sum { IsErrOf result WireError.Sum ↔ (IsNoFragment bytes.now × (word_at 10 bytes.now ≢ header_sum bytes.now)) }
     ensures length { IsErrOf result WireError.Length ↔ (HasHeaderSum bytes.now × (total_length bytes.now ≢ length bytes.now)) }

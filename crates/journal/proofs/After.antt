@@ -8,10 +8,10 @@ use Rattle.net_base.specs.Stamped.{same_actor, matches, at, clock, latest, momen
 use Rattle.journal.specs.declared.law.Roster.{Roster}
 use Rattle.journal.specs.declared.law.View.{View}
 use mathlib.Core.List.{IsPrefix}
-use Rattle.journal.specs.Rule.{Held, Lawful, has_caller, same_number, without, only, clock_of, both, Looks, gain, Adds, MayAdd, Timely}
+use Rattle.journal.specs.Rule.{Held, Lawful, has_caller, same_number, handed_over, only, clock_of, both_seen, Looks, gain, Adds, MayAdd, Timely}
 use Rattle.journal.specs.declared.tokens.Sight.{Sight}
 use Rattle.journal.specs.declared.tokens.Volume.{Volume}
-use Rattle.journal.specs.Tokens.{Agrees, OnlyCallers, sight, stamped, volume, first, HoldsAll, Recorded, LookedWith, Met}
+use Rattle.journal.specs.Tokens.{Agrees, OnlyCallers, sight, stamped, volume, first_held, HoldsAll, RecordedInBook, LookedWith, Met}
 use Rattle.journal.proofs.Bounds.{whole_seen, lawful-before}
 use Rattle.journal.proofs.Lists.{at-length, in-gained}
 use Rattle.journal.proofs.Steps.{gained, in_has_caller, in-filter, filter_has_caller}
@@ -67,7 +67,7 @@ clock_among v h = rw h (inl refl)
 pub all_seen : (r : Roster) (v : View) (log : List Noted) → Agrees v → Lawful r log → IsPrefix v.seen log → ((k : Number) (es : List (ℕ × Noted)) → In (k, es) v.held → at k log ≡ es) → HoldsAll r (sight v) → log ≡ v.seen
 all_seen r v log a l p lists all = whole_seen r log v.seen l p (λ c lt. let t = all c lt in a.lists (number.Caller c) t.0 t.1 ∙ sym (lists (number.Caller c) t.0 t.1))
 
-pub met : (r : Roster) (v u w : View) (n : ℕ) → Agrees v → Agrees u → Looks r (both v u) n w → (p q : Sight) → sight v ≡ p → sight u ≡ q → Met r p q (sight w)
+pub met : (r : Roster) (v u w : View) (n : ℕ) → Agrees v → Agrees u → Looks r (both_seen v u) n w → (p q : Sight) → sight v ≡ p → sight u ≡ q → Met r p q (sight w)
 met r v u w n a b d p q e f =
     let whole : Met r (sight v) (sight u) (sight w) = record {
       held = d.held;
@@ -90,35 +90,35 @@ rested views u w hs e f h = ap (λ (z : View). z.held) (one_view views u w e f) 
 pub volume_is : (a : ActorName) (i n : ℕ) (views : List View) (v : View) (k : Number) (list : List (ℕ × Noted)) → views ≡ v ∷ [] → v.held ≡ (k, list) ∷ []
     → volume a i views n ≡ record { actor = a; number = i; seen = v.seen; list = list; room = n }
 volume_is a i n views v k list e h =
-    ap (λ (vs : List View). volume a i vs n) e ∙ ap (λ (hs : List Held). record { actor = a; number = i; seen = v.seen; list = first hs; room = n }) h
+    ap (λ (vs : List View). volume a i vs n) e ∙ ap (λ (hs : List Held). record { actor = a; number = i; seen = v.seen; list = first_held hs; room = n }) h
 
 module _ (v u : View) (a : ActorName) (list : List (ℕ × Noted)) (agrees : Agrees v) (callers : OnlyCallers v.held) (held : u.held ≡ (number.Actor a, list) ∷ []) where
-  pub book_in : In (number.Actor a, list) (both v u).held
+  pub book_in : In (number.Actor a, list) (both_seen v u).held
   book_in = in_back (number.Actor a, list) v.held u.held (subst (λ (hs : List Held). In (number.Actor a, list) hs) (sym held) (inl refl))
 
   pub may_add : (r : Roster) (x : Noted) (es : List (ℕ × Noted)) → In (number.Caller x.entry.caller, es) v.held → length es < 131072 → x.entry.actor ≡ a → x.entry.moment ≡ moment_noted v.seen
-      → x.entry.event ≡ x.work.event → Timely r v.held x → MayAdd r (both v u) x
+      → x.entry.event ≡ x.work.event → Timely r v.held x → MayAdd r (both_seen v u) x
   may_add r x es i room is now event timely =
       let h : has_caller v.held ≡ true = in_has_caller v.held x.entry.caller es i in
       record {
         of_caller = es;
         of_actor = list;
         caller = in_front (number.Caller x.entry.caller, es) v.held u.held i;
-        actor = subst (λ (b : ActorName). In (number.Actor b, list) (both v u).held) (sym is) book_in;
+        actor = subst (λ (b : ActorName). In (number.Actor b, list) (both_seen v u).held) (sym is) book_in;
         moment_is = rw h (now ∙ ap (latest 0) (agrees.clock_is h));
         room = room;
         event_is = event;
         timely = ⊎_elim (λ m. inl m) (λ all. inr (λ c lt. let t = all c lt in (t.0, in_front (number.Caller c, t.0) v.held u.held t.1))) timely;
       }
 
-  module _ (r : Roster) (x : Noted) (n : ℕ) (w : View) (d : Adds r x (both v u) n w) (es : List (ℕ × Noted)) (caller : In (number.Caller x.entry.caller, es) v.held) (is : x.entry.actor ≡ a) where
+  module _ (r : Roster) (x : Noted) (n : ℕ) (w : View) (d : Adds r x (both_seen v u) n w) (es : List (ℕ × Noted)) (caller : In (number.Caller x.entry.caller, es) v.held) (is : x.entry.actor ≡ a) where
     all_held : w.held ≡ map (gain n x) v.held ++ (number.Actor a, list ++ (n, x) ∷ []) ∷ []
     all_held =
         let own : matches (number.Actor a) x ≡ true = ap (λ (b : ActorName). same_actor b a) is ∙ same_itself a in
         let g : gain n x (number.Actor a, list) ≡ (number.Actor a, list ++ (n, x) ∷ []) = λ i. (number.Actor a, if own i then list ++ (n, x) ∷ [] else list) in
         d.held ∙ ap (λ (hs : List Held). map (gain n x) (v.held ++ hs)) held ∙ map-snoc (gain n x) v.held (number.Actor a, list) ∙ ap (λ (h : Held). map (gain n x) v.held ++ h ∷ []) g
 
-    pub kept_held : (without (number.Actor a) w).held ≡ map (gain n x) v.held
+    pub kept_held : (handed_over (number.Actor a) w).held ≡ map (gain n x) v.held
     kept_held = ap (filter (λ (h : Held). not (same_number h.0 (number.Actor a)))) all_held ∙ kept_is (map (gain n x) v.held) a (list ++ (n, x) ∷ []) (gained_callers n x v.held callers)
 
     pub given_held : (only (number.Actor a) w).held ≡ (number.Actor a, list ++ (n, x) ∷ []) ∷ []
@@ -133,7 +133,7 @@ module _ (v u : View) (a : ActorName) (list : List (ℕ × Noted)) (agrees : Agr
     pub clock_then : at clock d.past ≡ v.clock
     clock_then = d.moment_is (has_caller-left v.held u.held has) ∙ rw has refl
 
-    pub pass_agrees : Agrees (without (number.Actor a) w)
+    pub pass_agrees : Agrees (handed_over (number.Actor a) w)
     pass_agrees = record {
       lists = λ k fs i.
           let t = in-gained n x v.held k fs (subst (λ (hs : List Held). In (k, fs) hs) kept_held i) in
@@ -153,9 +153,9 @@ module _ (v u : View) (a : ActorName) (list : List (ℕ × Noted)) (agrees : Agr
         subst (λ (l : List (ℕ × Noted)). length l ≤ 4849664) book_agrees (omega arith)
 
     pub recorded : (i m m' : ℕ) (b b' : Volume) (p p' : Sight) → record { actor = a; number = i; seen = u.seen; list = list; room = m } ≡ b
-        → record { actor = a; number = i; seen = w.seen; list = list ++ (n, x) ∷ []; room = m' } ≡ b' → sight v ≡ p → sight (without (number.Actor a) w) ≡ p' → Recorded r b p x n b' p'
+        → record { actor = a; number = i; seen = w.seen; list = list ++ (n, x) ∷ []; room = m' } ≡ b' → sight v ≡ p → sight (handed_over (number.Actor a) w) ≡ p' → RecordedInBook r b p x n b' p'
     recorded i m m' b b' p p' e e' f f' =
-        let whole : Recorded r record { actor = a; number = i; seen = u.seen; list = list; room = m } (sight v) x n record { actor = a; number = i; seen = w.seen; list = list ++ (n, x) ∷ []; room = m' } (sight (without (number.Actor a) w)) = record {
+        let whole : RecordedInBook r record { actor = a; number = i; seen = u.seen; list = list; room = m } (sight v) x n record { actor = a; number = i; seen = w.seen; list = list ++ (n, x) ∷ []; room = m' } (sight (handed_over (number.Actor a) w)) = record {
           past = d.past;
           stamp_is = d.stamp;
           seen = d.seen;
@@ -172,15 +172,15 @@ module _ (v u : View) (a : ActorName) (list : List (ℕ × Noted)) (agrees : Agr
           book_actor = (refl, refl);
           book_seen = refl;
         } in
-        subst (λ (z : Volume). Recorded r b p x n z p') e' (subst (λ (z : Sight). Recorded r b p x n record { actor = a; number = i; seen = w.seen; list = list ++ (n, x) ∷ []; room = m' } z) f'
-        (subst (λ (z : Sight). Recorded r b z x n record { actor = a; number = i; seen = w.seen; list = list ++ (n, x) ∷ []; room = m' } (sight (without (number.Actor a) w))) f
-        (subst (λ (z : Volume). Recorded r z (sight v) x n record { actor = a; number = i; seen = w.seen; list = list ++ (n, x) ∷ []; room = m' } (sight (without (number.Actor a) w))) e whole)))
+        subst (λ (z : Volume). RecordedInBook r b p x n z p') e' (subst (λ (z : Sight). RecordedInBook r b p x n record { actor = a; number = i; seen = w.seen; list = list ++ (n, x) ∷ []; room = m' } z) f'
+        (subst (λ (z : Sight). RecordedInBook r b z x n record { actor = a; number = i; seen = w.seen; list = list ++ (n, x) ∷ []; room = m' } (sight (handed_over (number.Actor a) w))) f
+        (subst (λ (z : Volume). RecordedInBook r z (sight v) x n record { actor = a; number = i; seen = w.seen; list = list ++ (n, x) ∷ []; room = m' } (sight (handed_over (number.Actor a) w))) e whole)))
 
-  module _ (r : Roster) (n : ℕ) (w : View) (d : Looks r (both v u) n w) where
+  module _ (r : Roster) (n : ℕ) (w : View) (d : Looks r (both_seen v u) n w) where
     look_held : w.held ≡ v.held ++ (number.Actor a, list) ∷ []
     look_held = d.held ∙ ap (λ (hs : List Held). v.held ++ hs) held
 
-    pub look_kept : (without (number.Actor a) w).held ≡ v.held
+    pub look_kept : (handed_over (number.Actor a) w).held ≡ v.held
     look_kept = ap (filter (λ (h : Held). not (same_number h.0 (number.Actor a)))) look_held ∙ kept_is v.held a list callers
 
     pub look_given : (only (number.Actor a) w).held ≡ (number.Actor a, list) ∷ []
@@ -195,16 +195,16 @@ module _ (v u : View) (a : ActorName) (list : List (ℕ × Noted)) (agrees : Agr
     pub look_clock : has_caller v.held ≡ true → at clock w.seen ≡ v.clock
     look_clock h = d.moment_is (ap has_caller d.held ∙ has_caller-left v.held u.held h) ∙ d.clock_is ∙ rw h refl
 
-    pub look_agrees : Agrees (without (number.Actor a) w)
+    pub look_agrees : Agrees (handed_over (number.Actor a) w)
     look_agrees = record {
       lists = λ k es i. look_lists k es (subst (λ (hs : List Held). In (k, es) hs) look_kept i);
       clock_is = λ h. let has : has_caller v.held ≡ true = ap has_caller (sym look_kept) ∙ h in look_clock has ∙ sym (d.clock_is ∙ rw has refl);
     }
 
     pub looked_with : (i m : ℕ) (b b' : Volume) (p p' : Sight) → record { actor = a; number = i; seen = u.seen; list = list; room = m } ≡ b
-        → record { actor = a; number = i; seen = w.seen; list = list; room = m } ≡ b' → sight v ≡ p → sight (without (number.Actor a) w) ≡ p' → LookedWith r b p n b' p'
+        → record { actor = a; number = i; seen = w.seen; list = list; room = m } ≡ b' → sight v ≡ p → sight (handed_over (number.Actor a) w) ≡ p' → LookedWith r b p n b' p'
     looked_with i m b b' p p' e e' f f' =
-        let whole : LookedWith r record { actor = a; number = i; seen = u.seen; list = list; room = m } (sight v) n record { actor = a; number = i; seen = w.seen; list = list; room = m } (sight (without (number.Actor a) w)) = record {
+        let whole : LookedWith r record { actor = a; number = i; seen = u.seen; list = list; room = m } (sight v) n record { actor = a; number = i; seen = w.seen; list = list; room = m } (sight (handed_over (number.Actor a) w)) = record {
           look = record {
             front_is = d.front;
             before = d.olds v.seen (inl refl);
@@ -222,5 +222,5 @@ module _ (v u : View) (a : ActorName) (list : List (ℕ × Noted)) (agrees : Agr
           book_room = refl;
         } in
         subst (λ (z : Volume). LookedWith r b p n z p') e' (subst (λ (z : Sight). LookedWith r b p n record { actor = a; number = i; seen = w.seen; list = list; room = m } z) f'
-        (subst (λ (z : Sight). LookedWith r b z n record { actor = a; number = i; seen = w.seen; list = list; room = m } (sight (without (number.Actor a) w))) f
-        (subst (λ (z : Volume). LookedWith r z (sight v) n record { actor = a; number = i; seen = w.seen; list = list; room = m } (sight (without (number.Actor a) w))) e whole)))
+        (subst (λ (z : Sight). LookedWith r b z n record { actor = a; number = i; seen = w.seen; list = list; room = m } (sight (handed_over (number.Actor a) w))) f
+        (subst (λ (z : Volume). LookedWith r z (sight v) n record { actor = a; number = i; seen = w.seen; list = list; room = m } (sight (handed_over (number.Actor a) w))) e whole)))

@@ -14,7 +14,7 @@ use Rattle.net_base.specs.declared.noted.Number.TheVariants as number
 use Rattle.net_base.specs.Stamped.{same_actor, at, clock, In}
 use Rattle.journal.specs.declared.law.View.{View}
 use Rattle.journal.specs.declared.tokens.Volume.{Volume}
-use Rattle.journal.specs.Rule.{Held, IsSeat, IsCaller, caller_numbers, actor_numbers, same_number, without, only}
+use Rattle.journal.specs.Rule.{Held, IsSeat, IsCallerNumber, caller_numbers, actor_numbers, same_number, handed_over, only}
 use Rattle.journal.specs.Tokens.{IsPass, Distinct, IsBlank, AreBlank, Dealt}
 use Rattle.journal.proofs.After.{zeros_at}
 use Rattle.net_base.proofs.Shared.{same_actor_is, same_itself}
@@ -97,17 +97,17 @@ module _ (callers : ℕ) (actors : List ActorName) (i : ℕ) (v : View) (books :
       ∙ (ap (λ (b : Bool). if b then (number.Actor a, []) ∷ filter (give a) (actor_numbers (drop (suc i) actors)) else filter (give a) (actor_numbers (drop (suc i) actors))) own
       ∙ ap (λ (t : List Held). (number.Actor a, []) ∷ t) (given_actors a (drop (suc i) actors) apart))
 
-  dealt_kept : (without (number.Actor a) v).held ≡ caller_numbers callers ++ actor_numbers (drop (suc i) actors)
+  dealt_kept : (handed_over (number.Actor a) v).held ≡ caller_numbers callers ++ actor_numbers (drop (suc i) actors)
   dealt_kept =
       let own = same_itself a in
       ap (filter (keep a)) held_is ∙ kept_callers a callers ((number.Actor a, []) ∷ actor_numbers (drop (suc i) actors))
       ∙ ap (λ (t : List Held). caller_numbers callers ++ t)
       (ap (λ (b : Bool). if not b then (number.Actor a, []) ∷ filter (keep a) (actor_numbers (drop (suc i) actors)) else filter (keep a) (actor_numbers (drop (suc i) actors))) own ∙ kept_actors a (drop (suc i) actors) apart)
 
-  pub dealt_next : (w : View) (b : Volume) → w ≡ without (number.Actor a) v → IsBlank i a b → Dealt callers actors (i + 1) w (books ++ b ∷ [])
+  pub dealt_next : (w : View) (b : Volume) → w ≡ handed_over (number.Actor a) v → IsBlank i a b → Dealt callers actors (i + 1) w (books ++ b ∷ [])
   dealt_next w b e k =
       let up : suc i ≡ i + 1 = omega arith in
-      let whole : Dealt callers actors (i + 1) (without (number.Actor a) v) (books ++ b ∷ []) = record {
+      let whole : Dealt callers actors (i + 1) (handed_over (number.Actor a) v) (books ++ b ∷ []) = record {
         within = omega arith;
         seen = d.seen;
         clock_is = d.clock_is;
@@ -118,9 +118,9 @@ module _ (callers : ℕ) (actors : List ActorName) (i : ℕ) (v : View) (books :
       subst (λ (z : View). Dealt callers actors (i + 1) z (books ++ b ∷ [])) (sym e) whole
 
 -- the numbers of the callers, all without entries
-callers_only : (n m : ℕ) → n ≤ m → (k : Number) (es : List (ℕ × Noted)) → In (k, es) (caller_numbers n) → (es ≡ []) × IsCaller k
+callers_only : (n m : ℕ) → n ≤ m → (k : Number) (es : List (ℕ × Noted)) → In (k, es) (caller_numbers n) → (es ≡ []) × IsCallerNumber k
 callers_only zero m le k es i = absurd i
-callers_only (suc n) m le k es (inl e) = (ap (λ (h : Held). h.1) e, subst IsCaller (sym (ap (λ (h : Held). h.0) e)) tt)
+callers_only (suc n) m le k es (inl e) = (ap (λ (h : Held). h.1) e, subst IsCallerNumber (sym (ap (λ (h : Held). h.0) e)) tt)
 callers_only (suc n) m le k es (inr i) = callers_only n m (omega arith) k es i
 
 caller_below : (n m : ℕ) → n ≤ m → (c : ℕ) (es : List (ℕ × Noted)) → In (number.Caller c, es) (caller_numbers n) → c < m

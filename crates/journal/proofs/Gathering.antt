@@ -20,7 +20,7 @@ use Rattle.journal.specs.Rule.{Held, Lawful, Knows, Looks}
 use Rattle.journal.specs.Tokens.{stamped, sight, Agrees, HoldsAll}
 use Rattle.std.proofs.lemmas.List.{length-map}
 use Rattle.journal.proofs.After.{all_seen}
-use Rattle.journal.specs.Closing.{plain, Taken, Gathered, IsWhole, IsCover, IsLeft, AreOf, AreAllOf, AreAt}
+use Rattle.journal.specs.Closing.{plain, TakenIn, Gathered, IsWhole, IsCover, IsLeft, AreOf, AreAllOf, AreAt}
 use Rattle.journal.proofs.Lists.{prefix_self, prefix_trans}
 use Rattle.net_base.proofs.Shared.{in_front, in_back, in_parts, same_itself}
 
@@ -37,7 +37,7 @@ of-map (x ∷ l) e (inr i) = let t = of-map l e i in (t.0, inr t.1, t.2)
 pub gathered_none : (v : View) → Gathered v [] v []
 gathered_none v = record { kept = λ k es i. i; before = prefix_self v.seen; taken = λ b i. absurd i; all = λ b y i j. absurd i; sound = λ e i. absurd i }
 
-pub gathered_more : (v w w' : View) (done : List Volume) (b : Volume) (es : List Stamped) → Gathered v done w es → Taken w b w' → Gathered v (b ∷ done) w' (es ++ map stamped b.list)
+pub gathered_more : (v w w' : View) (done : List Volume) (b : Volume) (es : List Stamped) → Gathered v done w es → TakenIn w b w' → Gathered v (b ∷ done) w' (es ++ map stamped b.list)
 gathered_more v w w' done b es g t = record {
   kept = λ k l i. t.kept k l (g.kept k l i);
   before = prefix_trans v.seen w.seen w'.seen g.before t.before;

@@ -8,7 +8,7 @@ use lib.ListN.{get_elem?}
 use Rattle.net_base.specs.declared.noted.Noted.{Noted}
 use Rattle.net_base.specs.declared.noted.Number.{Number}
 use Rattle.net_base.specs.Stamped.{matches, at, at_from, In}
-use Rattle.journal.specs.Rule.{Held, gain, longer}
+use Rattle.journal.specs.Rule.{Held, gain, longer_history}
 
 pub prefix_self : {A : Type 0} (xs : List A) → IsPrefix xs xs
 prefix_self [] = ([], refl)
@@ -112,7 +112,7 @@ get_within (x ∷ xs) b zero e = omega arith
 get_within (x ∷ xs) b (suc j) e = let r = get_within xs b j e in omega arith
 
 -- the longer of two
-pub longer_is : (xs ys : List Noted) → ((longer xs ys ≡ xs) × (length ys ≤ length xs)) ⊎ ((longer xs ys ≡ ys) × (length xs ≤ length ys))
+pub longer_is : (xs ys : List Noted) → ((longer_history xs ys ≡ xs) × (length ys ≤ length xs)) ⊎ ((longer_history xs ys ≡ ys) × (length xs ≤ length ys))
 longer_is xs ys = next (nat_lt (length xs) (length ys)) refl
   where
     next : (b : Bool) → nat_lt (length xs) (length ys) ≡ b → (((if b then ys else xs) ≡ xs) × (length ys ≤ length xs)) ⊎ (((if b then ys else xs) ≡ ys) × (length xs ≤ length ys))
@@ -120,13 +120,13 @@ longer_is xs ys = next (nat_lt (length xs) (length ys)) refl
     next false e = inl (refl, grind (arith, nat_tests))
 
 -- of two beginnings one of which is the whole, the longer is the whole
-pub longer_left : (log xs ys : List Noted) → xs ≡ log → IsPrefix ys log → longer xs ys ≡ log
+pub longer_left : (log xs ys : List Noted) → xs ≡ log → IsPrefix ys log → longer_history xs ys ≡ log
 longer_left log xs ys e q = ⊎_elim
     (λ t. t.0 ∙ e)
     (λ t. t.0 ∙ (let le = t.1 in prefix_whole ys log q (subst (λ (l : List Noted). length l ≤ length ys) e le)))
     (longer_is xs ys)
 
-pub longer_right : (log xs ys : List Noted) → ys ≡ log → IsPrefix xs log → longer xs ys ≡ log
+pub longer_right : (log xs ys : List Noted) → ys ≡ log → IsPrefix xs log → longer_history xs ys ≡ log
 longer_right log xs ys e p = ⊎_elim
     (λ t. t.0 ∙ (let le = t.1 in prefix_whole xs log p (subst (λ (l : List Noted). length l ≤ length xs) e le)))
     (λ t. t.0 ∙ e)

@@ -11,7 +11,7 @@ use Rattle.net_base.specs.Stamped.{In}
 use Rattle.journal.specs.declared.places.Place.{Place}
 use Rattle.journal.specs.declared.tokens.Stamped.{Stamped}
 use Rattle.journal.specs.Closing.{AreAt, IsLeft}
-use Rattle.journal.specs.Places.{ArePlaced, AreThere, AreThereFrom, IsClosed, IsPlaced, IsThere, entries_at, in_list, there, with_entry}
+use Rattle.journal.specs.Places.{ArePlaced, AreThere, AreThereFrom, AreClosed, IsPlaced, IsThere, entries_at, in_list, there, with_stamped}
 use Rattle.journal.proofs.Gathering.{left_append}
 
 -- What stands at a place.
@@ -33,16 +33,16 @@ stands_at n i ls [] p all is = absurd (none-some p is)
 stands_at n zero ls (q ∷ ps) p (first, more) is = (
   first.entry,
   subst (λ (z : Place). there ls z ≡ Some first.entry) (same_Some q p is) first.stands,
-  ap (λ (o : Option Stamped). slice_get (with_entry o (entries_at ls ps)) 0) first.stands,
+  ap (λ (o : Option Stamped). slice_get (with_stamped o (entries_at ls ps)) 0) first.stands,
 )
 stands_at n (suc i) ls (q ∷ ps) p (first, more) is =
     let t = stands_at (n + 1) i ls ps p more is in
-    (t.0, t.1, ap (λ (o : Option Stamped). slice_get (with_entry o (entries_at ls ps)) (suc i)) first.stands ∙ t.2)
+    (t.0, t.1, ap (λ (o : Option Stamped). slice_get (with_stamped o (entries_at ls ps)) (suc i)) first.stands ∙ t.2)
 
 pub long_at : (n : ℕ) (ls : List (List Stamped)) (ps : List Place) → AreThereFrom n ls ps → length (entries_at ls ps) ≡ length ps
 long_at n ls [] all = refl
 long_at n ls (p ∷ ps) (first, more) =
-    ap (λ (o : Option Stamped). length (with_entry o (entries_at ls ps))) first.stands ∙ ap suc (long_at (n + 1) ls ps more)
+    ap (λ (o : Option Stamped). length (with_stamped o (entries_at ls ps))) first.stands ∙ ap suc (long_at (n + 1) ls ps more)
 
 -- All of a history.
 
@@ -57,7 +57,7 @@ all_from n ls (p ∷ ps) (x ∷ rest) (first, more) long at =
     let here : x ≡ e.entry = some-injective x e.entry (at 0 e (left_at ls p.list p.at e first.stands) (omega (arith, own))) in
     let behind : entries_at ls ps ≡ rest =
     all_from (n + 1) ls ps rest more (omega (arith, long)) (λ i f left own. at (suc i) f left (omega (arith, own))) in
-    ap (λ (o : Option Stamped). with_entry o (entries_at ls ps)) first.stands
+    ap (λ (o : Option Stamped). with_stamped o (entries_at ls ps)) first.stands
     ∙ ap (λ (y : Entry). y ∷ entries_at ls ps) (sym here)
     ∙ ap (λ (l : List Entry). x ∷ l) behind
 
@@ -65,7 +65,7 @@ pub all_at : (ls : List (List Stamped)) (ps : List Place) (log : List Entry) →
 all_at ls ps log all long at =
     all_from 0 ls ps log all long (λ i e left own. subst (λ (n : ℕ). get_elem? log n ≡ some e.entry) (omega (arith, own)) (at e left))
 
-pub closed_by : (ls : List (List Stamped)) (ps : List Place) (log : List Entry) → AreThere ls ps → length log ≡ length ps → AreAt log ls → IsClosed ls ps
+pub closed_by : (ls : List (List Stamped)) (ps : List Place) (log : List Entry) → AreThere ls ps → length log ≡ length ps → AreAt log ls → AreClosed ls ps
 closed_by ls ps log all long at =
     record { all = all; only = subst (λ (l : List Entry). AreAt l ls) (sym (all_at ls ps log all long at)) at }
 
@@ -179,7 +179,7 @@ all_there ls ps log placed long all =
 -- What closed books lend.
 
 -- what stands at a stamp's place is its entry
-pub lends : (ls : List (List Stamped)) (ps : List Place) (log : List Entry) → IsClosed ls ps → entries_at ls ps ≡ log
+pub lends : (ls : List (List Stamped)) (ps : List Place) (log : List Entry) → AreClosed ls ps → entries_at ls ps ≡ log
     → (i : ℕ) (p : Place) (e : Stamped) → slice_get ps i ≡ Some p → there ls p ≡ Some e → slice_get log i ≡ Some e.entry
 lends ls ps log closed view i p e noted found =
     let t = stands_at 0 i ls ps p closed.all noted in
@@ -187,12 +187,12 @@ lends ls ps log closed view i p e noted found =
     ap (λ (l : List Entry). slice_get l i) (sym view) ∙ t.2 ∙ ap (λ (z : Stamped). Some z.entry) same
 
 -- and something stands there
-pub never_none : (ls : List (List Stamped)) (ps : List Place) → IsClosed ls ps → (i : ℕ) (p : Place) → slice_get ps i ≡ Some p → there ls p ≡ None → ⊥
+pub never_none : (ls : List (List Stamped)) (ps : List Place) → AreClosed ls ps → (i : ℕ) (p : Place) → slice_get ps i ≡ Some p → there ls p ≡ None → ⊥
 never_none ls ps closed i p noted none =
     let t = stands_at 0 i ls ps p closed.all noted in
     none-some t.0 (sym none ∙ t.1)
 
-pub long_as : (ls : List (List Stamped)) (ps : List Place) (log : List Entry) → IsClosed ls ps → entries_at ls ps ≡ log → length log ≡ length ps
+pub long_as : (ls : List (List Stamped)) (ps : List Place) (log : List Entry) → AreClosed ls ps → entries_at ls ps ≡ log → length log ≡ length ps
 long_as ls ps log closed view = ap length (sym view) ∙ long_at 0 ls ps closed.all
 
 pub got_by : (ps : List Place) (i : ℕ) (p : Place) → p ≡ slice_index_or ps i p → i < length ps → slice_get ps i ≡ Some p

@@ -15,7 +15,7 @@ use Rattle.net_base.specs.declared.noted.Number.TheVariants as number
 use Rattle.net_base.specs.Stamped.{same_actor, matches, at, clock, latest, In}
 use Rattle.journal.specs.declared.law.Roster.{Roster}
 use Rattle.journal.specs.declared.law.View.{View}
-use Rattle.journal.specs.Rule.{Held, Fits, Lawful, IsAll, Known, has_caller, is_caller, Knows, Apart, Has, Kept, newcomer, caller_numbers, actor_numbers, same_number, without, only, longer, clock_of, both, spent, Looks, gain, Adds, MayAdd, words_of}
+use Rattle.journal.specs.Rule.{Held, Fits, Lawful, IsAll, KnownNumber, has_caller, is_caller, Knows, Apart, Has, KeptBySeat, newcomer, caller_numbers, actor_numbers, same_number, handed_over, only, longer_history, clock_of, both_seen, spent, Looks, gain, Adds, MayAdd, rule_words}
 use Rattle.journal.proofs.Lists.{prefix_self, prefix_trans, prefix_shorter, prefix_snoc, at-snoc, between, last_split, in-gained, in-gain, snoc_get, longer_is, longer_left, longer_right}
 use Rattle.journal.proofs.Seats.{someone_here, someone_set, someone_split, someone_join}
 use Rattle.journal.proofs.Bounds.{lawful-short}
@@ -42,7 +42,7 @@ apart_set views id v w here fewer apart i j a b k es fs ea eb ia ib =
     (at_set views id i w a ea)
 
 -- a look
-pub looks : (r : Roster) (slots id : ℕ) (me : Me (Unit {0}) View) → Allows (Kept r) slots id me 8 (λ n. n) (λ found after. (after.1 ≡ me.1) × Looks r me.0 found after.0)
+pub looks : (r : Roster) (slots id : ℕ) (me : Me (Unit {0}) View) → Allows (KeptBySeat r) slots id me 8 (λ n. n) (λ found after. (after.1 ≡ me.1) × Looks r me.0 found after.0)
 looks r slots id me s kept wide here small =
     let v = me.0 in
     let log = kept.log in
@@ -129,7 +129,7 @@ unmoved log x k e = sym (at-snoc k log x ∙ ap (λ (b : Bool). if b then at k l
 
 -- a record
 pub adds : (r : Roster) (slots id : ℕ) (me : Me (Unit {0}) View) (x : Noted) → MayAdd r me.0 x
-    → Allows (Kept r) slots id me 8 (λ n. (n + 1) % 2 ^ 64) (λ found after. (after.1 ≡ me.1) × Adds r x me.0 found after.0)
+    → Allows (KeptBySeat r) slots id me 8 (λ n. (n + 1) % 2 ^ 64) (λ found after. (after.1 ≡ me.1) × Adds r x me.0 found after.0)
 adds r slots id me x may s kept wide here small =
     let v = me.0 in
     let cs = may.of_caller in
@@ -188,7 +188,7 @@ adds r slots id me x may s kept wide here small =
       record {
         log = next;
         few = kept.few;
-        word = rw (found, kept.word) (ap words_of up);
+        word = rw (found, kept.word) (ap rule_words up);
         views = views_set r next s.views id w known others;
         front = someone_here (λ z. z.seen ≡ next) s.views id v w here refl;
         apart = apart_set s.views id v w here (λ k es i. let t = in-gained n x v.held k es i in (t.0, t.1)) kept.apart;
@@ -253,19 +253,19 @@ in-kept p (y ∷ hs) h (inr i) e = next (p y) (in-kept p hs h i e)
     next false j = j
 
 -- a number is in one of two parts
-parted : (k : Number) (v : View) (j : Number) → Has j v → Has j (without k v) ⊎ Has j (only k v)
+parted : (k : Number) (v : View) (j : Number) → Has j v → Has j (handed_over k v) ⊎ Has j (only k v)
 parted k v j (es, i) = next (same_number j k) refl
   where
-    next : (b : Bool) → same_number j k ≡ b → Has j (without k v) ⊎ Has j (only k v)
+    next : (b : Bool) → same_number j k ≡ b → Has j (handed_over k v) ⊎ Has j (only k v)
     next true e = inr (es, in-kept (λ (h : Held). same_number h.0 k) v.held (j, es) i e)
     next false e = inl (es, in-kept (λ (h : Held). not (same_number h.0 k)) v.held (j, es) i (ap not e))
 
 -- a seat hands a number over
-pub splits : (r : Roster) (id : ℕ) (v : View) (k : Number) → Splits (Kept r) id v (without k v) (only k v)
+pub splits : (r : Roster) (id : ℕ) (v : View) (k : Number) → Splits (KeptBySeat r) id v (handed_over k v) (only k v)
 splits r id v k s kept here =
     let log = kept.log in
     let own = kept.views id v here in
-    let l : View = without k v in
+    let l : View = handed_over k v in
     let m : View = only k v in
     let before : Apart (set s.views id l) = apart_set s.views id v l here (λ j es i. (es, (in-filter (λ (h : Held). not (same_number h.0 k)) v.held (j, es) i).0)) kept.apart in
     let left : Knows r log l = part_known r log v (λ (h : Held). not (same_number h.0 k)) own in
@@ -311,14 +311,14 @@ has_caller-append (x ∷ xs) ys e = next (has_caller-append xs ys) (is_caller x)
     next f false e = f e
 
 -- what is all of a number in a beginning is all of it in the longer of two
-all_left : (log xs ys : List Noted) (k : Number) (es : List (ℕ × Noted)) → IsPrefix xs log → IsPrefix ys log → IsAll log xs k es → IsAll log (longer xs ys) k es
+all_left : (log xs ys : List Noted) (k : Number) (es : List (ℕ × Noted)) → IsPrefix xs log → IsPrefix ys log → IsAll log xs k es → IsAll log (longer_history xs ys) k es
 all_left log xs ys k es p q a =
     ⊎_elim
     (λ t. rw t.0 a)
     (λ t. rw t.0 (a.0, between k xs ys log (prefix_shorter xs ys log p q t.1) q (a.1 ∙ a.0) ∙ sym a.0))
     (longer_is xs ys)
 
-all_right : (log xs ys : List Noted) (k : Number) (es : List (ℕ × Noted)) → IsPrefix xs log → IsPrefix ys log → IsAll log ys k es → IsAll log (longer xs ys) k es
+all_right : (log xs ys : List Noted) (k : Number) (es : List (ℕ × Noted)) → IsPrefix xs log → IsPrefix ys log → IsAll log ys k es → IsAll log (longer_history xs ys) k es
 all_right log xs ys k es p q a =
     ⊎_elim
     (λ t. rw t.0 (a.0, between k ys xs log (prefix_shorter ys xs log q p t.1) p (a.1 ∙ a.0) ∙ sym a.0))
@@ -333,7 +333,7 @@ clock_in v es i = next (has_caller v.held) refl i
     next true e (inr t) = absurd t
     next false e t = absurd t
 
-both_known : (r : Roster) (log : List Noted) (v w : View) → Knows r log v → Knows r log w → Knows r log (both v w)
+both_known : (r : Roster) (log : List Noted) (v w : View) → Knows r log v → Knows r log w → Knows r log (both_seen v w)
 both_known r log v w a b = record {
   seen = ⊎_elim (λ t. rw t.0 a.seen) (λ t. rw t.0 b.seen) (longer_is v.seen w.seen);
   olds = λ old i. olds_of old i;
@@ -346,8 +346,8 @@ both_known r log v w a b = record {
       (λ t. rw t.0 (all_right log v.seen w.seen clock w.clock a.seen b.seen (b.clock_is t.1)))
       (has_caller-append v.held w.held h);
   clocks = λ es h i. ⊎_elim
-      (λ t. let q = clock_in v es t in subst (λ (l : List (ℕ × Noted)). IsAll log (longer v.seen w.seen) clock l) (sym q.1) (all_left log v.seen w.seen clock v.clock a.seen b.seen (a.clock_is q.0)))
-      (λ t. let q = clock_in w es t in subst (λ (l : List (ℕ × Noted)). IsAll log (longer v.seen w.seen) clock l) (sym q.1) (all_right log v.seen w.seen clock w.clock a.seen b.seen (b.clock_is q.0)))
+      (λ t. let q = clock_in v es t in subst (λ (l : List (ℕ × Noted)). IsAll log (longer_history v.seen w.seen) clock l) (sym q.1) (all_left log v.seen w.seen clock v.clock a.seen b.seen (a.clock_is q.0)))
+      (λ t. let q = clock_in w es t in subst (λ (l : List (ℕ × Noted)). IsAll log (longer_history v.seen w.seen) clock l) (sym q.1) (all_right log v.seen w.seen clock w.clock a.seen b.seen (b.clock_is q.0)))
       (in_parts es (clock_of v) (clock_of w) i);
 }
   where
@@ -360,10 +360,10 @@ spent_known : (r : Roster) (log : List Noted) → Knows r log spent
 spent_known r log = record { seen = (log, refl); olds = λ old i. absurd i; lists = λ k es i. absurd i; clock_is = λ h. absurd (cc h); clocks = λ es h i. absurd i }
 
 -- a seat takes another in
-pub joins : (r : Roster) (id : ℕ) (v : View) (other : ℕ) (w : View) → Joins (Kept r) id v other w (both v w) spent
+pub joins : (r : Roster) (id : ℕ) (v : View) (other : ℕ) (w : View) → Joins (KeptBySeat r) id v other w (both_seen v w) spent
 joins r id v other w s kept here apart_from there =
     let log = kept.log in
-    let b : View = both v w in
+    let b : View = both_seen v w in
     let there' : get_elem? s.views other ≡ some w = ⊎_elim (λ t. absurd (apart_from t.0)) (λ t. t.1) (at_set s.views id other b w there) in
     let known : Knows r log b = both_known r log v w (kept.views id v here) (kept.views other w there') in
     let first : (j : ℕ) (u : View) → get_elem? (set s.views id b) j ≡ some u → Knows r log u = views_set r log s.views id b known (λ j u _ e. kept.views j u e) in
@@ -402,14 +402,14 @@ joins r id v other w s kept here apart_from there =
       lawful = kept.lawful;
     }
 
-callers_known : (r : Roster) (n : ℕ) → n ≤ r.callers → (k : Number) (es : List (ℕ × Noted)) → In (k, es) (caller_numbers n) → Known r k × (es ≡ [])
+callers_known : (r : Roster) (n : ℕ) → n ≤ r.callers → (k : Number) (es : List (ℕ × Noted)) → In (k, es) (caller_numbers n) → KnownNumber r k × (es ≡ [])
 callers_known r zero le k es i = absurd i
-callers_known r (suc n) le k es (inl e) = let same : number.Caller n ≡ k = sym (ap (λ (h : Held). h.0) e) in (subst (Known r) same (omega arith), ap (λ (h : Held). h.1) e)
+callers_known r (suc n) le k es (inl e) = let same : number.Caller n ≡ k = sym (ap (λ (h : Held). h.0) e) in (subst (KnownNumber r) same (omega arith), ap (λ (h : Held). h.1) e)
 callers_known r (suc n) le k es (inr i) = callers_known r n (omega arith) k es i
 
-actors_known : (r : Roster) (as' bs : List ActorName) → ((a : ActorName) → In a as' → In a bs) → bs ≡ r.actors → (k : Number) (es : List (ℕ × Noted)) → In (k, es) (actor_numbers as') → Known r k × (es ≡ [])
+actors_known : (r : Roster) (as' bs : List ActorName) → ((a : ActorName) → In a as' → In a bs) → bs ≡ r.actors → (k : Number) (es : List (ℕ × Noted)) → In (k, es) (actor_numbers as') → KnownNumber r k × (es ≡ [])
 actors_known r [] bs sub is k es i = absurd i
-actors_known r (a ∷ as') bs sub is k es (inl e) = let same : number.Actor a ≡ k = sym (ap (λ (h : Held). h.0) e) in (subst (Known r) same (subst (In a) is (sub a (inl refl))), ap (λ (h : Held). h.1) e)
+actors_known r (a ∷ as') bs sub is k es (inl e) = let same : number.Actor a ≡ k = sym (ap (λ (h : Held). h.0) e) in (subst (KnownNumber r) same (subst (In a) is (sub a (inl refl))), ap (λ (h : Held). h.1) e)
 actors_known r (a ∷ as') bs sub is k es (inr i) = actors_known r as' bs (λ b j. sub b (inr j)) is k es i
 
 pub in-callers : (n c : ℕ) → c < n → In (number.Caller c, []) (caller_numbers n)
@@ -424,7 +424,7 @@ in-actors (b ∷ as') a (inl e) = inl (ap (λ (d : ActorName). (number.Actor d, 
 in-actors (b ∷ as') a (inr i) = inr (in-actors as' a i)
 
 -- the first seat
-pub opens : (r : Roster) → r.callers ≤ 37 → Kept r record { words = words_of 0; homes = []; views = newcomer r ∷ [] }
+pub opens : (r : Roster) → r.callers ≤ 37 → KeptBySeat r record { words = rule_words 0; homes = []; views = newcomer r ∷ [] }
 opens r few = record {
   log = [];
   few = few;
@@ -455,7 +455,7 @@ opens r few = record {
       clocks = λ es h i. absurd i;
     }
 
-    has_all : (k : Number) → Known r k → Has k (newcomer r)
+    has_all : (k : Number) → KnownNumber r k → Has k (newcomer r)
     has_all (number.Caller c) lt = ([], in_front (number.Caller c, []) (caller_numbers r.callers) (actor_numbers r.actors) (in-callers r.callers c lt))
     has_all (number.Actor a) i = ([], in_back (number.Actor a, []) (caller_numbers r.callers) (actor_numbers r.actors) (in-actors r.actors a i))
 

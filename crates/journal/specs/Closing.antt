@@ -14,7 +14,7 @@ use Rattle.journal.specs.declared.tokens.Sight.{Sight}
 use Rattle.journal.specs.declared.tokens.Volume.{Volume}
 use Rattle.journal.specs.declared.tokens.Stamped.{Stamped}
 use Rattle.journal.specs.Rule.{Lawful}
-use Rattle.journal.specs.Tokens.{stamped, Holds}
+use Rattle.journal.specs.Tokens.{stamped, HoldsPass}
 
 -- an entry with its stamp, without its work
 abbrev pub plain : ℕ × Noted → ℕ × Entry
@@ -25,13 +25,13 @@ plain x = (x.0, x.1.entry)
 pub record IsWhole (r : Roster) (p : Sight) (books : List Volume) (h : List Entry) : Type 0 where
   pub entries : h ≡ map (λ (x : Noted). x.entry) p.seen
   pub actors : (b : Volume) → In b books → of_actor b.actor h ≡ map plain b.list
-  pub callers : (c : ℕ) (es : List (ℕ × Noted)) → Holds p c es → of_caller c h ≡ map plain es
+  pub callers : (c : ℕ) (es : List (ℕ × Noted)) → HoldsPass p c es → of_caller c h ≡ map plain es
   pub books_at : (b : Volume) → In b books → b.list ≡ at (number.Actor b.actor) p.seen
   pub lists_at : (k : Number) (es : List (ℕ × Noted)) → In (k, es) p.held → es ≡ at k p.seen
   pub lawful : Lawful r p.seen
 
 -- the seat has taken in a book's, and has seen no less
-pub record Taken (v : View) (b : Volume) (w : View) : Type 0 where
+pub record TakenIn (v : View) (b : Volume) (w : View) : Type 0 where
   pub kept : (k : Number) (es : List (ℕ × Noted)) → In (k, es) v.held → In (k, es) w.held
   pub before : IsPrefix v.seen w.seen
   pub taken : In (number.Actor b.actor, b.list) w.held

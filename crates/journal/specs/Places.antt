@@ -38,16 +38,16 @@ AreThereFrom n ls (p ∷ ps) = IsThere ls p n × AreThereFrom (n + 1) ls ps
 abbrev pub AreThere : List (List Stamped) → List Place → Type 0
 AreThere ls ps = AreThereFrom 0 ls ps
 
-abbrev pub with_entry : Option Stamped → List Entry → List Entry
-with_entry None xs = xs
-with_entry (Some e) xs = e.entry ∷ xs
+abbrev pub with_stamped : Option Stamped → List Entry → List Entry
+with_stamped None xs = xs
+with_stamped (Some e) xs = e.entry ∷ xs
 
 -- the entries at these places, in their order
 abbrev pub entries_at : List (List Stamped) → List Place → List Entry
 entries_at ls [] = []
-entries_at ls (p ∷ ps) = with_entry (there ls p) (entries_at ls ps)
+entries_at ls (p ∷ ps) = with_stamped (there ls p) (entries_at ls ps)
 
 -- at each stamp's place stands its entry, and the lists have none but those
-pub record IsClosed (ls : List (List Stamped)) (ps : List Place) : Type 0 where
+pub record AreClosed (ls : List (List Stamped)) (ps : List Place) : Type 0 where
   pub all : AreThere ls ps
   pub only : AreAt (entries_at ls ps) ls

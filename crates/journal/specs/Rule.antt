@@ -44,13 +44,13 @@ abbrev pub IsAll : List Noted → List Noted → Number → List (ℕ × Noted) 
 IsAll log seen k es = (es ≡ at k log) × (at k seen ≡ es)
 
 -- the number is one of a caller or an actor that there is
-abbrev pub Known : Roster → Number → Type 0
-Known r (number.Caller c) = c < r.callers
-Known r (number.Actor a) = In a r.actors
+abbrev pub KnownNumber : Roster → Number → Type 0
+KnownNumber r (number.Caller c) = c < r.callers
+KnownNumber r (number.Actor a) = In a r.actors
 
-abbrev pub IsCaller : Number → Type 0
-IsCaller (number.Caller c) = Unit {0}
-IsCaller (number.Actor a) = ⊥
+abbrev pub IsCallerNumber : Number → Type 0
+IsCallerNumber (number.Caller c) = Unit {0}
+IsCallerNumber (number.Actor a) = ⊥
 
 abbrev pub is_caller : Held → Bool
 is_caller (number.Caller c, es) = true
@@ -65,7 +65,7 @@ has_caller (x ∷ xs) = if is_caller x then true else has_caller xs
 pub record Knows (r : Roster) (log : List Noted) (v : View) : Type 0 where
   pub seen : IsPrefix v.seen log
   pub olds : (old : List Noted) → In old v.olds → IsPrefix old log
-  pub lists : (k : Number) (es : List (ℕ × Noted)) → In (k, es) v.held → Known r k × IsAll log v.seen k es
+  pub lists : (k : Number) (es : List (ℕ × Noted)) → In (k, es) v.held → KnownNumber r k × IsAll log v.seen k es
   pub clock_is : has_caller v.held ≡ true → IsAll log v.seen clock v.clock
   pub clocks : (es : List (ℕ × Noted)) → has_caller v.held ≡ true → In es v.clocks → IsAll log v.seen clock es
 
@@ -83,19 +83,19 @@ Apart views = (i j : ℕ) (v w : View) (k : Number) (es fs : List (ℕ × Noted)
     get_elem? views i ≡ some v → get_elem? views j ≡ some w → In (k, es) v.held → In (k, fs) w.held → i ≡ j
 
 -- the words where the length of the history is this: it stands in the ninth, a line of a cache behind the first
-abbrev pub words_of : ℕ → List ℕ
-words_of n = 0 ∷ 0 ∷ 0 ∷ 0 ∷ 0 ∷ 0 ∷ 0 ∷ 0 ∷ n ∷ 0 ∷ 0 ∷ 0 ∷ 0 ∷ 0 ∷ 0 ∷ 0 ∷ []
+abbrev pub rule_words : ℕ → List ℕ
+rule_words n = 0 ∷ 0 ∷ 0 ∷ 0 ∷ 0 ∷ 0 ∷ 0 ∷ 0 ∷ n ∷ 0 ∷ 0 ∷ 0 ∷ 0 ∷ 0 ∷ 0 ∷ 0 ∷ []
 
 -- there is a history, whose length is the word. Each seat knows a beginning of it, and one knows the whole. Each number is
 -- held by one seat
-pub record Kept (r : Roster) (s : State (Unit {0}) View) : Type 0 where
+pub record KeptBySeat (r : Roster) (s : State (Unit {0}) View) : Type 0 where
   pub log : List Noted
   pub few : r.callers ≤ 37
-  pub word : s.words ≡ words_of (length log)
+  pub word : s.words ≡ rule_words (length log)
   pub views : (i : ℕ) (v : View) → get_elem? s.views i ≡ some v → Knows r log v
   pub front : Someone (λ v. v.seen ≡ log) s.views
   pub apart : Apart s.views
-  pub all : (k : Number) → Known r k → Someone (Has k) s.views
+  pub all : (k : Number) → KnownNumber r k → Someone (Has k) s.views
   pub lawful : Lawful r log
 
 -- the first seat holds all numbers, with no entries
@@ -123,8 +123,8 @@ same_number (number.Actor a) (number.Actor b) = same_actor a b
 same_number _ _ = false
 
 -- a seat hands a number over
-abbrev pub without : Number → View → View
-without k v = record {
+abbrev pub handed_over : Number → View → View
+handed_over k v = record {
   seen = v.seen;
   olds = v.olds;
   held = filter (λ (h : Held). not (same_number h.0 k)) v.held;
@@ -143,17 +143,17 @@ only k v = record {
 }
 
 -- of two beginnings of one history the longer
-abbrev pub longer : List Noted → List Noted → List Noted
-longer xs ys = if nat_lt (length xs) (length ys) then ys else xs
+abbrev pub longer_history : List Noted → List Noted → List Noted
+longer_history xs ys = if nat_lt (length xs) (length ys) then ys else xs
 
 -- the clock's entries, where the seat has a caller's number
 abbrev pub clock_of : View → List (List (ℕ × Noted))
 clock_of v = if has_caller v.held then v.clock ∷ [] else []
 
 -- a seat takes another in: what each had seen stays known, until the next step on the word shows that all of it is one history
-abbrev pub both : View → View → View
-both v w = record {
-  seen = longer v.seen w.seen;
+abbrev pub both_seen : View → View → View
+both_seen v w = record {
+  seen = longer_history v.seen w.seen;
   olds = v.seen ∷ w.seen ∷ [];
   held = v.held ++ w.held;
   clock = if has_caller v.held then v.clock else w.clock;

@@ -16,10 +16,10 @@ use Rattle.journal.specs.declared.law.View.{View}
 use Rattle.journal.specs.declared.tokens.Sight.{Sight}
 use Rattle.journal.specs.declared.tokens.Volume.{Volume}
 use Rattle.journal.specs.declared.tokens.Stamped.{Stamped}
-use Rattle.journal.specs.Rule.{Held, Lawful, IsSeat, IsCaller, has_caller, gain, newcomer, caller_numbers, actor_numbers}
+use Rattle.journal.specs.Rule.{Held, Lawful, IsSeat, IsCallerNumber, has_caller, gain, newcomer, caller_numbers, actor_numbers}
 
-abbrev pub noted : Entry → Work → Noted
-noted e w = record { entry = e; work = w }
+abbrev pub noted_work : Entry → Work → Noted
+noted_work e w = record { entry = e; work = w }
 
 abbrev pub stamped : ℕ × Noted → Stamped
 stamped x = record { stamp = x.0; entry = x.1.entry }
@@ -34,7 +34,7 @@ pub record Agrees (v : View) : Type 0 where
   pub clock_is : has_caller v.held ≡ true → at clock v.seen ≡ v.clock
 
 abbrev pub OnlyCallers : List Held → Type 0
-OnlyCallers hs = (k : Number) (es : List (ℕ × Noted)) → In (k, es) hs → IsCaller k
+OnlyCallers hs = (k : Number) (es : List (ℕ × Noted)) → In (k, es) hs → IsCallerNumber k
 
 -- how many entries each of these callers has, and 0 for the others
 pub record Counted (counts : List ℕ) (hs : List Held) : Type 0 where
@@ -49,15 +49,15 @@ pub record IsPass (table : TableId) (s : Seat (Unit {0}) View) (counts : List �
   pub callers : OnlyCallers s.me.0.held
   pub counted : Counted counts s.me.0.held
 
-abbrev pub first : List Held → List (ℕ × Noted)
-first [] = []
-first (h ∷ hs) = h.1
+abbrev pub first_held : List Held → List (ℕ × Noted)
+first_held [] = []
+first_held (h ∷ hs) = h.1
 
 -- a book as contracts see it: its actor, what was seen, the actor's entries with their stamps and works, and the room that
 -- is reserved
 abbrev pub volume : ActorName → ℕ → List View → ℕ → Volume
 volume a i [] n = record { actor = a; number = i; seen = []; list = []; room = n }
-volume a i (v ∷ vs) n = record { actor = a; number = i; seen = v.seen; list = first v.held; room = n }
+volume a i (v ∷ vs) n = record { actor = a; number = i; seen = v.seen; list = first_held v.held; room = n }
 
 pub record IsBook (table : TableId) (a : ActorName) (i : ℕ) (b : Badge View) (items : List Stamped) : Type 0 where
   pub few : i < 2147483648
@@ -71,17 +71,17 @@ pub record IsBook (table : TableId) (a : ActorName) (i : ℕ) (b : Badge View) (
   pub short : length list ≤ 4849664
 
 -- the pass holds the caller's number, and that caller has these entries
-abbrev pub Holds : Sight → ℕ → List (ℕ × Noted) → Type 0
-Holds p c es = In (number.Caller c, es) p.held
+abbrev pub HoldsPass : Sight → ℕ → List (ℕ × Noted) → Type 0
+HoldsPass p c es = In (number.Caller c, es) p.held
 
 -- the pass holds every caller's number
 abbrev pub HoldsAll : Roster → Sight → Type 0
-HoldsAll r p = (c : ℕ) → c < r.callers → (es : List (ℕ × Noted)) × Holds p c es
+HoldsAll r p = (c : ℕ) → c < r.callers → (es : List (ℕ × Noted)) × HoldsPass p c es
 
 -- the entry may be recorded
-pub record MayRecord (p : Sight) (b : Volume) (x : Noted) : Type 0 where
+pub record MayBeRecorded (p : Sight) (b : Volume) (x : Noted) : Type 0 where
   pub of_caller : List (ℕ × Noted)
-  pub caller : Holds p x.entry.caller of_caller
+  pub caller : HoldsPass p x.entry.caller of_caller
   pub room : length of_caller < 131072
   pub actor : x.entry.actor ≡ b.actor
   pub moment_is : x.entry.moment ≡ moment_noted p.seen
@@ -89,7 +89,7 @@ pub record MayRecord (p : Sight) (b : Volume) (x : Noted) : Type 0 where
 
 -- past is the history before the stamp. It has all that the pass and the book had seen, and no more of the pass's callers and
 -- the book's actor than these had. The lists of the entry's caller and of its actor gain the entry, and the others stay
-pub record Recorded (r : Roster) (b : Volume) (p : Sight) (x : Noted) (stamp : ℕ)
+pub record RecordedInBook (r : Roster) (b : Volume) (p : Sight) (x : Noted) (stamp : ℕ)
     (b' : Volume) (p' : Sight) : Type 0 where
   pub past : List Noted
   pub stamp_is : length past ≡ stamp

@@ -22,13 +22,13 @@ pub struct ClosedBooks {
 impl Model for ClosedBooks {
     ghost use Rattle.std.specs.Prelude.{List};
     ghost use Rattle.net_base.specs.declared.history.Entry.{Entry};
-    ghost use Rattle.journal.specs.Places.{IsClosed, entries_at};
+    ghost use Rattle.journal.specs.Places.{AreClosed, entries_at};
 
     ghost Value = { List Entry };
 
     ghost view = { λ c. entries_at c.lists.items c.places.items };
 
-    ghost invariant = { λ c. IsClosed c.lists.items c.places.items };
+    ghost invariant = { λ c. AreClosed c.lists.items c.places.items };
 }
 
 impl ClosedBooks {

@@ -3,7 +3,7 @@ ghost use Rattle.std.specs.Prelude.{◌≡◌, ◌++◌, List, [], ◌∷◌, ma
 ghost use Rattle.journal.specs.declared.tokens.Stamped.{Stamped};
 ghost use Rattle.journal.specs.Rule.{IsSeat};
 ghost use Rattle.journal.specs.Tokens.{HoldsAll, stamped};
-ghost use Rattle.journal.specs.Closing.{Taken, Gathered, IsWhole, AreAllOf};
+ghost use Rattle.journal.specs.Closing.{TakenIn, Gathered, IsWhole, AreAllOf};
 ghost use Rattle.journal.specs.Places.{ArePlaced};
 
 use crate::closed::ClosedBooks;
@@ -88,7 +88,7 @@ impl<J: Naming> Journal<J> {
         requires { IsSeat J.run.table all.old }
         ensures seat { IsSeat J.run.table all.new }
         ensures long { length places.new.items ≡ length places.old.items }
-        ensures taken { OnOk result (Taken all.old.me.0 book all.new.me.0) }
+        ensures taken { OnOk result (TakenIn all.old.me.0 book all.new.me.0) }
         ensures list { OnOk result (lists.new.items ≡ lists.old.items ++ map stamped book.list ∷ []) }
         ensures placed { OnOk result (ArePlaced lists.old.items places.old.items
             → ArePlaced lists.new.items places.new.items) }

@@ -29,9 +29,9 @@ pub struct View {
 pub struct Law;
 
 impl TableRule<(), View, Roster> for Law {
-    ghost use Rattle.journal.specs.Rule.{Kept, newcomer};
+    ghost use Rattle.journal.specs.Rule.{KeptBySeat, newcomer};
 
-    ghost holds = { Kept };
+    ghost holds = { KeptBySeat };
 
     ghost first = { newcomer };
 }
@@ -88,9 +88,9 @@ pub struct Hand<N: Handing> {
 }
 
 impl<N: Handing> Split<View> for Hand<N> {
-    ghost use Rattle.journal.specs.Rule.{without, only};
+    ghost use Rattle.journal.specs.Rule.{handed_over, only};
 
-    ghost left = { λ v. without N.number v };
+    ghost left = { λ v. handed_over N.number v };
 
     ghost right = { λ v. only N.number v };
 }
@@ -99,9 +99,9 @@ impl<N: Handing> Split<View> for Hand<N> {
 pub struct Merge;
 
 impl Join<View> for Merge {
-    ghost use Rattle.journal.specs.Rule.{both, spent};
+    ghost use Rattle.journal.specs.Rule.{both_seen, spent};
 
-    ghost both = { both };
+    ghost both = { both_seen };
 
     ghost spent = { spent };
 }

@@ -6,7 +6,7 @@ ghost use Rattle.net_base.specs.declared.noted.Number.{Number};
 ghost use Rattle.net_base.specs.declared.noted.Number.TheVariants.{Caller};
 ghost use Rattle.net_base.specs.Stamped.{matches, clock};
 ghost use Rattle.journal.specs.Rule.{Timely, same_number};
-ghost use Rattle.journal.specs.Tokens.{noted, MayRecord, Recorded, Looked, LookedWith, Holds, HoldsAll, Met};
+ghost use Rattle.journal.specs.Tokens.{noted_work, MayBeRecorded, RecordedInBook, Looked, LookedWith, HoldsPass, HoldsAll, Met};
 
 use crate::law::{Naming, View};
 use crate::word::{Journal, Token};
@@ -112,9 +112,9 @@ impl<J: Naming> Journal<J> {
     // The book joins the pass, the entry is recorded, and the actor goes back to the book.
     fn put(&self, book: &mut Book<J>, pass: &mut Pass<J>, entry: Entry, work: &Work) -> u64
         requires room { 0 < book.old.room }
-        requires may { MayRecord pass.old book.old (noted entry work.now) }
-        requires timely { Timely J.run.roster pass.old.held (noted entry work.now) }
-        ensures { Recorded J.run.roster book.old pass.old (noted entry work.now) result book.new pass.new }
+        requires may { MayBeRecorded pass.old book.old (noted_work entry work.now) }
+        requires timely { Timely J.run.roster pass.old.held (noted_work entry work.now) }
+        ensures { RecordedInBook J.run.roster book.old pass.old (noted_work entry work.now) result book.new pass.new }
     {
         let caller = entry.caller as usize;
         let badge = mem::replace(&mut book.badge, Badge::blank());
@@ -130,9 +130,9 @@ impl<J: Naming> Journal<J> {
     /// Records an entry at an actor that isn't the clock.
     pub fn record(&self, book: &mut Book<J>, pass: &mut Pass<J>, entry: Entry, work: &Work) -> u64
         requires room { 0 < book.old.room }
-        requires may { MayRecord pass.old book.old (noted entry work.now) }
-        requires actor { matches clock (noted entry work.now) ≡ false }
-        ensures { Recorded J.run.roster book.old pass.old (noted entry work.now) result book.new pass.new }
+        requires may { MayBeRecorded pass.old book.old (noted_work entry work.now) }
+        requires actor { matches clock (noted_work entry work.now) ≡ false }
+        ensures { RecordedInBook J.run.roster book.old pass.old (noted_work entry work.now) result book.new pass.new }
     {
         self.put(book, pass, entry, work)
     }
@@ -146,9 +146,9 @@ impl<J: Naming> Journal<J> {
         work: &Work,
     ) -> u64
         requires room { 0 < book.old.room }
-        requires may { MayRecord pass.old book.old (noted entry work.now) }
+        requires may { MayBeRecorded pass.old book.old (noted_work entry work.now) }
         requires all { HoldsAll J.run.roster pass.old }
-        ensures { Recorded J.run.roster book.old pass.old (noted entry work.now) result book.new pass.new }
+        ensures { RecordedInBook J.run.roster book.old pass.old (noted_work entry work.now) result book.new pass.new }
     {
         self.put(book, pass, entry, work)
     }
@@ -174,7 +174,7 @@ impl<J: Naming> Journal<J> {
 
     /// A new pass with this caller's number, which the pass then has no more.
     pub fn split_pass(&self, pass: &mut Pass<J>, caller: u32) -> Pass<J>
-        requires { (es : List (ℕ × Noted)) × Holds pass.old caller es }
+        requires { (es : List (ℕ × Noted)) × HoldsPass pass.old caller es }
         ensures kept { (pass.new.seen ≡ pass.old.seen)
             × (pass.new.held ≡ filter (λ h. not (same_number h.0 (Caller caller))) pass.old.held) }
         ensures given { (result.seen ≡ pass.old.seen)
@@ -222,8 +222,8 @@ fn greater(a: &[u32; 37], b: &[u32; 37]) -> [u32; 37]
 impl<J: Naming> Pass<J> {
     /// How many entries the caller may still record.
     pub fn room(&self, caller: u32) -> u64
-        requires { (es : List (ℕ × Noted)) × Holds self.now caller es }
-        ensures { (es : List (ℕ × Noted)) → Holds self.now caller es → result + length es ≡ 131072 }
+        requires { (es : List (ℕ × Noted)) × HoldsPass self.now caller es }
+        ensures { (es : List (ℕ × Noted)) → HoldsPass self.now caller es → result + length es ≡ 131072 }
     {
         131072 - u64::from(self.counts[caller as usize])
     }

@@ -1,6 +1,6 @@
 // The journal's word, and the steps on it by a seat.
 ghost use Rattle.std.specs.Prelude.{◌≡◌};
-ghost use Rattle.journal.specs.Rule.{IsSeat, Looks, Adds, MayAdd, without, only, both};
+ghost use Rattle.journal.specs.Rule.{IsSeat, Looks, Adds, MayAdd, handed_over, only, both_seen};
 
 use crate::law::{Add, Adding, Hand, Handing, Law, Look, Merge, Naming, Roster, View};
 use atomic_table::{Seat, Table};
@@ -53,7 +53,7 @@ impl<J: Naming> Journal<J> {
     pub(crate) fn hand<N: Handing>(&self, seat: &mut Token, _number: Number) -> Token
         requires { IsSeat J.run.table seat.old × (N.number ≡ _number) }
         ensures seats { IsSeat J.run.table seat.new × IsSeat J.run.table result }
-        ensures kept { seat.new.me.0 ≡ without N.number seat.old.me.0 }
+        ensures kept { seat.new.me.0 ≡ handed_over N.number seat.old.me.0 }
         ensures given { result.me.0 ≡ only N.number seat.old.me.0 }
     {
         self.table.shared.split_seat::<Hand<N>>(seat)
@@ -63,7 +63,7 @@ impl<J: Naming> Journal<J> {
     pub(crate) fn take_in(&self, seat: &mut Token, other: Token)
         requires { IsSeat J.run.table seat.old × IsSeat J.run.table other }
         ensures seat { IsSeat J.run.table seat.new }
-        ensures both { seat.new.me.0 ≡ both seat.old.me.0 other.me.0 }
+        ensures both { seat.new.me.0 ≡ both_seen seat.old.me.0 other.me.0 }
     {
         self.table.shared.join_seat::<Merge>(seat, other);
     }

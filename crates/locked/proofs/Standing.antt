@@ -12,8 +12,8 @@ use Rattle.journal.specs.Rule.{gain}
 use Rattle.journal.specs.declared.law.Roster.{Roster}
 use Rattle.journal.specs.declared.tokens.Sight.{Sight}
 use Rattle.journal.specs.declared.tokens.Volume.{Volume}
-use Rattle.journal.specs.Tokens.{noted, Recorded}
-use Rattle.locked.specs.Acts.{left_by, without_copy, made, state, Keeps, Replays, Stands, IsDone}
+use Rattle.journal.specs.Tokens.{noted_work, RecordedInBook}
+use Rattle.locked.specs.Acts.{left_by, act_without_copy, made, state, Keeps, Replays, Stands, IsDone}
 
 module _ {S : Type 0} (begin : ActorName → S) (answer : S → ℕ → Work → Option (Step S)) where
   state-snoc : (s : S) (xs : List (ℕ × Noted)) (y : ℕ × Noted)
@@ -34,9 +34,9 @@ module _ {S : Type 0} (begin : ActorName → S) (answer : S → ℕ → Work →
   -- the call's entry
   module _ (r : Roster) (c now : ℕ) (work : Work) (cites : Option ℕ) (p p' : Sight) (b b' : Volume) (m m' : S) (o out : Outcome) (e : Entry) (n : ℕ)
       (stands : Stands begin answer m b) (ready : answer m now work ≡ Some record { state = m'; outcome = o }) (entry : e ≡ (made b.actor c now work cites o).entry)
-      (d : Recorded r b p (noted e work) n b' p') where
-    whole_entry : noted e work ≡ made b.actor c now work cites o
-    whole_entry = ap (λ (z : Entry). noted z work) entry
+      (d : RecordedInBook r b p (noted_work e work) n b' p') where
+    whole_entry : noted_work e work ≡ made b.actor c now work cites o
+    whole_entry = ap (λ (z : Entry). noted_work z work) entry
 
     pub stands_after : Stands begin answer m' b'
     stands_after =
@@ -53,9 +53,9 @@ module _ {S : Type 0} (begin : ActorName → S) (answer : S → ℕ → Work →
               (replays-snoc (begin b.actor) b.list (n, x) stands.replays (subst (λ z. Keeps begin answer z x) stands.state_is keeps)));
         }
 
-    pub is_done : out ≡ without_copy o → now ≡ moment_noted p.seen → IsDone begin answer r b.actor c now work cites p n out p'
+    pub is_done : out ≡ act_without_copy o → now ≡ moment_noted p.seen → IsDone begin answer r b.actor c now work cites p n out p'
     is_done given here =
-        let same : noted e work ≡ made b.actor c now work cites out = whole_entry ∙ ap (made b.actor c now work cites) (sym given) in
+        let same : noted_work e work ≡ made b.actor c now work cites out = whole_entry ∙ ap (made b.actor c now work cites) (sym given) in
         record {
           past = d.past;
           stamp_is = d.stamp_is;

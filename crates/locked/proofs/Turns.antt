@@ -12,7 +12,7 @@ use Rattle.journal.specs.declared.law.Roster.{Roster}
 use Rattle.journal.specs.declared.tokens.Sight.{Sight}
 use Rattle.journal.specs.Rule.{Held, gain}
 use Rattle.journal.specs.declared.tokens.Volume.{Volume}
-use Rattle.journal.specs.Tokens.{Holds, AreBlank}
+use Rattle.journal.specs.Tokens.{HoldsPass, AreBlank}
 use Rattle.journal.proofs.Shared.{in-gain, in_has_caller}
 use Rattle.locked.specs.declared.guarded.Answer.{Answer}
 use Rattle.locked.specs.declared.guarded.Answer.TheVariants as answered
@@ -25,7 +25,7 @@ gained_one n x false es = omega arith
 module _ {S : Type 0} (begin : ActorName → S) (answer : S → ℕ → Work → Option (Step S)) where
   -- a caller's list gains at most one entry
   pub still_holds : (r : Roster) (a : ActorName) (c now : ℕ) (work : Work) (cites : Option ℕ) (p : Sight) (es : List (ℕ × Noted)) (m : ℕ) (o : Answer) (p' : Sight)
-      → Holds p c es → length es ≤ m → Acted begin answer r a c now work cites p o p' → (fs : List (ℕ × Noted)) × Holds p' c fs × (length fs ≤ m + 1)
+      → HoldsPass p c es → length es ≤ m → Acted begin answer r a c now work cites p o p' → (fs : List (ℕ × Noted)) × HoldsPass p' c fs × (length fs ≤ m + 1)
   still_holds r a c now work cites p es m (answered.Done stamp o) p' h le d =
       let x = made a c now work cites o in
       let one = gained_one stamp x (matches (number.Caller c) x) es in (
@@ -34,11 +34,11 @@ module _ {S : Type 0} (begin : ActorName → S) (answer : S → ℕ → Work →
         omega arith,
       )
   still_holds r a c now work cites p es m (answered.NotReady front) p' h le d = (es, subst (λ (hs : List Held). In (number.Caller c, es) hs) (sym d.look.held) h, omega arith)
-  still_holds r a c now work cites p es m answered.Memory p' h le d = (es, subst (λ (z : Sight). Holds z c es) (sym d) h, omega arith)
+  still_holds r a c now work cites p es m answered.Memory p' h le d = (es, subst (λ (z : Sight). HoldsPass z c es) (sym d) h, omega arith)
 
   -- only the clock changes the moment
   pub same_moment : (r : Roster) (a : ActorName) (c now : ℕ) (work : Work) (cites : Option ℕ) (p : Sight) (es : List (ℕ × Noted)) (o : Answer) (p' : Sight)
-      → same_actor a name.Clock ≡ false → Holds p c es → Acted begin answer r a c now work cites p o p' → moment_noted p'.seen ≡ moment_noted p.seen
+      → same_actor a name.Clock ≡ false → HoldsPass p c es → Acted begin answer r a c now work cites p o p' → moment_noted p'.seen ≡ moment_noted p.seen
   same_moment r a c now work cites p es (answered.Done stamp o) p' other h d = d.moment_kept other
   same_moment r a c now work cites p es (answered.NotReady front) p' other h d = d.look.moment_is (in_has_caller p.held c es h)
   same_moment r a c now work cites p es answered.Memory p' other h d = ap (λ (z : Sight). moment_noted z.seen) d

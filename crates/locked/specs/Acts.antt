@@ -25,8 +25,8 @@ left_by s None = s
 left_by s (Some t) = t.state
 
 -- the outcome whose copy has gone into the entry
-abbrev pub without_copy : Outcome → Outcome
-without_copy o = record { reply = o.reply; copy = None; emit = o.emit; taken = o.taken; ended = o.ended }
+abbrev pub act_without_copy : Outcome → Outcome
+act_without_copy o = record { reply = o.reply; copy = None; emit = o.emit; taken = o.taken; ended = o.ended }
 
 -- the actor isn't the clock, or the pass holds every caller's number
 abbrev pub IsTimely : Roster → ActorName → Sight → Type 0
@@ -88,7 +88,7 @@ module _ {S : Type 0} (begin : ActorName → S) (answer : S → ℕ → Work →
     pub lists : (k : Number) (es : List (ℕ × Noted)) → In (k, es) p.held → at k past ≡ es
     pub step : Step S
     pub ready : answer (state_at a past) now work ≡ Some step
-    pub outcome : o ≡ without_copy step.outcome
+    pub outcome : o ≡ act_without_copy step.outcome
     pub moment_is : moment_noted past ≡ now
     pub moment_kept : same_actor a name.Clock ≡ false → moment_noted p'.seen ≡ moment_noted p.seen
     pub whole : HoldsAll r p → past ≡ p.seen
@@ -113,13 +113,13 @@ pub record Gains (b : Volume) (x : Noted) (stamp : ℕ) (p' : Sight) (b' : Volum
   pub seen : b'.seen ≡ p'.seen
 
 -- the book's list stays, and it has seen what the pass has
-pub record Stays (b : Volume) (p' : Sight) (b' : Volume) : Type 0 where
+pub record StaysInBook (b : Volume) (p' : Sight) (b' : Volume) : Type 0 where
   pub list : b'.list ≡ b.list
   pub before : IsPrefix b.seen p'.seen
   pub seen : b'.seen ≡ p'.seen
 
 -- what a call leaves of the book
-abbrev pub Leaves : ActorName → ℕ → ℕ → Work → Option ℕ → Volume → Answer → Sight → Volume → Type 0
-Leaves a c now work cites b (answered.Done stamp o) p' b' = Gains b (made a c now work cites o) stamp p' b'
-Leaves a c now work cites b (answered.NotReady front) p' b' = Stays b p' b'
-Leaves a c now work cites b answered.Memory p' b' = (b'.list ≡ b.list) × (b'.seen ≡ b.seen)
+abbrev pub LeavesBook : ActorName → ℕ → ℕ → Work → Option ℕ → Volume → Answer → Sight → Volume → Type 0
+LeavesBook a c now work cites b (answered.Done stamp o) p' b' = Gains b (made a c now work cites o) stamp p' b'
+LeavesBook a c now work cites b (answered.NotReady front) p' b' = StaysInBook b p' b'
+LeavesBook a c now work cites b answered.Memory p' b' = (b'.list ≡ b.list) × (b'.seen ≡ b.seen)

@@ -2,8 +2,8 @@
 ghost use Rattle.std.specs.Prelude.{◌≡◌, ℕ, ◌<◌, ◌^◌, List, length, false, Some, is_some, MatchOption};
 ghost use Rattle.net_base.specs.declared.noted.Noted.{Noted};
 ghost use Rattle.net_base.specs.Stamped.{moment_noted};
-ghost use Rattle.journal.specs.Tokens.{Holds, LookedWith, MayRecord, Recorded, noted};
-ghost use Rattle.locked.specs.Acts.{Acted, IsTimely, Leaves, Stands, state_at, made, without_copy};
+ghost use Rattle.journal.specs.Tokens.{HoldsPass, LookedWith, MayBeRecorded, RecordedInBook, noted_work};
+ghost use Rattle.locked.specs.Acts.{Acted, IsTimely, LeavesBook, Stands, state_at, made, act_without_copy};
 
 use crate::machine::Machine;
 use journal::{Book, Journal, Naming, Pass};
@@ -83,13 +83,13 @@ impl<J: Naming, M: Machine> Guarded<J, M> {
         event: Event,
     ) -> Answer
         requires copy { event ≡ asked.work.now.event }
-        requires room { (es : List (ℕ × Noted)) × Holds pass.old asked.caller es × (length es < 131072) }
+        requires room { (es : List (ℕ × Noted)) × HoldsPass pass.old asked.caller es × (length es < 131072) }
         requires moment { asked.now ≡ moment_noted pass.old.seen }
         requires now { asked.now < 2 ^ 63 }
         requires timely { IsTimely J.run.roster self.old.actor pass.old }
         ensures acted { Acted M.begin M.answer J.run.roster self.old.actor asked.entry.caller asked.entry.now
             asked.entry.work.now asked.entry.cites pass.old result pass.new }
-        ensures book { Leaves self.old.actor asked.entry.caller asked.entry.now
+        ensures book { LeavesBook self.old.actor asked.entry.caller asked.entry.now
             asked.entry.work.now asked.entry.cites self.old result pass.new self.new }
         ensures actor { (self.new.actor ≡ self.old.actor) × (self.new.number ≡ self.old.number) }
     {
@@ -153,7 +153,7 @@ impl<J: Naming, M: Machine> Guarded<J, M> {
 fn entry_of(actor: ActorName, asked: Asked<'_>, event: Event, outcome: &mut Outcome) -> Entry
     requires copy { event ≡ asked.work.now.event }
     requires twice { outcome.old.copy ≡ Some outcome.old.reply }
-    ensures outcome { outcome.new ≡ without_copy outcome.old }
+    ensures outcome { outcome.new ≡ act_without_copy outcome.old }
     ensures entry { result ≡ (made actor asked.entry.caller asked.entry.now asked.entry.work.now asked.entry.cites outcome.old).entry }
 {
     let Some(copy) = outcome.copy.take() else {
@@ -184,9 +184,9 @@ fn record<J: Naming>(
     work: &Work,
 ) -> u64
     requires room { 0 < book.old.room }
-    requires may { MayRecord pass.old book.old (noted entry work.now) }
+    requires may { MayBeRecorded pass.old book.old (noted_work entry work.now) }
     requires timely { IsTimely J.run.roster entry.actor pass.old }
-    ensures { Recorded J.run.roster book.old pass.old (noted entry work.now) result book.new pass.new }
+    ensures { RecordedInBook J.run.roster book.old pass.old (noted_work entry work.now) result book.new pass.new }
 {
     if same_actor(entry.actor, ActorName::Clock) {
         journal.record_clock(book, pass, entry, work)

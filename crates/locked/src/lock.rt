@@ -3,7 +3,7 @@ ghost use Rattle.std.specs.Prelude.{◌≡◌, ℕ, ◌<◌, ◌^◌, List, leng
 ghost use Rattle.net_base.specs.declared.actor.ActorName.TheVariants.{Clock};
 ghost use Rattle.net_base.specs.declared.noted.Noted.{Noted};
 ghost use Rattle.net_base.specs.Stamped.{same_actor, moment_noted};
-ghost use Rattle.journal.specs.Tokens.{Holds, HoldsAll, Looked};
+ghost use Rattle.journal.specs.Tokens.{HoldsPass, HoldsAll, Looked};
 ghost use Rattle.locked.specs.Acts.{Acted, IsTimely, Stands, state_at};
 
 use crate::guarded::{Answer, Asked, Guarded, View};
@@ -67,7 +67,7 @@ impl<J: Naming, M: Machine> Locked<J, M> {
         work: &Work,
         cites: Option<u64>,
     ) -> Answer
-        requires room { (es : List (ℕ × Noted)) × Holds pass.old caller es × (length es < 131072) }
+        requires room { (es : List (ℕ × Noted)) × HoldsPass pass.old caller es × (length es < 131072) }
         requires moment { now ≡ moment_noted pass.old.seen }
         requires now { now < 2 ^ 63 }
         requires actor { same_actor self.now.actor Clock ≡ false }
@@ -95,7 +95,7 @@ impl<J: Naming, M: Machine> Locked<J, M> {
         work: &Work,
         cites: Option<u64>,
     ) -> Answer
-        requires room { (es : List (ℕ × Noted)) × Holds pass.old caller es × (length es < 131072) }
+        requires room { (es : List (ℕ × Noted)) × HoldsPass pass.old caller es × (length es < 131072) }
         requires moment { now ≡ moment_noted pass.old.seen }
         requires now { now < 2 ^ 63 }
         requires all { HoldsAll J.run.roster pass.old }
@@ -120,7 +120,7 @@ impl<J: Naming, M: Machine> Locked<J, M> {
         pass: &mut Pass<J>,
         asked: Asked<'_>,
     ) -> Answer
-        requires room { (es : List (ℕ × Noted)) × Holds pass.old asked.caller es × (length es < 131072) }
+        requires room { (es : List (ℕ × Noted)) × HoldsPass pass.old asked.caller es × (length es < 131072) }
         requires moment { asked.now ≡ moment_noted pass.old.seen }
         requires now { asked.now < 2 ^ 63 }
         requires timely { IsTimely J.run.roster self.now.actor pass.old }
@@ -147,7 +147,7 @@ impl<J: Naming, M: Machine> Locked<J, M> {
         event: Event,
     ) -> Answer
         requires copy { event ≡ asked.work.now.event }
-        requires room { (es : List (ℕ × Noted)) × Holds pass.old asked.caller es × (length es < 131072) }
+        requires room { (es : List (ℕ × Noted)) × HoldsPass pass.old asked.caller es × (length es < 131072) }
         requires moment { asked.now ≡ moment_noted pass.old.seen }
         requires now { asked.now < 2 ^ 63 }
         requires timely { IsTimely J.run.roster self.now.actor pass.old }

@@ -12,7 +12,7 @@ use Rattle.net_base.specs.NdbBundle.{reading}
 use Rattle.net_base.specs.declared.world.Version.{Version}
 use Rattle.net_base.specs.World.{IsDatabase, is_step, is_text, IsWorld}
 use Rattle.worked_worlds.specs.Worked.{small_bundle, tuples}
-use Rattle.made_world.specs.Made.{message, asking, answering, anna_steps, helix_steps, made_world}
+use Rattle.made_world.specs.Made.{made_message, message_steps, answering, anna_steps, helix_steps, made_world}
 
 -- The database.
 
@@ -24,7 +24,7 @@ local_reads = refl
 digit_text : (n : ℕ) → n < 10 → is_text ((48 + n) ∷ []) ≡ true
 digit_text n lt = and_from _ _ (grind (arith, nat_tests)) refl
 
-message_text : (k : ℕ) → k < 2 ^ 64 → is_text (message k) ≡ true
+message_text : (k : ℕ) → k < 2 ^ 64 → is_text (made_message k) ≡ true
 message_text k small =
     decimal_by_steps (λ n digits. is_text digits ≡ true) digit_text
     (λ n digits ten front. list_all-append _ digits _ ∙ and_from _ _ front (digit_text (n % 10) (omega arith)))
@@ -44,7 +44,7 @@ each : (steps : ℕ → List Step) (a n : ℕ) → ((k : ℕ) → k < a + n → 
 each steps a zero one = refl
 each steps a (suc n) one = both (steps a) _ (one a (omega arith)) (each steps (a + 1) n (λ k lt. one k (omega (arith, lt))))
 
-asking_steps : (k : ℕ) → k < 2 ^ 64 → AreSteps (asking k)
+asking_steps : (k : ℕ) → k < 2 ^ 64 → AreSteps (message_steps k)
 asking_steps k small = and_from _ _ (message_text k small) refl
 
 answering_steps : (k : ℕ) → k < 2 ^ 64 → AreSteps (answering k)
@@ -53,8 +53,8 @@ answering_steps k small = and_from _ _ (message_text k small) refl
 module _ (n : ℕ) (small : n < 2 ^ 64) where
   anna_said : AreSteps (anna_steps n)
   anna_said =
-      both (flat_map asking (range_with_len 1 n)) _
-      (each asking 1 n (λ k lt. asking_steps k (omega (arith, lt, small)))) refl
+      both (flat_map message_steps (range_with_len 1 n)) _
+      (each message_steps 1 n (λ k lt. asking_steps k (omega (arith, lt, small)))) refl
 
   helix_said : AreSteps (helix_steps n)
   helix_said =

@@ -8,26 +8,26 @@ use Rattle.net_base.specs.declared.world.Step.{Step}
 use Rattle.net_base.specs.declared.world.Step.TheVariants as step
 use Rattle.net_base.specs.declared.world.World.{World}
 use Rattle.net_base.specs.declared.timer.Timers.TheVariants.{Fixed}
-use Rattle.worked_worlds.specs.Worked.{anna, helix, host, script, tuples}
+use Rattle.worked_worlds.specs.Worked.{anna, helix, host, script_with, tuples}
 
 -- the text of the k-th message
-abbrev pub message : ℕ → List ℕ
-message k = decimal k
+abbrev pub made_message : ℕ → List ℕ
+made_message k = decimal k
 
 -- anna writes the k-th message, and reads its answer
-abbrev pub asking : ℕ → List Step
-asking k = step.Write (codes "d") (message k) ∷ step.Read (codes "d") 8192 ∷ []
+abbrev pub message_steps : ℕ → List Step
+message_steps k = step.Write (codes "d") (made_message k) ∷ step.Read (codes "d") 8192 ∷ []
 
 abbrev pub anna_steps : ℕ → List Step
 anna_steps n =
     step.Until 10
     ∷ step.Dial (codes "d") (codes "net!helix!9fs")
-    ∷ (flat_map asking (range_with_len 1 n)
+    ∷ (flat_map message_steps (range_with_len 1 n)
     ++ step.Close (codes "d") ∷ [])
 
 -- helix reads the k-th message, and answers it
 abbrev pub answering : ℕ → List Step
-answering k = step.Read (codes "e") 8192 ∷ step.Write (codes "e") (message k) ∷ []
+answering k = step.Read (codes "e") 8192 ∷ step.Write (codes "e") (made_message k) ∷ []
 
 abbrev pub helix_steps : ℕ → List Step
 helix_steps n =
@@ -45,7 +45,7 @@ abbrev pub made_hosts : List HostSpec
 made_hosts = host (codes "anna") anna [] ∷ host (codes "helix") helix [] ∷ []
 
 abbrev pub made_scripts : ℕ → List Script
-made_scripts n = script 0 (anna_steps n) ∷ script 1 (helix_steps n) ∷ []
+made_scripts n = script_with 0 (anna_steps n) ∷ script_with 1 (helix_steps n) ∷ []
 
 -- the world of n messages, whose seed is n, with the worked database
 abbrev pub made_world : ℕ → World

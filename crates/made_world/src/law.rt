@@ -2,7 +2,7 @@
 ghost use Rattle.std.specs.Prelude.{◌≡◌, ℕ, ◌<◌, ◌^◌, ◌++◌, codes};
 ghost use Rattle.net_base.specs.World.{IsWorld};
 ghost use Rattle.made_world.specs.Made.{made_world};
-ghost use Rattle.world_writer.specs.Written.{file_text};
+ghost use Rattle.world_writer.specs.Written.{world_file_text};
 
 /// Each made world is one that a file can say.
 pub fn made_worlds_are_worlds()
@@ -11,7 +11,7 @@ pub fn made_worlds_are_worlds()
 
 /// The file of the made world of one message, by computation.
 pub fn worked_made_world()
-    ensures { file_text (made_world 1)
+    ensures { world_file_text (made_world 1)
         ≡ codes "networld 1\nend 1000000000\nseed 1\nmedium ether0 1500\nhost anna il udp\n"
         ++ (codes "if ether0 135.104.9.6 255.255.255.0\nhost helix il udp\nif ether0 135.104.9.31 255.255.255.0\n"
         ++ (codes "script anna\nuntil 10\ndial d net!helix!9fs\nwrite d 1\nread d 8192\nclose d\n"

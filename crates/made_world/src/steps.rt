@@ -23,7 +23,7 @@ fn read(alloc: Global, name: &[u8]) -> Result<Step, AllocError>
 
 /// A write of the k-th message.
 fn write(alloc: Global, name: &[u8], k: u32) -> Result<Step, AllocError>
-    ensures { IfOk result (λ s. s ≡ step.Write name.now (spec.message k)) }
+    ensures { IfOk result (λ s. s ≡ step.Write name.now (spec.made_message k)) }
 {
     let mut text = Octets::new(alloc);
     put_decimal(&mut text, u64::from(k))?;
@@ -44,7 +44,7 @@ fn close(alloc: Global, name: &[u8]) -> Result<Step, AllocError>
 
 /// Adds what anna does for the k-th message.
 fn ask(alloc: Global, steps: &mut StepList, k: u32) -> Result<(), AllocError>
-    ensures { OnOk result (steps.new ≡ steps.old ++ spec.asking k) }
+    ensures { OnOk result (steps.new ≡ steps.old ++ spec.message_steps k) }
 {
     steps.push(write(alloc, b"d", k)?)?;
     steps.push(read(alloc, b"d")?)
@@ -60,7 +60,7 @@ fn answer(alloc: Global, steps: &mut StepList, k: u32) -> Result<(), AllocError>
 
 /// Adds what anna does for `n` messages.
 fn ask_all(alloc: Global, steps: &mut StepList, n: u32) -> Result<(), AllocError>
-    ensures { OnOk result (steps.new ≡ steps.old ++ flat_map spec.asking (range_with_len 1 n)) }
+    ensures { OnOk result (steps.new ≡ steps.old ++ flat_map spec.message_steps (range_with_len 1 n)) }
 {
     for before in 0..n {
         ask(alloc, steps, before + 1)?;

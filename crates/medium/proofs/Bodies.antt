@@ -9,14 +9,14 @@ use Rattle.net_base.specs.declared.packet.Packet.{Packet}
 use Rattle.wire_text.specs.Ipv4.{Ipv4, SpellsIpv4, header_of, payload_of}
 use Rattle.wire_text.specs.UdpWire.{SpellsUdp, address, dport_of, udp_text}
 use Rattle.wire_text.specs.IlWire.{SpellsIl, il_dport, message_of}
-use Rattle.wire_text.specs.Datagram.{IsPacket, between, il_packet, udp_packet, packet_in, header_for, body_bytes, protocol, packet_of}
+use Rattle.wire_text.specs.Datagram.{IsPacket, between, il_packet, udp_packet, headed_packet, header_for, body_bytes, protocol, datagram_packet}
 use Rattle.wire_text.proofs.Shared.{spells_header, spells_payload, spells_sport, spells_dport, spells_message, spells_fields, spells_datagram, spells_il_body, spells_udp_body}
-use Rattle.medium.specs.Spelled.{IsSpelled}
+use Rattle.medium.specs.Spelled.{IsSpelledPacket}
 
 -- spelled bytes spell a header and a payload
-pub ipv4_in : (bytes : List ℕ) → IsSpelled bytes → SpellsIpv4 (header_for (packet_of bytes)) (body_bytes (packet_of bytes).src (packet_of bytes).dst (packet_of bytes).body) bytes
+pub ipv4_in : (bytes : List ℕ) → IsSpelledPacket bytes → SpellsIpv4 (header_for (datagram_packet bytes)) (body_bytes (datagram_packet bytes).src (datagram_packet bytes).dst (datagram_packet bytes).body) bytes
 ipv4_in bytes s =
-    subst (λ (x : List ℕ). SpellsIpv4 (header_for (packet_of bytes)) (body_bytes (packet_of bytes).src (packet_of bytes).dst (packet_of bytes).body) x) (sym s.1) (spells_datagram (packet_of bytes) s.0)
+    subst (λ (x : List ℕ). SpellsIpv4 (header_for (datagram_packet bytes)) (body_bytes (datagram_packet bytes).src (datagram_packet bytes).dst (datagram_packet bytes).body) x) (sym s.1) (spells_datagram (datagram_packet bytes) s.0)
 
 -- an IL message that bytes spell
 pub record HoldsIl (bytes : List ℕ) : Type 0 where
@@ -43,28 +43,28 @@ udp_body : (src dst : Addr) (ttl tos : ℕ) (b : Body) → IsPacket (made src ds
 udp_body src dst ttl tos (body.Il m) p e = absurd (e refl)
 udp_body src dst ttl tos (body.Udp text) p e = record { sport = src.port; dport = dst.port; text = text; spelled = spells_udp_body src dst text p.src.port p.dst.port p.body }
 
-header_is : (bytes : List ℕ) → IsSpelled bytes → header_of bytes ≡ header_for (packet_of bytes)
-header_is bytes s = spells_header (header_for (packet_of bytes)) (body_bytes (packet_of bytes).src (packet_of bytes).dst (packet_of bytes).body) bytes (ipv4_in bytes s)
+header_is : (bytes : List ℕ) → IsSpelledPacket bytes → header_of bytes ≡ header_for (datagram_packet bytes)
+header_is bytes s = spells_header (header_for (datagram_packet bytes)) (body_bytes (datagram_packet bytes).src (datagram_packet bytes).dst (datagram_packet bytes).body) bytes (ipv4_in bytes s)
 
-payload_is : (bytes : List ℕ) → IsSpelled bytes → payload_of bytes ≡ body_bytes (packet_of bytes).src (packet_of bytes).dst (packet_of bytes).body
-payload_is bytes s = spells_payload (header_for (packet_of bytes)) (body_bytes (packet_of bytes).src (packet_of bytes).dst (packet_of bytes).body) bytes (ipv4_in bytes s)
+payload_is : (bytes : List ℕ) → IsSpelledPacket bytes → payload_of bytes ≡ body_bytes (datagram_packet bytes).src (datagram_packet bytes).dst (datagram_packet bytes).body
+payload_is bytes s = spells_payload (header_for (datagram_packet bytes)) (body_bytes (datagram_packet bytes).src (datagram_packet bytes).dst (datagram_packet bytes).body) bytes (ipv4_in bytes s)
 
 -- by its protocol number a payload is of IL ..
-pub il_in : (bytes : List ℕ) (h : Ipv4) (payload : List ℕ) → IsSpelled bytes → SpellsIpv4 h payload bytes → h.proto ≡ 40 → HoldsIl payload
+pub il_in : (bytes : List ℕ) (h : Ipv4) (payload : List ℕ) → IsSpelledPacket bytes → SpellsIpv4 h payload bytes → h.proto ≡ 40 → HoldsIl payload
 il_in bytes h payload s t e =
-    let eh : h ≡ header_for (packet_of bytes) = sym (spells_header h payload bytes t) ∙ header_is bytes s in
-    let ep : payload ≡ body_bytes (packet_of bytes).src (packet_of bytes).dst (packet_of bytes).body = sym (spells_payload h payload bytes t) ∙ payload_is bytes s in
+    let eh : h ≡ header_for (datagram_packet bytes) = sym (spells_header h payload bytes t) ∙ header_is bytes s in
+    let ep : payload ≡ body_bytes (datagram_packet bytes).src (datagram_packet bytes).dst (datagram_packet bytes).body = sym (spells_payload h payload bytes t) ∙ payload_is bytes s in
     subst HoldsIl (sym ep)
-    (il_body (packet_of bytes).src (packet_of bytes).dst (packet_of bytes).ttl (packet_of bytes).tos (packet_of bytes).body s.0 (sym (ap (λ (x : Ipv4). x.proto) eh) ∙ e))
+    (il_body (datagram_packet bytes).src (datagram_packet bytes).dst (datagram_packet bytes).ttl (datagram_packet bytes).tos (datagram_packet bytes).body s.0 (sym (ap (λ (x : Ipv4). x.proto) eh) ∙ e))
 
 -- .. or else of UDP
-pub udp_in : (bytes : List ℕ) (h : Ipv4) (payload : List ℕ) → IsSpelled bytes → SpellsIpv4 h payload bytes → h.proto ≢ 40 → HoldsUdp h.src h.dst payload
+pub udp_in : (bytes : List ℕ) (h : Ipv4) (payload : List ℕ) → IsSpelledPacket bytes → SpellsIpv4 h payload bytes → h.proto ≢ 40 → HoldsUdp h.src h.dst payload
 udp_in bytes h payload s t ne =
-    let eh : h ≡ header_for (packet_of bytes) = sym (spells_header h payload bytes t) ∙ header_is bytes s in
-    let ep : payload ≡ body_bytes (packet_of bytes).src (packet_of bytes).dst (packet_of bytes).body = sym (spells_payload h payload bytes t) ∙ payload_is bytes s in
+    let eh : h ≡ header_for (datagram_packet bytes) = sym (spells_header h payload bytes t) ∙ header_is bytes s in
+    let ep : payload ≡ body_bytes (datagram_packet bytes).src (datagram_packet bytes).dst (datagram_packet bytes).body = sym (spells_payload h payload bytes t) ∙ payload_is bytes s in
     subst (λ (x : Ipv4). HoldsUdp x.src x.dst payload) (sym eh)
-    (subst (λ (b : List ℕ). HoldsUdp (packet_of bytes).src.ip (packet_of bytes).dst.ip b) (sym ep)
-    (udp_body (packet_of bytes).src (packet_of bytes).dst (packet_of bytes).ttl (packet_of bytes).tos (packet_of bytes).body s.0 (λ e. ne (ap (λ (x : Ipv4). x.proto) eh ∙ e))))
+    (subst (λ (b : List ℕ). HoldsUdp (datagram_packet bytes).src.ip (datagram_packet bytes).dst.ip b) (sym ep)
+    (udp_body (datagram_packet bytes).src (datagram_packet bytes).dst (datagram_packet bytes).ttl (datagram_packet bytes).tos (datagram_packet bytes).body s.0 (λ e. ne (ap (λ (x : Ipv4). x.proto) eh ∙ e))))
 
 -- an answer that is Ok and more is Ok
 pub ok_of : {T E : Type 0} (P : T → Type 0) (r : Result T E) → IsOkAnd r P → IsOk r
@@ -78,25 +78,25 @@ on_err P (Err e) so = so
 
 -- ---- a packet by what its decoders found
 
-pub il_read : (bytes : List ℕ) (h : Ipv4) (payload : List ℕ) (sport dport : ℕ) (m : IlMsg) → SpellsIpv4 h payload bytes → h.proto ≡ 40 → SpellsIl sport dport m payload → between h sport dport (body.Il m) ≡ packet_of bytes
-unfolding packet_of
+pub il_read : (bytes : List ℕ) (h : Ipv4) (payload : List ℕ) (sport dport : ℕ) (m : IlMsg) → SpellsIpv4 h payload bytes → h.proto ≡ 40 → SpellsIl sport dport m payload → between h sport dport (body.Il m) ≡ datagram_packet bytes
+unfolding datagram_packet
 il_read bytes h payload sport dport m s e t =
-    let test : packet_in h payload ≡ il_packet h payload = rw e refl in
-    sym (ap (λ (x : Ipv4). packet_in x (payload_of bytes)) (spells_header h payload bytes s)
-    ∙ ap (packet_in h) (spells_payload h payload bytes s)
+    let test : headed_packet h payload ≡ il_packet h payload = rw e refl in
+    sym (ap (λ (x : Ipv4). headed_packet x (payload_of bytes)) (spells_header h payload bytes s)
+    ∙ ap (headed_packet h) (spells_payload h payload bytes s)
     ∙ test
     ∙ ap (λ (n : ℕ). between h n (il_dport payload) (body.Il (message_of payload))) (spells_sport sport dport m payload t)
     ∙ ap (λ (n : ℕ). between h sport n (body.Il (message_of payload))) (spells_dport sport dport m payload t)
     ∙ ap (λ (x : IlMsg). between h sport dport (body.Il x)) (spells_message sport dport m payload t))
 
-pub udp_read : (bytes : List ℕ) (h : Ipv4) (payload : List ℕ) (sport dport : ℕ) (text : List ℕ) → SpellsIpv4 h payload bytes → h.proto ≢ 40 → SpellsUdp (address h.src sport) (address h.dst dport) text payload → between h sport dport (body.Udp text) ≡ packet_of bytes
-unfolding packet_of
+pub udp_read : (bytes : List ℕ) (h : Ipv4) (payload : List ℕ) (sport dport : ℕ) (text : List ℕ) → SpellsIpv4 h payload bytes → h.proto ≢ 40 → SpellsUdp (address h.src sport) (address h.dst dport) text payload → between h sport dport (body.Udp text) ≡ datagram_packet bytes
+unfolding datagram_packet
 udp_read bytes h payload sport dport text s ne t =
     let not_il : nat_eq h.proto 40 ≡ false = grind (arith, nat_tests) in
-    let test : packet_in h payload ≡ udp_packet h payload = rw not_il refl in
+    let test : headed_packet h payload ≡ udp_packet h payload = rw not_il refl in
     let fields = spells_fields (address h.src sport) (address h.dst dport) text payload t in
-    sym (ap (λ (x : Ipv4). packet_in x (payload_of bytes)) (spells_header h payload bytes s)
-    ∙ ap (packet_in h) (spells_payload h payload bytes s)
+    sym (ap (λ (x : Ipv4). headed_packet x (payload_of bytes)) (spells_header h payload bytes s)
+    ∙ ap (headed_packet h) (spells_payload h payload bytes s)
     ∙ test
     ∙ ap (λ (n : ℕ). between h n (dport_of payload) (body.Udp (udp_text payload))) fields.0
     ∙ ap (λ (n : ℕ). between h sport n (body.Udp (udp_text payload))) fields.1

@@ -16,7 +16,7 @@ use Rattle.net_base.specs.declared.world.MediumSpec.{MediumSpec}
 use Rattle.net_base.specs.Draws.{drawn_word, generator}
 use Rattle.net_base.specs.Medium.{fate_by_rates, fate_in}
 use Rattle.net_base.specs.World.{all_apart, is_medium, is_name, is_range, is_within, overlap}
-use Rattle.medium.specs.OnFates.{AreInOrder, FindsAlike, HasMtu, HasRates, IsAhead, begins_past, fate_line, names}
+use Rattle.medium.specs.OnFates.{AreInOrder, FindsAlike, HasMtu, HasRates, IsAhead, begins_past, fate_line, names_fate}
 
 -- Finding in a list and in its permutations.
 
@@ -57,24 +57,24 @@ found_alike {X} p xs ys one moved = by_found (find p ys) (find p xs) refl refl
 
 -- Lines that don't overlap.
 
-both_name : (m : ℕ) (f g : FateRange) → names m f ≡ true → names m g ≡ true → overlap f g ≡ true
+both_name : (m : ℕ) (f g : FateRange) → names_fate m f ≡ true → names_fate m g ≡ true → overlap f g ≡ true
 both_name m f g ef eg = grind (arith, nat_tests)
 
-apart_one : (m : ℕ) (fs : List FateRange) → all_apart overlap fs ≡ true → AtMostOne (names m) fs
+apart_one : (m : ℕ) (fs : List FateRange) → all_apart overlap fs ≡ true → AtMostOne (names_fate m) fs
 apart_one m [] apart x y cx cy px py = absurd (omega (arith, cx.1))
 apart_one m (f ∷ fs) apart x y cx cy px py = by_place (apart_one m fs parts.1 x y) cx.0 cy.0 (cx.1, cx.2) (cy.1, cy.2)
   where
     parts : (not (list_any (overlap f) fs) ≡ true) × (all_apart overlap fs ≡ true)
     parts = and_parts (not (list_any (overlap f) fs)) (all_apart overlap fs) apart
 
-    alone : (z : FateRange) (j : ℕ) → j < length fs → get_or fs j z ≡ z → names m f ≡ true → names m z ≡ true → ⊥
+    alone : (z : FateRange) (j : ℕ) → j < length fs → get_or fs j z ≡ z → names_fate m f ≡ true → names_fate m z ≡ true → ⊥
     alone z j lt is pf pz =
         true≢false (sym (list_any_at (overlap f) fs j z lt (ap (λ (g : FateRange). overlap f g) is ∙ both_name m f z pf pz)) ∙ not-true (list_any (overlap f) fs) parts.0)
 
-    by_place : (Contains fs x → Contains fs y → names m x ≡ true → names m y ≡ true → x ≡ y) → (i j : ℕ) → (i < length (f ∷ fs)) × (get_or (f ∷ fs) i x ≡ x) → (j < length (f ∷ fs)) × (get_or (f ∷ fs) j y ≡ y) → x ≡ y
+    by_place : (Contains fs x → Contains fs y → names_fate m x ≡ true → names_fate m y ≡ true → x ≡ y) → (i j : ℕ) → (i < length (f ∷ fs)) × (get_or (f ∷ fs) i x ≡ x) → (j < length (f ∷ fs)) × (get_or (f ∷ fs) j y ≡ y) → x ≡ y
     by_place rest zero zero a b = sym a.1 ∙ b.1
-    by_place rest zero (suc j) a b = absurd (alone y j (omega (arith, b.0)) b.1 (ap (λ (g : FateRange). names m g) a.1 ∙ px) py)
-    by_place rest (suc i) zero a b = absurd (alone x i (omega (arith, a.0)) a.1 (ap (λ (g : FateRange). names m g) b.1 ∙ py) px)
+    by_place rest zero (suc j) a b = absurd (alone y j (omega (arith, b.0)) b.1 (ap (λ (g : FateRange). names_fate m g) a.1 ∙ px) py)
+    by_place rest (suc i) zero a b = absurd (alone x i (omega (arith, a.0)) a.1 (ap (λ (g : FateRange). names_fate m g) b.1 ∙ py) px)
     by_place rest (suc i) (suc j) a b = rest (i, omega (arith, a.0), a.1) (j, omega (arith, b.0), b.1) px py
 
 -- Lines in order.
@@ -91,21 +91,21 @@ in_order (f ∷ fs) h =
 -- a line of earlier frames names nothing further
 pub past_line : (laid : ℕ) (f : FateRange) (fs : List FateRange) → nat_le f.last laid ≡ true → FindsAlike laid (f ∷ fs) fs
 past_line laid f fs past m lt =
-    let not_named : names m f ≡ false = grind (arith, nat_tests) in
+    let not_named : names_fate m f ≡ false = grind (arith, nat_tests) in
     rw not_named refl
 
 -- no line that begins later names the frame
-none_names : (m : ℕ) (fs : List FateRange) (n : ℕ) → m < n → AllByRecursion (λ (g : FateRange). n ≤ g.first) fs → find (names m) fs ≡ None
+none_names : (m : ℕ) (fs : List FateRange) (n : ℕ) → m < n → AllByRecursion (λ (g : FateRange). n ≤ g.first) fs → find (names_fate m) fs ≡ None
 none_names m [] n lt all = refl
 none_names m (f ∷ fs) n lt all =
     let le : n ≤ f.first = all.0 in
-    let not_named : names m f ≡ false = grind (arith, nat_tests) in
+    let not_named : names_fate m f ≡ false = grind (arith, nat_tests) in
     rw not_named (none_names m fs n lt all.1)
 
 -- the first line tells, where it doesn't end before the frame
 pub line_tells : (laid : ℕ) (f : FateRange) (fs : List FateRange) → AreInOrder (f ∷ fs) → nat_le f.last laid ≡ false → f.first - 1 ≤ laid → fate_line (laid + 1) (f ∷ fs) ≡ Some f.fate
 line_tells laid f fs order ends begins =
-    let named : names (laid + 1) f ≡ true = grind (arith, nat_tests) in
+    let named : names_fate (laid + 1) f ≡ true = grind (arith, nat_tests) in
     rw named refl
 
 pub line_is_later : (laid : ℕ) (f : FateRange) (fs : List FateRange) → AreInOrder (f ∷ fs) → laid < f.first - 1 → fate_line (laid + 1) (f ∷ fs) ≡ None
@@ -150,7 +150,7 @@ knows spec seed laid old lines words next_words ahead mtu rates alike order rest
       ap (λ (g : Lcg). (pcg32 g).0) drawn ∙ ap (λ (n : ℕ). (pcg32 (advance 64 multiplier_64 n (generator seed (64 + spec.number)))).0) (sym before) in
       known
       ∙ ap (λ (o : Option FateRange). unwrap_or (option_map (λ (line : FateRange). line.fate) o) (fate_by_rates spec ((pcg32 words).0 % 1000))) (alike (laid + 1) (omega arith))
-      ∙ fate_is (find (names (laid + 1)) spec.fates) seed (laid + 1) spec (pcg32 words).0 word;
+      ∙ fate_is (find (names_fate (laid + 1)) spec.fates) seed (laid + 1) spec (pcg32 words).0 word;
 }
 
 -- A medium of a world.
@@ -173,15 +173,15 @@ of_world spec is =
       apart = (and_parts (list_all is_range spec.fates) (all_apart overlap spec.fates) ranged.1).1;
     }
 
-pub sorted_alike : (spec : MediumSpec) (lines : List FateRange) → is_medium spec.number spec ≡ true → IsPermutation spec.fates lines → (m : ℕ) → find (names m) lines ≡ find (names m) spec.fates
-sorted_alike spec lines is moved m = found_alike (names m) spec.fates lines (apart_one m spec.fates (of_world spec is).apart) moved
+pub sorted_alike : (spec : MediumSpec) (lines : List FateRange) → is_medium spec.number spec ≡ true → IsPermutation spec.fates lines → (m : ℕ) → find (names_fate m) lines ≡ find (names_fate m) spec.fates
+sorted_alike spec lines is moved m = found_alike (names_fate m) spec.fates lines (apart_one m spec.fates (of_world spec is).apart) moved
 
 -- the first line goes, where it is of earlier frames
 pub dropped : (laid : ℕ) (old lines rest : List FateRange) (first : Option FateRange) → lines ≡ option_to_list first ++ rest → begins_past laid lines ≡ true → AreInOrder lines × FindsAlike laid old lines → AreInOrder rest × FindsAlike laid old rest
 dropped laid old lines rest None is past kept = subst (λ (fs : List FateRange). AreInOrder fs × FindsAlike laid old fs) is kept
 dropped laid old lines rest (Some f) is past kept = (
   (subst AreInOrder is kept.0).1,
-  λ m lt. past_line laid f rest (sym (ap (λ (fs : List FateRange). begins_past laid fs) is) ∙ past) m lt ∙ ap (λ (fs : List FateRange). find (names m) fs) (sym is) ∙ kept.1 m lt,
+  λ m lt. past_line laid f rest (sym (ap (λ (fs : List FateRange). begins_past laid fs) is) ∙ past) m lt ∙ ap (λ (fs : List FateRange). find (names_fate m) fs) (sym is) ∙ kept.1 m lt,
 )
 
 -- the first line tells nothing, where it begins later

@@ -10,17 +10,17 @@ use Rattle.net_base.specs.declared.packet.Body.TheVariants as body
 use Rattle.net_base.specs.declared.packet.Packet.{Packet}
 use Rattle.net_base.specs.declared.world.Fate.{Fate}
 use Rattle.net_base.specs.declared.world.Fate.TheVariants.{Deliver, Lose, Twice, Later}
-use Rattle.wire_text.specs.Datagram.{IsPacket, body_bytes, header_for, packet_of, spelling}
+use Rattle.wire_text.specs.Datagram.{IsPacket, body_bytes, header_for, datagram_packet, packet_spelling}
 use Rattle.wire_text.specs.Ipv4.{Ipv4, flagged_bytes, summed}
 use Rattle.net_base.specs.Medium.{datagram_length, fate_of, held_of, lays, now_of, puts}
 use Rattle.wire_text.proofs.Shared.{packet_again}
 use Rattle.medium.specs.declared.frame.Frame.{Frame}
-use Rattle.medium.specs.OnMedium.{OnMedium, AllSpelled, copies_now, copy_held, medium_of, taken_of, with_frame}
-use Rattle.medium.specs.Spelled.{IsSpelled}
+use Rattle.medium.specs.OnMedium.{OnMedium, AllSpelled, copies_now, copy_held, medium_laid, copy_taken, with_frame}
+use Rattle.medium.specs.Spelled.{IsSpelledPacket}
 
-pub is_spelled : (p : Packet) (bytes : List ℕ) → IsPacket p → bytes ≡ spelling p → IsSpelled bytes
+pub is_spelled : (p : Packet) (bytes : List ℕ) → IsPacket p → bytes ≡ packet_spelling p → IsSpelledPacket bytes
 is_spelled p bytes h e =
-    let again : packet_of bytes ≡ p = ap packet_of e ∙ packet_again p h in
+    let again : datagram_packet bytes ≡ p = ap datagram_packet e ∙ packet_again p h in
     rw again (h, e)
 
 pub AllSpelled-append : (xs ys : List Frame) → AllSpelled xs → AllSpelled ys → AllSpelled (xs ++ ys)
@@ -29,13 +29,13 @@ AllSpelled-append (x ∷ xs) ys all more = (all.0, AllSpelled-append xs ys all.1
 
 -- the copies of a frame
 
-pub spelled_now : (fate : Fate) (f : Frame) → IsSpelled f.bytes → AllSpelled (copies_now fate f)
+pub spelled_now : (fate : Fate) (f : Frame) → IsSpelledPacket f.bytes → AllSpelled (copies_now fate f)
 spelled_now Deliver f s = (s, tt)
 spelled_now Lose f s = tt
 spelled_now Twice f s = (s, (s, tt))
 spelled_now Later f s = tt
 
-pub spelled_held : (fate : Fate) (f : Frame) → IsSpelled f.bytes → AllSpelled (option_to_list (copy_held fate f))
+pub spelled_held : (fate : Fate) (f : Frame) → IsSpelledPacket f.bytes → AllSpelled (option_to_list (copy_held fate f))
 spelled_held Deliver f s = tt
 spelled_held Lose f s = tt
 spelled_held Twice f s = tt
@@ -43,49 +43,49 @@ spelled_held Later f s = (s, tt)
 
 -- what joins one after another
 pub AllSpelled-joined : (queue one two three first second held : List Frame) (fate : Fate) (f : Frame) → one ≡ queue ++ first → two ≡ one ++ second → three ≡ two ++ held → first ++ second ≡ copies_now fate f
-    → AllSpelled queue → AllSpelled held → IsSpelled f.bytes → AllSpelled three
+    → AllSpelled queue → AllSpelled held → IsSpelledPacket f.bytes → AllSpelled three
 AllSpelled-joined queue one two three first second held fate f e1 e2 e3 now before after s =
     let all : three ≡ (queue ++ copies_now fate f) ++ held =
     e3 ∙ ap (λ (front : List Frame). front ++ held) (e2 ∙ ap (λ (front : List Frame). front ++ second) e1 ∙ append_assoc queue first second ∙ ap (λ (copies : List Frame). queue ++ copies) now) in
     subst AllSpelled (sym all) (AllSpelled-append (queue ++ copies_now fate f) held (AllSpelled-append queue (copies_now fate f) before (spelled_now fate f s)) after)
 
-now_taken : (fate : Fate) (f : Frame) → map taken_of (copies_now fate f) ≡ now_of fate (taken_of f)
+now_taken : (fate : Fate) (f : Frame) → map copy_taken (copies_now fate f) ≡ now_of fate (copy_taken f)
 now_taken Deliver f = refl
 now_taken Lose f = refl
 now_taken Twice f = refl
 now_taken Later f = refl
 
-held_taken : (fate : Fate) (f : Frame) → map taken_of (option_to_list (copy_held fate f)) ≡ held_of fate (taken_of f)
+held_taken : (fate : Fate) (f : Frame) → map copy_taken (option_to_list (copy_held fate f)) ≡ held_of fate (copy_taken f)
 held_taken Deliver f = refl
 held_taken Lose f = refl
 held_taken Twice f = refl
 held_taken Later f = refl
 
-taken_in_row : (queue now held : List Frame) → map taken_of ((queue ++ now) ++ held) ≡ (map taken_of queue ++ map taken_of now) ++ map taken_of held
-taken_in_row queue now held = map-append taken_of (queue ++ now) held ∙ ap (λ (front : List Taken). front ++ map taken_of held) (map-append taken_of queue now)
+taken_in_row : (queue now held : List Frame) → map copy_taken ((queue ++ now) ++ held) ≡ (map copy_taken queue ++ map copy_taken now) ++ map copy_taken held
+taken_in_row queue now held = map-append copy_taken (queue ++ now) held ∙ ap (λ (front : List Taken). front ++ map copy_taken held) (map-append copy_taken queue now)
 
 -- a further frame is the definitions' step
 lays_frame : (queue : List Frame) (held : Option Frame) (laid : ℕ) (fate : Fate) (f : Frame)
-    → record { frames = f.number; queue = map taken_of ((queue ++ copies_now fate f) ++ option_to_list held); held = map taken_of (option_to_list (copy_held fate f)) }
-    ≡ (lays fate (taken_of f) (record { frames = laid; queue = map taken_of queue; held = map taken_of (option_to_list held) })).state
+    → record { frames = f.number; queue = map copy_taken ((queue ++ copies_now fate f) ++ option_to_list held); held = map copy_taken (option_to_list (copy_held fate f)) }
+    ≡ (lays fate (copy_taken f) (record { frames = laid; queue = map copy_taken queue; held = map copy_taken (option_to_list held) })).state
 lays_frame queue held laid fate f =
-    ap (λ (q : List Taken). record { frames = f.number; queue = q; held = map taken_of (option_to_list (copy_held fate f)) })
-    (taken_in_row queue (copies_now fate f) (option_to_list held) ∙ ap (λ (now : List Taken). (map taken_of queue ++ now) ++ map taken_of (option_to_list held)) (now_taken fate f))
-    ∙ ap (λ (h : List Taken). record { frames = f.number; queue = (map taken_of queue ++ now_of fate (taken_of f)) ++ map taken_of (option_to_list held); held = h }) (held_taken fate f)
+    ap (λ (q : List Taken). record { frames = f.number; queue = q; held = map copy_taken (option_to_list (copy_held fate f)) })
+    (taken_in_row queue (copies_now fate f) (option_to_list held) ∙ ap (λ (now : List Taken). (map copy_taken queue ++ now) ++ map copy_taken (option_to_list held)) (now_taken fate f))
+    ∙ ap (λ (h : List Taken). record { frames = f.number; queue = (map copy_taken queue ++ now_of fate (copy_taken f)) ++ map copy_taken (option_to_list held); held = h }) (held_taken fate f)
 
-pub laid_state : (m : OnMedium) (to : ℕ) (p : Packet) (bytes : List ℕ) → datagram_length p.body ≤ m.spec.mtu → IsPacket p → bytes ≡ spelling p
-    → medium_of (with_frame (record { number = m.laid + 1; to = to; bytes = bytes }) m) ≡ (puts m.spec m.seed (Some to) p (medium_of m)).state
+pub laid_state : (m : OnMedium) (to : ℕ) (p : Packet) (bytes : List ℕ) → datagram_length p.body ≤ m.spec.mtu → IsPacket p → bytes ≡ packet_spelling p
+    → medium_laid (with_frame (record { number = m.laid + 1; to = to; bytes = bytes }) m) ≡ (puts m.spec m.seed (Some to) p (medium_laid m)).state
 laid_state m to p bytes short fits e =
-    let again : packet_of bytes ≡ p = ap packet_of e ∙ packet_again p fits in
+    let again : datagram_packet bytes ≡ p = ap datagram_packet e ∙ packet_again p fits in
     let small : nat_lt m.spec.mtu (datagram_length p.body) ≡ false = le-ltb m.spec.mtu (datagram_length p.body) short in
     rw small
     (lays_frame m.queue m.held m.laid (fate_of m.seed m.spec (m.laid + 1)) (record { number = m.laid + 1; to = to; bytes = bytes })
-    ∙ ap (λ (x : Packet). (lays (fate_of m.seed m.spec (m.laid + 1)) (record { frame = m.laid + 1; to = to; packet = x }) (medium_of m)).state) again)
+    ∙ ap (λ (x : Packet). (lays (fate_of m.seed m.spec (m.laid + 1)) (record { frame = m.laid + 1; to = to; packet = x }) (medium_laid m)).state) again)
 
 -- a header that is written in front of a body
 pub framed : (p : Packet) (h : Ipv4) (carried out new : List ℕ) → h ≡ header_for p → carried ≡ body_bytes p.src p.dst p.body → 20 ≤ length out → length carried ≡ length out - 20
-    → new ≡ summed false (20 + (length out - 20)) h ++ drop 20 (put_mid 20 (length out - 20) out carried) → new ≡ spelling p
-unfolding spelling flagged_bytes
+    → new ≡ summed false (20 + (length out - 20)) h ++ drop 20 (put_mid 20 (length out - 20) out carried) → new ≡ packet_spelling p
+unfolding packet_spelling flagged_bytes
 framed p h carried out new eh eb long same e =
     let nothing : drop (length out - 20) (drop 20 out) ≡ [] = drop_all (length out - 20) (drop 20 out) (omega (arith, length-drop 20 out)) in
     let front : length (take 20 out) ≡ 20 = length-take-le 20 out long in

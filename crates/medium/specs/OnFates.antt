@@ -18,20 +18,20 @@ pub record OnFates : Type 0 where
   pub laid : ℕ
 
 -- the number of the next frame, where there is one
-abbrev pub next_number : ℕ → ℕ
-next_number laid = min (laid + 1) 18446744073709551615
+abbrev pub next_frame_number : ℕ → ℕ
+next_frame_number laid = min (laid + 1) 18446744073709551615
 
 -- lines as the world file allows them
-abbrev pub AreLines : List FateRange → Type 0
-AreLines lines = (list_all is_range lines ≡ true) × (all_apart overlap lines ≡ true)
+abbrev pub AreFateLines : List FateRange → Type 0
+AreFateLines lines = (list_all is_range lines ≡ true) × (all_apart overlap lines ≡ true)
 
 -- the line names the fate of the m-th frame
-abbrev pub names : ℕ → FateRange → Bool
-names m line = nat_le line.first m && nat_le m line.last
+abbrev pub names_fate : ℕ → FateRange → Bool
+names_fate m line = nat_le line.first m && nat_le m line.last
 
 -- the fate that a line names for the m-th frame
 abbrev pub fate_line : ℕ → List FateRange → Option Fate
-fate_line m lines = option_map (λ (line : FateRange). line.fate) (find (names m) lines)
+fate_line m lines = option_map (λ (line : FateRange). line.fate) (find (names_fate m) lines)
 
 -- each line begins where the lines before it begin, or later
 abbrev pub AreInOrder : List FateRange → Type 0
@@ -45,7 +45,7 @@ begins_past laid (line ∷ lines) = nat_le line.last laid
 
 -- both name the same fates after so many frames
 abbrev pub FindsAlike : ℕ → List FateRange → List FateRange → Type 0
-FindsAlike laid old new = (m : ℕ) → laid < m → find (names m) new ≡ find (names m) old
+FindsAlike laid old new = (m : ℕ) → laid < m → find (names_fate m) new ≡ find (names_fate m) old
 
 -- lengths as the world file allows them
 abbrev pub HasMtu : MediumSpec → Type 0

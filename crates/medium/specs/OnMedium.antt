@@ -5,10 +5,10 @@ use Rattle.net_base.specs.declared.history.Taken.{Taken}
 use Rattle.net_base.specs.declared.world.Fate.{Fate}
 use Rattle.net_base.specs.declared.world.Fate.TheVariants.{Deliver, Lose, Twice, Later}
 use Rattle.net_base.specs.declared.world.MediumSpec.{MediumSpec}
-use Rattle.wire_text.specs.Datagram.{packet_of}
+use Rattle.wire_text.specs.Datagram.{datagram_packet}
 use Rattle.net_base.specs.Medium.{Medium, fate_of}
 use Rattle.medium.specs.declared.frame.Frame.{Frame}
-use Rattle.medium.specs.Spelled.{IsSpelled}
+use Rattle.medium.specs.Spelled.{IsSpelledPacket}
 
 -- the world's line and seed, how many frames were laid, the copies that come next, the oldest first, and the one that is held
 pub record OnMedium : Type 0 where
@@ -19,12 +19,12 @@ pub record OnMedium : Type 0 where
   pub held : Option Frame
 
 -- a frame as the copy that a take gives
-abbrev pub taken_of : Frame → Taken
-taken_of f = record { frame = f.number; to = f.to; packet = packet_of f.bytes }
+abbrev pub copy_taken : Frame → Taken
+copy_taken f = record { frame = f.number; to = f.to; packet = datagram_packet f.bytes }
 
 -- the medium with packets in the bytes' place
-abbrev pub medium_of : OnMedium → Medium
-medium_of m = record { frames = m.laid; queue = map taken_of m.queue; held = map taken_of (option_to_list m.held) }
+abbrev pub medium_laid : OnMedium → Medium
+medium_laid m = record { frames = m.laid; queue = map copy_taken m.queue; held = map copy_taken (option_to_list m.held) }
 
 -- there is a copy to take
 abbrev pub IsPending : OnMedium → Type 0
@@ -52,4 +52,4 @@ with_frame f m = record m {
 
 -- every frame is the bytes of a packet
 abbrev pub AllSpelled : List Frame → Type 0
-AllSpelled frames = AllByRecursion (λ (f : Frame). IsSpelled f.bytes) frames
+AllSpelled frames = AllByRecursion (λ (f : Frame). IsSpelledPacket f.bytes) frames

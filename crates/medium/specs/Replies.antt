@@ -7,15 +7,15 @@ use Rattle.net_base.specs.declared.reply.Reply.TheVariants as reply
 use Rattle.medium.specs.declared.frame.Frame.{Frame}
 use Rattle.medium.specs.declared.medium.Laid.{Laid}
 use Rattle.medium.specs.declared.medium.Laid.TheVariants as laid
-use Rattle.wire_text.specs.Datagram.{packet_of}
-use Rattle.medium.specs.OnMedium.{OnMedium, taken_of, with_frame}
+use Rattle.wire_text.specs.Datagram.{datagram_packet}
+use Rattle.medium.specs.OnMedium.{OnMedium, copy_taken, with_frame}
 use Rattle.medium.specs.Spelled.{HasText}
 
 -- the reply that is recorded
-abbrev pub reply_of : Laid → Reply
-reply_of (laid.Frame k) = reply.Laid k
-reply_of laid.NoStation = reply.NoStation
-reply_of laid.TooBig = reply.TooBig
+abbrev pub laid_reply_of : Laid → Reply
+laid_reply_of (laid.Frame k) = reply.Laid k
+laid_reply_of laid.NoStation = reply.NoStation
+laid_reply_of laid.TooBig = reply.TooBig
 
 -- a frame that was laid carries these bytes to this station; what wasn't laid changes nothing
 abbrev pub PutsBytes : OnMedium → OnMedium → Option ℕ → List ℕ → Laid → Type 0
@@ -30,7 +30,7 @@ first_copy [] held = held
 
 -- its packet carries some bytes, for which a take needs memory
 abbrev pub NextHasText : OnMedium → Type 0
-NextHasText m = IfSome (first_copy m.queue m.held) (λ f. HasText (packet_of f.bytes))
+NextHasText m = IfSome (first_copy m.queue m.held) (λ f. HasText (datagram_packet f.bytes))
 
 -- the medium without that copy
 abbrev pub without_first : List Frame → OnMedium → OnMedium
@@ -39,5 +39,5 @@ without_first [] m = record m { held = None }
 
 -- that copy is taken, and the others stay
 pub record TakesFirst (old new : OnMedium) (taken : Taken) : Type 0 where
-  pub first : Some taken ≡ option_map taken_of (first_copy old.queue old.held)
+  pub first : Some taken ≡ option_map copy_taken (first_copy old.queue old.held)
   pub rest : new ≡ without_first old.queue old

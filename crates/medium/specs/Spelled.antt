@@ -3,11 +3,11 @@ use Rattle.std.specs.Prelude.{◌≡◌, ◌<◌, ◌^◌, ℕ, List, length}
 use Rattle.net_base.specs.declared.packet.Body.{Body}
 use Rattle.net_base.specs.declared.packet.Body.TheVariants as body
 use Rattle.net_base.specs.declared.packet.Packet.{Packet}
-use Rattle.wire_text.specs.Datagram.{IsBody, IsPacket, packet_of, spelling}
+use Rattle.wire_text.specs.Datagram.{IsBody, IsPacket, datagram_packet, packet_spelling}
 
 -- these are the bytes of the packet that they read as
-abbrev pub IsSpelled : List ℕ → Type 0
-IsSpelled bytes = IsPacket (packet_of bytes) × (bytes ≡ spelling (packet_of bytes))
+abbrev pub IsSpelledPacket : List ℕ → Type 0
+IsSpelledPacket bytes = IsPacket (datagram_packet bytes) × (bytes ≡ packet_spelling (datagram_packet bytes))
 
 -- ports and a body that have a spelling
 pub record HasBody (p : Packet) : Type 0 where
@@ -16,10 +16,10 @@ pub record HasBody (p : Packet) : Type 0 where
   pub body : IsBody p.body
 
 -- the text that a body carries
-abbrev pub text_of : Body → List ℕ
-text_of (body.Il m) = m.text
-text_of (body.Udp text) = text
+abbrev pub body_text : Body → List ℕ
+body_text (body.Il m) = m.text
+body_text (body.Udp text) = text
 
 -- the packet carries some bytes
 abbrev pub HasText : Packet → Type 0
-HasText p = 0 < length (text_of p.body)
+HasText p = 0 < length (body_text p.body)

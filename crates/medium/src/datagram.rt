@@ -1,9 +1,9 @@
 //! Packets as bytes and back.
 ghost use Rattle.std.specs.Prelude.{◌≡◌, ◌+◌, ◌^◌, ◌<◌, length, IfOk, OnErr, OnOk};
-ghost use Rattle.wire_text.specs.Datagram.{IsPacket, body_bytes, header_for, packet_of, spelling};
+ghost use Rattle.wire_text.specs.Datagram.{IsPacket, body_bytes, header_for, datagram_packet, packet_spelling};
 ghost use Rattle.net_base.specs.Medium.{datagram_length};
 ghost use Rattle.ip_wire.specs.Headers.{view};
-ghost use Rattle.medium.specs.Spelled.{HasBody, HasText, IsSpelled};
+ghost use Rattle.medium.specs.Spelled.{HasBody, HasText, IsSpelledPacket};
 
 use il_header::{decode_il, encode_il};
 use ip_wire::{IpHeader, decode_ip, decode_udp, encode_ip_header, encode_udp};
@@ -22,7 +22,7 @@ const UDP: u8 = 17;
 /// The bytes of a packet.
 pub fn datagram_of(alloc: Global, packet: &Packet) -> Result<Octets, AllocError>
     requires { datagram_length packet.now.body < 2 ^ 16 }
-    ensures spelled { IfOk result (λ bytes. bytes ≡ spelling packet.now) }
+    ensures spelled { IfOk result (λ bytes. bytes ≡ packet_spelling packet.now) }
     ensures count { IfOk result (λ bytes. length bytes ≡ datagram_length packet.now.body) }
     ensures fits { OnOk result (IsPacket packet.now) }
 {
@@ -35,7 +35,7 @@ pub fn datagram_of(alloc: Global, packet: &Packet) -> Result<Octets, AllocError>
 fn write_datagram(packet: &Packet, out: &mut [u8])
     requires fits { datagram_length packet.now.body < 2 ^ 16 }
     requires room { length out.old ≡ datagram_length packet.now.body }
-    ensures spelled { out.new ≡ spelling packet.now }
+    ensures spelled { out.new ≡ packet_spelling packet.now }
     ensures fits { IsPacket packet.now }
 {
     let count = out.len() - HEADER;
@@ -89,9 +89,9 @@ fn header_of(packet: &Packet) -> IpHeader
 
 /// The packet that the bytes spell.
 pub fn packet_from(alloc: Global, bytes: &[u8]) -> Result<Packet, AllocError>
-    requires { IsSpelled bytes.now }
-    ensures ok { IfOk result (λ packet. packet ≡ packet_of bytes.now) }
-    ensures memory { OnErr result (HasText (packet_of bytes.now)) }
+    requires { IsSpelledPacket bytes.now }
+    ensures ok { IfOk result (λ packet. packet ≡ datagram_packet bytes.now) }
+    ensures memory { OnErr result (HasText (datagram_packet bytes.now)) }
 {
     let ip = decode_ip(bytes).unwrap();
     let (sport, dport, body) = if ip.header.proto == IL {

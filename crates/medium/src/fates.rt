@@ -5,7 +5,7 @@ ghost use Rattle.net_base.specs.Medium as rule;
 ghost use Rattle.net_base.specs.World.{is_medium};
 ghost use Rattle.rand_pcg.specs.Lcg.{next};
 ghost use Rattle.rand_pcg.specs.Pcg.{multiplier_64, pcg32};
-ghost use Rattle.medium.specs.OnFates.{AreInOrder, FindsAlike, HasRates, begins_past, fate_line, names, next_number};
+ghost use Rattle.medium.specs.OnFates.{AreInOrder, FindsAlike, HasRates, begins_past, fate_line, names_fate, next_frame_number};
 
 use net_base::{Fate, FateRange, MediumSpec};
 use rand_core::utils::NextWord;
@@ -57,7 +57,7 @@ impl Fates {
 
     /// The number of the next frame. The last number is given again.
     pub fn number(&self) -> u64
-        ensures { result ≡ next_number self.now.laid }
+        ensures { result ≡ next_frame_number self.now.laid }
     {
         self.laid.saturating_add(1)
     }
@@ -79,7 +79,7 @@ impl Fates {
 
     /// The next frame is laid, if there is a number for it.
     pub fn pass(&mut self)
-        ensures { self.new ≡ record self.old { laid = next_number self.old.laid } }
+        ensures { self.new ≡ record self.old { laid = next_frame_number self.old.laid } }
     {
         if self.laid < u64::MAX {
             self.laid += 1;
@@ -93,7 +93,7 @@ impl Fates {
 fn lines_in_order(alloc: Global, spec: &MediumSpec) -> Result<VecDeque<FateRange>, AllocError>
     requires { is_medium spec.now.number spec.now ≡ true }
     ensures order { IfOk result (λ lines. AreInOrder lines.items) }
-    ensures alike { IfOk result (λ lines. (m : ℕ) → find (names m) lines.items ≡ find (names m) spec.now.fates) }
+    ensures alike { IfOk result (λ lines. (m : ℕ) → find (names_fate m) lines.items ≡ find (names_fate m) spec.now.fates) }
 {
     let mut lines = Vec::from_slice(alloc, spec.fates.as_slice())?;
     lines.sort_by_key(|line| line.first)?;

@@ -1,14 +1,14 @@
 //! A medium.
 ghost use Rattle.std.specs.Prelude.{◌≡◌, ◌+◌, ◌^◌, ◌<◌, ◌≤◌, ◌↔◌, ◌++◌, [], true, option_to_list, IfOk, IsFalse, IsSome, IsTrue, OnErr, OnOk, option_copied};
 ghost use Rattle.std.specs.VecDeque.{deque_capacity, deque_len};
-ghost use Rattle.medium.specs.OnFates.{next_number};
+ghost use Rattle.medium.specs.OnFates.{next_frame_number};
 ghost use Rattle.net_base.specs.declared.reply.Reply.TheVariants as reply;
-ghost use Rattle.wire_text.specs.Datagram.{packet_of, spelling};
+ghost use Rattle.wire_text.specs.Datagram.{datagram_packet, packet_spelling};
 ghost use Rattle.net_base.specs.Medium.{datagram_length, medium_leaves, puts, takes};
 ghost use Rattle.net_base.specs.World.{is_medium};
-ghost use Rattle.medium.specs.OnMedium.{IsPending, medium_of, taken_of, with_frame};
-ghost use Rattle.medium.specs.Replies.{NextHasText, PutsBytes, TakesFirst, first_copy, reply_of};
-ghost use Rattle.medium.specs.Spelled.{HasText, IsSpelled};
+ghost use Rattle.medium.specs.OnMedium.{IsPending, medium_laid, copy_taken, with_frame};
+ghost use Rattle.medium.specs.Replies.{NextHasText, PutsBytes, TakesFirst, first_copy, laid_reply_of};
+ghost use Rattle.medium.specs.Spelled.{HasText, IsSpelledPacket};
 
 use crate::datagram::{datagram_of, packet_from};
 use crate::fates::Fates;
@@ -66,12 +66,12 @@ impl Medium {
     /// Lays a packet for a station, if one is named and the packet isn't too long.
     pub fn put(&mut self, to: Option<u32>, packet: &Packet) -> Result<Laid, AllocError>
         // It is the step of a medium, while frames can be numbered.
-        ensures reply { self.old.laid + 1 < 2 ^ 64 → IfOk result (λ laid. reply_of laid ≡ (puts self.old.spec self.old.seed to packet.now (medium_of self.old)).outcome.reply) }
-        ensures state { self.old.laid + 1 < 2 ^ 64 → OnOk result (medium_of self.new ≡ (puts self.old.spec self.old.seed to packet.now (medium_of self.old)).state) }
+        ensures reply { self.old.laid + 1 < 2 ^ 64 → IfOk result (λ laid. laid_reply_of laid ≡ (puts self.old.spec self.old.seed to packet.now (medium_laid self.old)).outcome.reply) }
+        ensures state { self.old.laid + 1 < 2 ^ 64 → OnOk result (medium_laid self.new ≡ (puts self.old.spec self.old.seed to packet.now (medium_laid self.old)).state) }
         // What isn't laid, and why; what is laid is the packet's bytes.
         ensures no_station { IfOk result (λ laid. (laid ≡ Laid.NoStation) ↔ (to ≡ None)) }
         ensures too_big { IfOk result (λ laid. (laid ≡ Laid.TooBig) ↔ (IsSome to × (self.old.spec.mtu < datagram_length packet.now.body))) }
-        ensures bytes { IfOk result (λ laid. PutsBytes self.old self.new to (spelling packet.now) laid) }
+        ensures bytes { IfOk result (λ laid. PutsBytes self.old self.new to (packet_spelling packet.now) laid) }
         // Where memory ran out nothing has changed; it is taken for what is laid alone.
         ensures err { OnErr result (self.new ≡ self.old) }
         ensures memory { OnErr result (IsSome to × (datagram_length packet.now.body ≤ self.old.spec.mtu)) }
@@ -90,8 +90,8 @@ impl Medium {
 
     // Lays a frame with the next number. What may run out of memory comes first.
     fn lay(&mut self, frame: Frame) -> Result<(), AllocError>
-        requires number { frame.number ≡ next_number self.old.laid }
-        requires spelled { IsSpelled frame.bytes }
+        requires number { frame.number ≡ next_frame_number self.old.laid }
+        requires spelled { IsSpelledPacket frame.bytes }
         ensures ok { OnOk result (self.new ≡ with_frame frame self.old) }
         ensures err { OnErr result (self.new ≡ self.old) }
     {
@@ -113,7 +113,7 @@ impl Medium {
     pub fn take(&mut self) -> Result<Taken, AllocError>
         requires { IsPending self.old }
         // It is the step of a medium, and takes the oldest copy.
-        ensures step { IfOk result (λ taken. takes (medium_of self.old).queue (medium_of self.old).held (medium_of self.old) ≡ Some (medium_leaves (reply.Copy taken.frame) (Some taken) (medium_of self.new))) }
+        ensures step { IfOk result (λ taken. takes (medium_laid self.old).queue (medium_laid self.old).held (medium_laid self.old) ≡ Some (medium_leaves (reply.Copy taken.frame) (Some taken) (medium_laid self.new))) }
         ensures first { IfOk result (TakesFirst self.old self.new) }
         ensures err { OnErr result (self.new ≡ self.old) }
         // A packet without a text takes no memory.
@@ -171,9 +171,9 @@ fn join(queue: &mut VecDeque<Frame>, copy: Option<Frame>)
 
 // The frame as the copy that is taken.
 fn taken_from(alloc: Global, frame: &Frame) -> Result<Taken, AllocError>
-    requires { IsSpelled frame.now.bytes }
-    ensures ok { IfOk result (λ taken. taken ≡ taken_of frame.now) }
-    ensures memory { OnErr result (HasText (packet_of frame.now.bytes)) }
+    requires { IsSpelledPacket frame.now.bytes }
+    ensures ok { IfOk result (λ taken. taken ≡ copy_taken frame.now) }
+    ensures memory { OnErr result (HasText (datagram_packet frame.now.bytes)) }
 {
     Ok(Taken {
         frame: frame.number,

@@ -6,7 +6,7 @@ use Rattle.net_base.specs.DomainNames.{ReadsName}
 use Rattle.net_base.specs.DomainQuestions.{HasDomainHeader, question_of}
 use Rattle.dns_text.proofs.Shared.{name_short, is_found, is_read, read_at_front}
 use Rattle.ndb_dns.specs.declared.fault.DnsError.{DnsError}
-use Rattle.ndb_dns.specs.Runs.{IsRefused}
+use Rattle.ndb_dns.specs.Runs.{IsRunRefused}
 use Rattle.ndb_dns.proofs.Spelling.{name_once}
 
 pub asks : (message : List ℕ) (q : Question) (behind : ℕ) → HasDomainHeader message → word_at 4 message ≡ 1 → q.id ≡ word_at 0 message → q.flags ≡ word_at 2 message → ReadsName message 12 q.name behind → q.kind ≡ word_at behind message → q.class ≡ word_at (behind + 2) message → q.end ≡ behind + 4 → behind + 4 ≤ length message → question_of message ≡ Some q
@@ -51,6 +51,6 @@ name_within message text behind name =
 
 -- ---- refusals
 
-pub refused_so : (e : DnsError) (P Q : Type 0) → (P → Q) → IsRefused e P → IsRefused e Q
+pub refused_so : (e : DnsError) (P Q : Type 0) → (P → Q) → IsRunRefused e P → IsRunRefused e Q
 refused_so e P Q so (inl memory) = inl memory
 refused_so e P Q so (inr format) = inr (format.0, so format.1)

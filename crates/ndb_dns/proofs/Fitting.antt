@@ -6,7 +6,7 @@ use Rattle.std.proofs.lemmas.Bool.Decides.{nat_tests}
 use Rattle.std.proofs.lemmas.List.Concat.{flat_map-append}
 use Rattle.net_base.specs.DomainAnswers.{fitting}
 use Rattle.ndb_dns.specs.declared.reply.Records.{Records}
-use Rattle.ndb_dns.specs.Taken.{Adds, IsFew, Took}
+use Rattle.ndb_dns.specs.Taken.{AddsTaken, AreFewTaken, TookRecord}
 
 abbrev flat : List (List ℕ) → List ℕ
 flat records = flat_map (λ x. x) records
@@ -59,18 +59,18 @@ stays taken r false false why = refl
 stays taken r false true (inl e) = absurd (false≢true e)
 stays taken r false true (inr e) = absurd (true≢false e)
 
-room_left : (start : ℕ) (offered : List (List ℕ)) (r : Records) → Took start offered r → start - length (flat (fitting start offered)) ≡ r.room
+room_left : (start : ℕ) (offered : List (List ℕ)) (r : Records) → TookRecord start offered r → start - length (flat (fitting start offered)) ≡ r.room
 room_left start offered r took =
     let size = ap (λ (xs : List ℕ). length xs) took.bytes in
     omega (arith, size, took.room)
 
-why_out : (start : ℕ) (offered : List (List ℕ)) (r : Records) (entry : List ℕ) → Took start offered r → (r.cut ≡ true) ⊎ (r.room < length entry) → (nat_lt (length (fitting start offered)) (length offered) ≡ true) ⊎ (nat_le (length entry) (start - length (flat (fitting start offered))) ≡ false)
+why_out : (start : ℕ) (offered : List (List ℕ)) (r : Records) (entry : List ℕ) → TookRecord start offered r → (r.cut ≡ true) ⊎ (r.room < length entry) → (nat_lt (length (fitting start offered)) (length offered) ≡ true) ⊎ (nat_le (length entry) (start - length (flat (fitting start offered))) ≡ false)
 why_out start offered r entry took (inl cut) = inl (sym took.cut ∙ cut)
 why_out start offered r entry took (inr long) =
     inr (lt-leb (length entry) (start - length (flat (fitting start offered))) (omega (arith, long, room_left start offered r took)))
 
 -- a record is left out
-pub left_out : (start : ℕ) (offered : List (List ℕ)) (r : Records) (entry : List ℕ) → Took start offered r → (r.cut ≡ true) ⊎ (r.room < length entry) → Took start (offered ++ entry ∷ []) (record r { cut = true })
+pub left_out : (start : ℕ) (offered : List (List ℕ)) (r : Records) (entry : List ℕ) → TookRecord start offered r → (r.cut ≡ true) ⊎ (r.room < length entry) → TookRecord start (offered ++ entry ∷ []) (record r { cut = true })
 unfolding pushed
 left_out start offered r entry took why =
     let same : fitting start (offered ++ entry ∷ []) ≡ fitting start offered =
@@ -88,7 +88,7 @@ left_out start offered r entry took why =
     }
 
 -- a record is taken
-pub taken_in : (start : ℕ) (offered : List (List ℕ)) (r new : Records) (entry : List ℕ) → Took start offered r → r.cut ≡ false → length entry ≤ r.room → new.bytes ≡ r.bytes ++ entry → new.count ≡ r.count + 1 → new.cut ≡ r.cut → new.room ≡ r.room - length entry → Took start (offered ++ entry ∷ []) new
+pub taken_in : (start : ℕ) (offered : List (List ℕ)) (r new : Records) (entry : List ℕ) → TookRecord start offered r → r.cut ≡ false → length entry ≤ r.room → new.bytes ≡ r.bytes ++ entry → new.count ≡ r.count + 1 → new.cut ≡ r.cut → new.room ≡ r.room - length entry → TookRecord start (offered ++ entry ∷ []) new
 unfolding pushed
 taken_in start offered r new entry took whole fits bytes count cut room =
     let taken = fitting start offered in
@@ -119,24 +119,24 @@ taken_in start offered r new entry took whole fits bytes count cut room =
 
 -- ---- one after another
 
-pub adds_left : (r : Records) (entry : List ℕ) → IsFew r → (r.cut ≡ true) ⊎ (r.room < length entry) → Adds r (entry ∷ []) (record r { cut = true })
+pub adds_left : (r : Records) (entry : List ℕ) → AreFewTaken r → (r.cut ≡ true) ⊎ (r.room < length entry) → AddsTaken r (entry ∷ []) (record r { cut = true })
 adds_left r entry few why = record { few = few; took = λ start offered took. left_out start offered r entry took why }
 
-pub adds_taken : (r : Records) (entry bytes : List ℕ) → IsFew r → 0 < length entry → r.cut ≡ false → length entry ≤ r.room → bytes ≡ r.bytes ++ entry → Adds r (entry ∷ []) (record { bytes = bytes; count = r.count + 1; room = r.room - length entry; cut = r.cut })
+pub adds_taken : (r : Records) (entry bytes : List ℕ) → AreFewTaken r → 0 < length entry → r.cut ≡ false → length entry ≤ r.room → bytes ≡ r.bytes ++ entry → AddsTaken r (entry ∷ []) (record { bytes = bytes; count = r.count + 1; room = r.room - length entry; cut = r.cut })
 adds_taken r entry bytes few some whole fits put = record {
   few = omega (arith, few, some, fits);
   took = λ start offered took.
       taken_in start offered r (record { bytes = bytes; count = r.count + 1; room = r.room - length entry; cut = r.cut }) entry took whole fits put refl refl refl;
 }
 
-pub adds_none : (r : Records) → IsFew r → Adds r [] r
-adds_none r few = record { few = few; took = λ start offered took. subst (λ (os : List (List ℕ)). Took start os r) (sym (append-nil offered)) took }
+pub adds_none : (r : Records) → AreFewTaken r → AddsTaken r [] r
+adds_none r few = record { few = few; took = λ start offered took. subst (λ (os : List (List ℕ)). TookRecord start os r) (sym (append-nil offered)) took }
 
-pub adds_both : (old r new : Records) (first second all : List (List ℕ)) → Adds old first r → Adds r second new → first ++ second ≡ all → Adds old all new
+pub adds_both : (old r new : Records) (first second all : List (List ℕ)) → AddsTaken old first r → AddsTaken r second new → first ++ second ≡ all → AddsTaken old all new
 adds_both old r new first second all one two are = record {
   few = two.few;
   took = λ start offered took.
-      subst (λ (os : List (List ℕ)). Took start os new)
+      subst (λ (os : List (List ℕ)). TookRecord start os new)
       (append_assoc offered first second ∙ ap (λ (more : List (List ℕ)). offered ++ more) are)
       (two.took start (offered ++ first) (one.took start offered took));
 }

@@ -11,7 +11,7 @@ use Rattle.net_base.specs.DomainNames.{is_label, is_domain_name, label_bytes, la
 use Rattle.dns_text.proofs.Shared.{label_few}
 use Rattle.ndb_dns.specs.declared.name.End.{End}
 use Rattle.ndb_dns.proofs.Sizes.{size_of}
-use Rattle.ndb_dns.specs.Runs.{Runs, allowed, behind_label, end_of, label_of, may_point, pointer_behind, pointer_in, with_label, with_labels, zero_end}
+use Rattle.ndb_dns.specs.Runs.{Runs, allowed, behind_label, run_end_of, label_of, may_point, pointer_behind, pointer_in, with_label, with_labels, zero_end}
 
 -- ---- one label
 
@@ -167,7 +167,7 @@ name_is_short (label ∷ labels) name =
 -- ---- what ends labels
 
 -- a pointer's bytes are read as its target
-pub pointer_is_read : (target : ℕ) (tail : List ℕ) → target < 2 ^ 14 → end_of (pointer_bytes target ++ tail) ≡ Some (record { len = 2; target = Some target })
+pub pointer_is_read : (target : ℕ) (tail : List ℕ) → target < 2 ^ 14 → run_end_of (pointer_bytes target ++ tail) ≡ Some (record { len = 2; target = Some target })
 pointer_is_read target tail fits =
     let number = 49152 + target in
     let high : (number / 256 % 256 == 0) ≡ false = ne_eqb (number / 256 % 256) 0 (λ (e : number / 256 % 256 ≡ 0). omega (arith, e, fits)) in
@@ -206,7 +206,7 @@ behind_high high [] last fits false is e = absurd (none-some last e)
 behind_high high (low ∷ tail) last fits false is e = pointed high low tail last (fits 0) (fits 1) e
 
 -- by what stands there labels end
-pub ends_by : (bytes : List ℕ) (last : End) → ((i : ℕ) → get_or bytes i 0 < 256) → end_of bytes ≡ Some last → EndsBy bytes last
+pub ends_by : (bytes : List ℕ) (last : End) → ((i : ℕ) → get_or bytes i 0 < 256) → run_end_of bytes ≡ Some last → EndsBy bytes last
 ends_by [] last fits e = absurd (none-some last e)
 ends_by (high ∷ bytes) last fits e = behind_high high bytes last fits (high == 0) refl e
 

@@ -13,7 +13,7 @@ use Rattle.net_base.specs.Cs.{once_each}
 use Rattle.net_base.specs.NdbText.{is_empty}
 use Rattle.net_base.specs.Networks.{first_of}
 use Rattle.net_base.specs.Search.{all_beside, beside, tuples_with}
-use Rattle.ndb_reader.specs.Names.{names_seen, with_name, with_names}
+use Rattle.ndb_reader.specs.Names.{names_seen, with_one_name, with_names}
 use Rattle.ndb_reader.proofs.Shared.{names_append}
 use Rattle.net_base.specs.declared.ndb.spot.Spot.{Spot}
 use Rattle.ndb_index.specs.Index.{found}
@@ -96,10 +96,10 @@ name_less values i value names within here none kept =
     ∙ ap (λ (o : Option (List ℕ)). filter_map name_in (take i values) ++ cons_option o []) none
     ∙ sym (name_step values i value within here))
 
-pub name_more : (values : List (List ℕ)) (i : ℕ) (value name : List ℕ) (names after : List (List ℕ)) → i < length values → value ≡ get_or values i value → Some name ≡ name_in value → names ≡ with_names [] (filter_map name_in (take i values)) → after ≡ with_name names name → after ≡ with_names [] (filter_map name_in (take (i + 1) values))
+pub name_more : (values : List (List ℕ)) (i : ℕ) (value name : List ℕ) (names after : List (List ℕ)) → i < length values → value ≡ get_or values i value → Some name ≡ name_in value → names ≡ with_names [] (filter_map name_in (take i values)) → after ≡ with_one_name names name → after ≡ with_names [] (filter_map name_in (take (i + 1) values))
 name_more values i value name names after within here some kept put =
     put
-    ∙ ap (λ (those : List (List ℕ)). with_name those name) kept
+    ∙ ap (λ (those : List (List ℕ)). with_one_name those name) kept
     ∙ sym (names_append [] (filter_map name_in (take i values)) (name ∷ []))
     ∙ ap (with_names [])
     (ap (λ (o : Option (List ℕ)). filter_map name_in (take i values) ++ cons_option o []) some

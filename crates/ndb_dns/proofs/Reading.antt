@@ -3,7 +3,7 @@ use Rattle.std.proofs.Common.{◌≡◌, ℕ, ◌+◌, ◌-◌, ◌<◌, ◌≤�
 use Rattle.net_base.specs.DomainNames.{ReadsName, Spells}
 use Rattle.dns_text.proofs.Shared.{name_valid}
 use Rattle.ndb_dns.specs.declared.name.Run.{Run}
-use Rattle.ndb_dns.specs.Runs.{AddsLabels, AddsPointed, AddsRun, AreTooLong, HasNoRun, Leads, LeadsToNone, Runs, behind_label, ending, label_of, with_label, with_labels}
+use Rattle.ndb_dns.specs.Runs.{AddsLabels, AddsPointed, AddsRun, AreTooLong, HasNoRun, LeadsTo, LeadsToNone, Runs, behind_label, run_ending, label_of, with_label, with_labels}
 use Rattle.std.proofs.lemmas.Option.{none-some, same_Some}
 use Rattle.ndb_dns.proofs.Naming.{labels_longer, name_is_short, runs_once, runs_spelled, short_is_name, text_is, with_more}
 use Rattle.ndb_dns.proofs.Spelling.{Bytes, begin_with_run, both_valid, leads_valid, run_once, run_spells}
@@ -45,11 +45,11 @@ too_long_behind bytes label behind text more is behind_is told long = λ labels 
 
 -- ---- a run
 
-pub no_run_end : (message : List ℕ) (place : ℕ) (front text rest now : List ℕ) → front ≡ drop place message → AddsLabels front text rest now → ending place rest ≡ None → HasNoRun message place text
+pub no_run_end : (message : List ℕ) (place : ℕ) (front text rest now : List ℕ) → front ≡ drop place message → AddsLabels front text rest now → run_ending place rest ≡ None → HasNoRun message place text
 no_run_end message place front text rest now is adds none = λ labels run stands.
     let these : Runs (drop place message) adds.labels rest = subst (λ (bs : List ℕ). Runs bs adds.labels rest) is adds.runs in
     let same = runs_once (drop place message) adds.labels labels rest stands.rest these stands.runs in
-    absurd (none-some stands.last (sym none ∙ ap (ending place) same.1 ∙ stands.ends))
+    absurd (none-some stands.last (sym none ∙ ap (run_ending place) same.1 ∙ stands.ends))
 
 -- ---- a name
 
@@ -79,7 +79,7 @@ pub no_name_behind : (message : List ℕ) (place : ℕ) (first : List ℕ) (run 
 no_name_behind message place first run one none text end name =
     let these = begin_with_run name.spelled (name_valid name.labels name.name) in
     let same = run_once message place these.front one.labels these.run run these.stands one.stands in
-    let leads : Leads message run.target these.others = subst (λ (r : Run). Leads message r.target these.others) same.1 these.leads in
+    let leads : LeadsTo message run.target these.others = subst (λ (r : Run). LeadsTo message r.target these.others) same.1 these.leads in
     let long = none these.others leads in
     let told = one.adds.told ∙ ap (with_labels []) (sym same.0) in
     let size = ap (λ (t : List ℕ). length (with_labels t these.others)) told in
@@ -91,8 +91,8 @@ no_name_behind message place first run one none text end name =
 
 -- what is led to from here is led to from the first one, and gives the same text
 pub record Follows (message : List ℕ) (target next : Option ℕ) (first text : List ℕ) : Type 0 where
-  pub back : (labels : List (List ℕ)) → Leads message next labels → (before : List (List ℕ)) × (Leads message target before × (with_labels first before ≡ with_labels text labels))
-  pub onward : (labels : List (List ℕ)) → Leads message target labels → (others : List (List ℕ)) × (Leads message next others × (with_labels first labels ≡ with_labels text others))
+  pub back : (labels : List (List ℕ)) → LeadsTo message next labels → (before : List (List ℕ)) × (LeadsTo message target before × (with_labels first before ≡ with_labels text labels))
+  pub onward : (labels : List (List ℕ)) → LeadsTo message target labels → (others : List (List ℕ)) × (LeadsTo message next others × (with_labels first labels ≡ with_labels text others))
 
 pub follows_at_first : (message : List ℕ) (target : Option ℕ) (text : List ℕ) → Follows message target target text text
 follows_at_first message target text = record { back = λ labels leads. (labels, (leads, refl)); onward = λ labels leads. (labels, (leads, refl)) }
@@ -101,21 +101,21 @@ follows_at_first message target text = record { back = λ labels leads. (labels,
 pub follow_more : (message : List ℕ) (target : Option ℕ) (place : ℕ) (first text now : List ℕ) (run : Run) → Bytes message → place ≤ length message → Follows message target (Some place) first text → AddsRun message place text now run → Follows message target run.target first now
 follow_more message target place first text now run fits within so one = record { back = back; onward = onward }
   where
-    back : (labels : List (List ℕ)) → Leads message run.target labels → (before : List (List ℕ)) × (Leads message target before × (with_labels first before ≡ with_labels now labels))
+    back : (labels : List (List ℕ)) → LeadsTo message run.target labels → (before : List (List ℕ)) × (LeadsTo message target before × (with_labels first before ≡ with_labels now labels))
     back labels leads =
         let spells = run_spells message place one.labels labels run fits within one.stands leads in
         let valid = both_valid one.labels labels (runs_spelled (drop place message) one.labels one.stands.rest one.stands.runs).valid (leads_valid message run.target labels leads) in
         let before = so.back (one.labels ++ labels) (valid, (run.end, spells)) in
         (before.0, (before.1.0, before.1.1 ∙ with_more text one.labels labels ∙ ap (λ (t : List ℕ). with_labels t labels) (sym one.adds.told)))
 
-    onward : (labels : List (List ℕ)) → Leads message target labels → (others : List (List ℕ)) × (Leads message run.target others × (with_labels first labels ≡ with_labels now others))
+    onward : (labels : List (List ℕ)) → LeadsTo message target labels → (others : List (List ℕ)) × (LeadsTo message run.target others × (with_labels first labels ≡ with_labels now others))
     onward labels leads =
         let there = so.onward labels leads in
         let these = begin_with_run there.1.0.1.1 there.1.0.0 in
         let same = run_once message place these.front one.labels these.run run these.stands one.stands in (
           these.others,
           (
-            subst (λ (r : Run). Leads message r.target these.others) same.1 these.leads,
+            subst (λ (r : Run). LeadsTo message r.target these.others) same.1 these.leads,
             there.1.1 ∙ ap (with_labels text) these.are ∙ with_more text these.front these.others
                 ∙ ap (λ (t : List ℕ). with_labels t these.others) (ap (with_labels text) same.0 ∙ sym one.adds.told),
           ),

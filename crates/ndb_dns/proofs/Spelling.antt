@@ -10,7 +10,7 @@ use Rattle.net_base.specs.DomainNames.{Ended, Pointed, PointsBack, ReadsName, Sp
 use Rattle.dns_text.proofs.Shared.{name_valid}
 use Rattle.ndb_dns.specs.declared.name.End.{End}
 use Rattle.ndb_dns.specs.declared.name.Run.{Run}
-use Rattle.ndb_dns.specs.Runs.{IsRun, Leads, Runs, allowed, end_of, ending, may_point, zero_end}
+use Rattle.ndb_dns.specs.Runs.{IsLabelRun, LeadsTo, Runs, allowed, run_end_of, run_ending, may_point, zero_end}
 use Rattle.ndb_dns.proofs.Naming.{AreSpelled, ByPointer, ByZero, EndsBy, MayEnd, ends_by, may_end, no_label_at_pointer, pointer_is_read, runs_once, runs_spelled, spelled_runs}
 
 abbrev pub Bytes : List ℕ → Type 0
@@ -43,7 +43,7 @@ rest_bytes message front rest place fits is = λ i.
 
 -- ---- what is read is spelled
 
-pub leads_valid : (message : List ℕ) (target : Option ℕ) (labels : List (List ℕ)) → Leads message target labels → list_all is_label labels ≡ true
+pub leads_valid : (message : List ℕ) (target : Option ℕ) (labels : List (List ℕ)) → LeadsTo message target labels → list_all is_label labels ≡ true
 leads_valid message None labels leads = ap (list_all is_label) leads
 leads_valid message (Some target) labels leads = leads.0
 
@@ -68,7 +68,7 @@ points place target fits may =
     let parts = and_parts (nat_le 12 target) (nat_lt target place) may in
     record { behind_header = leb-true 12 target parts.0; back = ltb-true target place parts.1; fits = fits }
 
-pointing : (message : List ℕ) (place target end : ℕ) (labels more : List (List ℕ)) (rest tail : List ℕ) → list_all is_label labels ≡ true → drop place message ≡ labels_bytes labels ++ rest → end ≡ place + length (labels_bytes labels) + 2 → rest ≡ pointer_bytes target ++ tail → PointsBack place target → Leads message (Some target) more → Spells message place (labels ++ more) end
+pointing : (message : List ℕ) (place target end : ℕ) (labels more : List (List ℕ)) (rest tail : List ℕ) → list_all is_label labels ≡ true → drop place message ≡ labels_bytes labels ++ rest → end ≡ place + length (labels_bytes labels) + 2 → rest ≡ pointer_bytes target ++ tail → PointsBack place target → LeadsTo message (Some target) more → Spells message place (labels ++ more) end
 pointing message place target end labels more rest tail valid layout past bytes back leads =
     let both : drop place message ≡ (labels_bytes labels ++ pointer_bytes target) ++ tail =
     layout ∙ ap (λ (xs : List ℕ). labels_bytes labels ++ xs) bytes ∙ sym (append_assoc (labels_bytes labels) (pointer_bytes target) tail)
@@ -76,14 +76,14 @@ pointing message place target end labels more rest tail valid layout past bytes 
     Pointed place target leads.1.0 labels more (labels ++ more) end valid
     (stand place message (labels_bytes labels ++ pointer_bytes target) tail both) back leads.1.1 refl past
 
-pub run_spells : (message : List ℕ) (place : ℕ) (labels more : List (List ℕ)) (run : Run) → Bytes message → place ≤ length message → IsRun message place labels run → Leads message run.target more → Spells message place (labels ++ more) run.end
+pub run_spells : (message : List ℕ) (place : ℕ) (labels more : List (List ℕ)) (run : Run) → Bytes message → place ≤ length message → IsLabelRun message place labels run → LeadsTo message run.target more → Spells message place (labels ++ more) run.end
 run_spells message place labels more run fits within stands leads = by (ends_by stands.rest stands.last (rest_bytes message (labels_bytes labels) stands.rest place fits spelled.front) may.is)
   where
     spelled : AreSpelled (drop place message) labels stands.rest
     spelled = runs_spelled (drop place message) labels stands.rest stands.runs
 
-    may : MayEnd place (end_of stands.rest) stands.last
-    may = may_end place (end_of stands.rest) stands.last stands.ends
+    may : MayEnd place (run_end_of stands.rest) stands.last
+    may = may_end place (run_end_of stands.rest) stands.last stands.ends
 
     past : run.end ≡ place + length (labels_bytes labels) + stands.last.len
     past = end_behind place (length message) (length (labels_bytes labels)) (length stands.rest) stands.last.len run.end within (split_size place message (labels_bytes labels) stands.rest spelled.front) stands.past
@@ -92,16 +92,16 @@ run_spells message place labels more run fits within stands leads = by (ends_by 
     by (ByZero tail zero is) =
         ended message place run.end labels more stands.rest tail spelled.front
         (past ∙ ap (λ (l : End). place + length (labels_bytes labels) + l.len) is) zero
-        (subst (λ (t : Option ℕ). Leads message t more) (stands.points ∙ ap (λ (l : End). l.target) is) leads)
+        (subst (λ (t : Option ℕ). LeadsTo message t more) (stands.points ∙ ap (λ (l : End). l.target) is) leads)
     by (ByPointer target tail small bytes is) =
         pointing message place target run.end labels more stands.rest tail spelled.valid spelled.front
         (past ∙ ap (λ (l : End). place + length (labels_bytes labels) + l.len) is) bytes
         (points place target small (sym (ap (λ (l : End). may_point place l.target) is) ∙ may.may))
-        (subst (λ (t : Option ℕ). Leads message t more) (stands.points ∙ ap (λ (l : End). l.target) is) leads)
+        (subst (λ (t : Option ℕ). LeadsTo message t more) (stands.points ∙ ap (λ (l : End). l.target) is) leads)
 
 -- ---- what is spelled is read
 
-pub ended_run : (message : List ℕ) (place end : ℕ) (labels : List (List ℕ)) → list_all is_label labels ≡ true → StandAt place (name_bytes labels) message → end ≡ place + length (name_bytes labels) → IsRun message place labels (record { end = end; target = None })
+pub ended_run : (message : List ℕ) (place end : ℕ) (labels : List (List ℕ)) → list_all is_label labels ≡ true → StandAt place (name_bytes labels) message → end ≡ place + length (name_bytes labels) → IsLabelRun message place labels (record { end = end; target = None })
 ended_run message place end labels valid stands past =
     let tail = drop (length (name_bytes labels)) (drop place message) in
     let layout : drop place message ≡ labels_bytes labels ++ (0 ∷ tail) =
@@ -117,7 +117,7 @@ ended_run message place end labels valid stands past =
       points = refl;
     }
 
-pub pointed_run : (message : List ℕ) (place target end : ℕ) (front : List (List ℕ)) → list_all is_label front ≡ true → StandAt place (labels_bytes front ++ pointer_bytes target) message → PointsBack place target → end ≡ place + length (labels_bytes front) + 2 → IsRun message place front (record { end = end; target = Some target })
+pub pointed_run : (message : List ℕ) (place target end : ℕ) (front : List (List ℕ)) → list_all is_label front ≡ true → StandAt place (labels_bytes front ++ pointer_bytes target) message → PointsBack place target → end ≡ place + length (labels_bytes front) + 2 → IsLabelRun message place front (record { end = end; target = Some target })
 pointed_run message place target end front valid stands back past =
     let tail = drop (length (labels_bytes front ++ pointer_bytes target)) (drop place message) in
     let rest = pointer_bytes target ++ tail in
@@ -142,9 +142,9 @@ pub record Begins (message : List ℕ) (place : ℕ) (labels : List (List ℕ)) 
   pub front : List (List ℕ)
   pub others : List (List ℕ)
   pub run : Run
-  pub stands : IsRun message place front run
+  pub stands : IsLabelRun message place front run
   pub are : labels ≡ front ++ others
-  pub leads : Leads message run.target others
+  pub leads : LeadsTo message run.target others
   pub past : run.end ≡ end
 
 pub begin_with_run : {message : List ℕ} {place end : ℕ} {labels : List (List ℕ)} → Spells message place labels end → list_all is_label labels ≡ true → Begins message place labels end
@@ -169,14 +169,14 @@ begin_with_run {message = m} (Pointed place target past front rest labels end va
 
 -- ---- once
 
-pub run_once : (message : List ℕ) (place : ℕ) (labels others : List (List ℕ)) (run other : Run) → IsRun message place labels run → IsRun message place others other → (labels ≡ others) × (run ≡ other)
+pub run_once : (message : List ℕ) (place : ℕ) (labels others : List (List ℕ)) (run other : Run) → IsLabelRun message place labels run → IsLabelRun message place others other → (labels ≡ others) × (run ≡ other)
 run_once message place labels others run other one two = (same.0, λ i. record { end = end i; target = target i })
   where
     same : (labels ≡ others) × (one.rest ≡ two.rest)
     same = runs_once (drop place message) labels others one.rest two.rest one.runs two.runs
 
     last : one.last ≡ two.last
-    last = same_Some one.last two.last (sym one.ends ∙ ap (ending place) same.1 ∙ two.ends)
+    last = same_Some one.last two.last (sym one.ends ∙ ap (run_ending place) same.1 ∙ two.ends)
 
     end : run.end ≡ other.end
     end =
@@ -192,14 +192,14 @@ pub spells_once : {message : List ℕ} {place end : ℕ} {labels : List (List �
 spells_once {message = m} (Ended place labels end stands past) valid others other all again =
     let two = begin_with_run again all in
     let same = run_once m place labels two.front (record { end = end; target = None }) two.run (ended_run m place end labels valid stands past) two.stands in
-    let none : two.others ≡ [] = subst (λ (t : Option ℕ). Leads m t two.others) (sym (ap (λ (r : Run). r.target) same.1)) two.leads in (
+    let none : two.others ≡ [] = subst (λ (t : Option ℕ). LeadsTo m t two.others) (sym (ap (λ (r : Run). r.target) same.1)) two.leads in (
       same.0 ∙ sym (append-nil two.front) ∙ ap (λ (ls : List (List ℕ)). two.front ++ ls) (sym none) ∙ sym two.are,
       ap (λ (r : Run). r.end) same.1 ∙ two.past,
     )
 spells_once {message = m} (Pointed place target past front rest labels end valid stands back behind are ends) all others other each again =
     let two = begin_with_run again each in
     let same = run_once m place front two.front (record { end = end; target = Some target }) two.run (pointed_run m place target end front valid stands back ends) two.stands in
-    let leads : Leads m (Some target) two.others = subst (λ (t : Option ℕ). Leads m t two.others) (sym (ap (λ (r : Run). r.target) same.1)) two.leads in
+    let leads : LeadsTo m (Some target) two.others = subst (λ (t : Option ℕ). LeadsTo m t two.others) (sym (ap (λ (r : Run). r.target) same.1)) two.leads in
     let more = spells_once behind (valid_parts front rest (sym (ap (list_all is_label) are) ∙ all)).1 two.others leads.1.0 leads.0 leads.1.1 in (
       are ∙ ap (λ (ls : List (List ℕ)). ls ++ rest) same.0 ∙ ap (λ (ls : List (List ℕ)). two.front ++ ls) more.0 ∙ sym two.are,
       ap (λ (r : Run). r.end) same.1 ∙ two.past,

@@ -10,8 +10,8 @@ abbrev pub IsQuery : List ℕ → Type 0
 IsQuery message = HasDomainHeader message × (word_at 2 message < 2 ^ 15)
 
 -- the first refusal of a message whose question isn't read; want of memory comes at any message
-abbrev pub Refuses : DnsError → List ℕ → Type 0
-Refuses error.Memory message = ⊤
-Refuses error.Short message = length message < 12
-Refuses error.Response message = HasDomainHeader message × (2 ^ 15 ≤ word_at 2 message)
-Refuses error.Format message = IsQuery message × (question_of message ≡ None)
+abbrev pub RefusesMessage : DnsError → List ℕ → Type 0
+RefusesMessage error.Memory message = ⊤
+RefusesMessage error.Short message = length message < 12
+RefusesMessage error.Response message = HasDomainHeader message × (2 ^ 15 ≤ word_at 2 message)
+RefusesMessage error.Format message = IsQuery message × (question_of message ≡ None)

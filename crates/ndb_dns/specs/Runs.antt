@@ -39,9 +39,9 @@ pointer_behind high [] = None
 pointer_behind high (low ∷ bytes) = pointer_in (256 * high + low)
 
 -- a zero byte or a pointer that bytes begin with
-abbrev pub end_of : List ℕ → Option End
-end_of [] = None
-end_of (high ∷ bytes) = if high == 0 then Some zero_end else pointer_behind high bytes
+abbrev pub run_end_of : List ℕ → Option End
+run_end_of [] = None
+run_end_of (high ∷ bytes) = if high == 0 then Some zero_end else pointer_behind high bytes
 
 -- the pointer of labels that begin at a place may point there
 abbrev pub may_point : ℕ → Option ℕ → Bool
@@ -51,24 +51,24 @@ may_point place (Some target) = nat_le 12 target && nat_lt target place
 abbrev pub allowed : ℕ → End → Option End
 allowed place last = if may_point place last.target then Some last else None
 
-abbrev pub ending : ℕ → List ℕ → Option End
-ending place rest = option_and_then (allowed place) (end_of rest)
+abbrev pub run_ending : ℕ → List ℕ → Option End
+run_ending place rest = option_and_then (allowed place) (run_end_of rest)
 
 -- ---- runs
 
 -- labels stand from a place on up to what ends them
-pub record IsRun (message : List ℕ) (place : ℕ) (labels : List (List ℕ)) (run : Run) : Type 0 where
+pub record IsLabelRun (message : List ℕ) (place : ℕ) (labels : List (List ℕ)) (run : Run) : Type 0 where
   pub rest : List ℕ
   pub last : End
   pub runs : Runs (drop place message) labels rest
-  pub ends : ending place rest ≡ Some last
+  pub ends : run_ending place rest ≡ Some last
   pub past : run.end ≡ length message - length rest + last.len
   pub points : run.target ≡ last.target
 
 -- the labels to which a pointer leads, if there is one
-abbrev pub Leads : List ℕ → Option ℕ → List (List ℕ) → Type 0
-Leads message None labels = labels ≡ []
-Leads message (Some target) labels = (list_all is_label labels ≡ true) × ((past : ℕ) × Spells message target labels past)
+abbrev pub LeadsTo : List ℕ → Option ℕ → List (List ℕ) → Type 0
+LeadsTo message None labels = labels ≡ []
+LeadsTo message (Some target) labels = (list_all is_label labels ≡ true) × ((past : ℕ) × Spells message target labels past)
 
 -- ---- texts
 
@@ -81,7 +81,7 @@ with_labels text [] = text
 with_labels text (label ∷ labels) = with_labels (with_label text label) labels
 
 -- a text and what it became with these labels, which is short enough
-pub record Adds (text labelled : List ℕ) (labels : List (List ℕ)) : Type 0 where
+pub record AddsLabelRun (text labelled : List ℕ) (labels : List (List ℕ)) : Type 0 where
   pub told : labelled ≡ with_labels text labels
   pub short : length labelled ≤ 253
 
@@ -90,7 +90,7 @@ pub record Adds (text labelled : List ℕ) (labels : List (List ℕ)) : Type 0 w
 pub record AddsLabels (bytes text rest now : List ℕ) : Type 0 where
   pub labels : List (List ℕ)
   pub runs : Runs bytes labels rest
-  pub adds : Adds text now labels
+  pub adds : AddsLabelRun text now labels
 
 -- the text gets too long with labels that bytes begin with
 abbrev pub AreTooLong : List ℕ → List ℕ → Type 0
@@ -99,24 +99,24 @@ AreTooLong bytes text =
 
 pub record AddsRun (message : List ℕ) (place : ℕ) (text now : List ℕ) (run : Run) : Type 0 where
   pub labels : List (List ℕ)
-  pub stands : IsRun message place labels run
-  pub adds : Adds text now labels
+  pub stands : IsLabelRun message place labels run
+  pub adds : AddsLabelRun text now labels
 
 -- no labels stand from a place on with which the text is short enough
 abbrev pub HasNoRun : List ℕ → ℕ → List ℕ → Type 0
 HasNoRun message place text =
-    (labels : List (List ℕ)) (run : Run) → IsRun message place labels run → 253 < length (with_labels text labels)
+    (labels : List (List ℕ)) (run : Run) → IsLabelRun message place labels run → 253 < length (with_labels text labels)
 
 pub record AddsPointed (message : List ℕ) (target : Option ℕ) (text now : List ℕ) : Type 0 where
   pub labels : List (List ℕ)
-  pub leads : Leads message target labels
-  pub adds : Adds text now labels
+  pub leads : LeadsTo message target labels
+  pub adds : AddsLabelRun text now labels
 
 -- .. and a pointer leads to none
 abbrev pub LeadsToNone : List ℕ → Option ℕ → List ℕ → Type 0
 LeadsToNone message target text =
-    (labels : List (List ℕ)) → Leads message target labels → 253 < length (with_labels text labels)
+    (labels : List (List ℕ)) → LeadsTo message target labels → 253 < length (with_labels text labels)
 
 -- an error is want of memory, which may come at any time, or tells the format, and then this holds
-abbrev pub IsRefused : DnsError → Type 0 → Type 0
-IsRefused e P = (e ≡ error.Memory) ⊎ ((e ≡ error.Format) × P)
+abbrev pub IsRunRefused : DnsError → Type 0 → Type 0
+IsRunRefused e P = (e ≡ error.Memory) ⊎ ((e ≡ error.Format) × P)

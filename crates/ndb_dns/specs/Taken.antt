@@ -4,17 +4,17 @@ use Rattle.net_base.specs.DomainAnswers.{fitting}
 use Rattle.ndb_dns.specs.declared.reply.Records.{Records}
 
 -- of these, offered in order where there was this much room
-pub record Took (start : ℕ) (offered : List (List ℕ)) (r : Records) : Type 0 where
+pub record TookRecord (start : ℕ) (offered : List (List ℕ)) (r : Records) : Type 0 where
   pub bytes : r.bytes ≡ flat_map (λ x. x) (fitting start offered)
   pub count : r.count ≡ length (fitting start offered)
   pub cut : r.cut ≡ nat_lt (length (fitting start offered)) (length offered)
   pub room : length r.bytes + r.room ≡ start
 
 -- each record has bytes, so that there are few
-abbrev pub IsFew : Records → Type 0
-IsFew r = r.count + r.room ≤ 512
+abbrev pub AreFewTaken : Records → Type 0
+AreFewTaken r = r.count + r.room ≤ 512
 
 -- these were offered too
-pub record Adds (old : Records) (more : List (List ℕ)) (new : Records) : Type 0 where
-  pub few : IsFew new
-  pub took : (start : ℕ) (offered : List (List ℕ)) → Took start offered old → Took start (offered ++ more) new
+pub record AddsTaken (old : Records) (more : List (List ℕ)) (new : Records) : Type 0 where
+  pub few : AreFewTaken new
+  pub took : (start : ℕ) (offered : List (List ℕ)) → TookRecord start offered old → TookRecord start (offered ++ more) new

@@ -3,8 +3,8 @@ ghost use Rattle.std.specs.Prelude.{◌≡◌, ◌+◌, ◌<◌, ◌≤◌, ◌�
 ghost use Rattle.net_base.specs.Ndb.{NdbPair};
 ghost use Rattle.net_base.specs.DomainAnswers as spec;
 ghost use Rattle.ndb_dns.specs.Looks.{looks_of, most_looks};
-ghost use Rattle.ndb_dns.specs.Refusals.{Refuses};
-ghost use Rattle.ndb_dns.specs.Taken.{Adds, IsFew};
+ghost use Rattle.ndb_dns.specs.Refusals.{RefusesMessage};
+ghost use Rattle.ndb_dns.specs.Taken.{AddsTaken, AreFewTaken};
 
 use crate::fault::DnsError;
 use crate::found::add_found;
@@ -66,7 +66,7 @@ pub fn dns_answer_counted<L: Ledger>(
 
 // The answer to a message whose question isn't read.
 fn refuse(alloc: Global, message: &[u8], error: DnsError) -> Result<Option<Octets>, AllocError>
-    requires { Refuses error message.now }
+    requires { RefusesMessage error message.now }
     ensures { (db : List (List (List NdbPair))) → IfOk result (λ answer. answer ≡ spec.dns_answer db message.now) }
 {
     match error {
@@ -102,10 +102,10 @@ fn add_records<L: Ledger>(
     records: &mut Records,
     steps: &mut Steps<L>,
 ) -> Result<u16, AllocError>
-    requires { IsFew records.old }
+    requires { AreFewTaken records.old }
     ensures rcode { IfOk result (λ rcode. rcode ≡ spec.rcode_of index.now question.now) }
     ensures small { IfOk result (λ rcode. rcode < 16) }
-    ensures took { IfOk result (λ rcode. Adds records.old (spec.records_of index.now question.now) records.new) }
+    ensures took { IfOk result (λ rcode. AddsTaken records.old (spec.records_of index.now question.now) records.new) }
     ensures cost { steps.new ≤ steps.old + looks_of index.now question.now }
 {
     if is_not_implemented(question) {
@@ -136,10 +136,10 @@ fn add_known<L: Ledger>(
     records: &mut Records,
     steps: &mut Steps<L>,
 ) -> Result<u16, AllocError>
-    requires { IsFew records.old }
+    requires { AreFewTaken records.old }
     ensures rcode { IfOk result (λ rcode. rcode ≡ (if spec.is_unknown index.now (spec.key_of question.now) then 3 else 0)) }
     ensures small { IfOk result (λ rcode. rcode < 16) }
-    ensures took { IfOk result (λ rcode. Adds records.old (spec.records_found index.now question.now.kind (spec.key_of question.now)) records.new) }
+    ensures took { IfOk result (λ rcode. AddsTaken records.old (spec.records_found index.now question.now.kind (spec.key_of question.now)) records.new) }
     ensures cost { steps.new ≤ steps.old + looks_of index.now question.now }
 {
     let Some(key) = key_of(alloc, question)? else {

@@ -6,7 +6,7 @@ ghost use Rattle.ndb_index.specs.Index.{found};
 ghost use Rattle.net_base.specs.DomainAnswers as spec;
 ghost use Rattle.net_base.specs.DomainNames.{is_domain_name, labels_of};
 ghost use Rattle.ndb_dns.specs.Looks.{alias_looks, looks_beside};
-ghost use Rattle.ndb_dns.specs.Taken.{Adds, IsFew};
+ghost use Rattle.ndb_dns.specs.Taken.{AddsTaken, AreFewTaken};
 
 use crate::beside::{addresses_named, names_beside};
 use crate::key::Key;
@@ -26,8 +26,8 @@ pub fn add_found<L: Ledger>(
     records: &mut Records,
     steps: &mut Steps<L>,
 ) -> Result<(), AllocError>
-    requires { IsFew records.old }
-    ensures took { OnOk result (Adds records.old (spec.records_beside index.now kind key.now.attr.now key.now.value) records.new) }
+    requires { AreFewTaken records.old }
+    ensures took { OnOk result (AddsTaken records.old (spec.records_beside index.now kind key.now.attr.now key.now.value) records.new) }
     ensures cost { steps.new ≤ steps.old + looks_beside index.now kind key.now.attr.now key.now.value }
 {
     if kind == ADDRESS {
@@ -49,8 +49,8 @@ fn add_named<L: Ledger>(
     records: &mut Records,
     steps: &mut Steps<L>,
 ) -> Result<(), AllocError>
-    requires { IsFew records.old }
-    ensures took { OnOk result (Adds records.old (map (spec.naming_record kind) (spec.names_beside key.now.attr.now key.now.value other.now index.now)) records.new) }
+    requires { AreFewTaken records.old }
+    ensures took { OnOk result (AddsTaken records.old (map (spec.naming_record kind) (spec.names_beside key.now.attr.now key.now.value other.now index.now)) records.new) }
     ensures cost { steps.new ≤ steps.old + found key.now.attr.now key.now.value index.now }
 {
     let names = names_beside(alloc, index, key.attr, key.value.as_slice(), other, steps)?;
@@ -64,9 +64,9 @@ fn add_names(
     names: &IndexSet<Vec<u8>>,
     records: &mut Records,
 ) -> Result<(), AllocError>
-    requires few { IsFew records.old }
+    requires few { AreFewTaken records.old }
     requires valid { list_all (λ name. is_domain_name (labels_of name)) (names_seen names.now.keys) ≡ true }
-    ensures { OnOk result (Adds records.old (map (spec.naming_record kind) (names_seen names.now.keys)) records.new) }
+    ensures { OnOk result (AddsTaken records.old (map (spec.naming_record kind) (names_seen names.now.keys)) records.new) }
 {
     for name in names.as_slice() {
         let entry = naming_record(alloc, kind, name.as_slice())?;
@@ -83,8 +83,8 @@ fn add_addressed<L: Ledger>(
     records: &mut Records,
     steps: &mut Steps<L>,
 ) -> Result<(), AllocError>
-    requires { IsFew records.old }
-    ensures took { OnOk result (Adds records.old (spec.address_records index.now name.now) records.new) }
+    requires { AreFewTaken records.old }
+    ensures took { OnOk result (AddsTaken records.old (spec.address_records index.now name.now) records.new) }
     ensures cost { steps.new ≤ steps.old + looks_beside index.now 1 (codes "dom") name.now }
 {
     let ips = addresses_named(alloc, index, name, steps)?;
@@ -101,8 +101,8 @@ fn add_addresses(
     ips: &[u32],
     records: &mut Records,
 ) -> Result<(), AllocError>
-    requires { IsFew records.old }
-    ensures { OnOk result (Adds records.old (map (spec.address_record owner.now) ips.now) records.new) }
+    requires { AreFewTaken records.old }
+    ensures { OnOk result (AddsTaken records.old (map (spec.address_record owner.now) ips.now) records.new) }
 {
     for ip in ips {
         let entry = address_record(alloc, owner, *ip)?;
@@ -119,8 +119,8 @@ fn add_alias<L: Ledger>(
     records: &mut Records,
     steps: &mut Steps<L>,
 ) -> Result<(), AllocError>
-    requires { IsFew records.old }
-    ensures took { OnOk result (Adds records.old (spec.alias_records index.now (spec.alias_of name.now index.now)) records.new) }
+    requires { AreFewTaken records.old }
+    ensures took { OnOk result (AddsTaken records.old (spec.alias_records index.now (spec.alias_of name.now index.now)) records.new) }
     ensures cost { steps.new ≤ steps.old + found (codes "dom") name.now index.now + alias_looks index.now (spec.alias_of name.now index.now) }
 {
     let names = names_beside(alloc, index, b"dom", name, b"cname", steps)?;
@@ -138,9 +138,9 @@ fn follow<L: Ledger>(
     records: &mut Records,
     steps: &mut Steps<L>,
 ) -> Result<(), AllocError>
-    requires few { IsFew records.old }
+    requires few { AreFewTaken records.old }
     requires valid { is_domain_name (labels_of alias.now) ≡ true }
-    ensures took { OnOk result (Adds records.old (spec.alias_records index.now (Some alias.now)) records.new) }
+    ensures took { OnOk result (AddsTaken records.old (spec.alias_records index.now (Some alias.now)) records.new) }
     ensures cost { steps.new ≤ steps.old + found (codes "dom") alias.now index.now }
 {
     let owner = spelled(alloc, alias)?;

@@ -2,7 +2,7 @@
 ghost use Rattle.std.specs.Prelude.{◌≡◌, ◌<◌, ◌≤◌, ℕ, true, List, None, Some, length, IfOk, IfErr, IfSome, MatchOption, OnOk};
 ghost use Rattle.net_base.specs.DomainNames.{ReadsName, is_label};
 ghost use Rattle.ndb_dns.specs.Runs as spec;
-ghost use Rattle.ndb_dns.specs.Runs.{AddsLabels, AddsPointed, AddsRun, AreTooLong, HasNoRun, IsRefused, LeadsToNone, behind_label, label_of, with_label};
+ghost use Rattle.ndb_dns.specs.Runs.{AddsLabels, AddsPointed, AddsRun, AreTooLong, HasNoRun, IsRunRefused, LeadsToNone, behind_label, label_of, with_label};
 
 use crate::fault::DnsError;
 use crate::label::{is_label, put_lowered};
@@ -47,7 +47,7 @@ pub fn read_name(alloc: Global, bytes: &[u8], place: u64) -> Result<Name, DnsErr
     // What stands there is read.
     ensures only { (text : List ℕ) (end : ℕ) → ReadsName bytes.now place text end → IfOk result (λ n. (n.text ≡ text) × (n.end ≡ end)) }
     // Where none stands there, or memory runs out, is an error, and there is no other.
-    ensures refused { IfErr result (λ e. IsRefused e ((text : List ℕ) (end : ℕ) → ReadsName bytes.now place text end → ⊥)) }
+    ensures refused { IfErr result (λ e. IsRunRefused e ((text : List ℕ) (end : ℕ) → ReadsName bytes.now place text end → ⊥)) }
 {
     let mut text = Octets::new(alloc);
     let first = add_run(bytes, place as usize, &mut text)?;
@@ -63,7 +63,7 @@ fn add_pointed(bytes: &[u8], target: Option<usize>, text: &mut Octets) -> Result
     requires within { IfSome target (λ place. place ≤ length bytes.now) }
     requires short { length text.old ≤ 253 }
     ensures found { OnOk result (AddsPointed bytes.now target text.old text.new) }
-    ensures refused { IfErr result (λ e. IsRefused e (LeadsToNone bytes.now target text.old)) }
+    ensures refused { IfErr result (λ e. IsRunRefused e (LeadsToNone bytes.now target text.old)) }
 {
     let mut next = target;
     while let Some(place) = next {
@@ -79,7 +79,7 @@ fn add_run(bytes: &[u8], place: usize, text: &mut Octets) -> Result<Run, DnsErro
     requires short { length text.old ≤ 253 }
     ensures found { IfOk result (λ run. AddsRun bytes.now place text.old text.new run) }
     ensures back { IfOk result (λ run. IfSome run.target (λ target. target < place)) }
-    ensures refused { IfErr result (λ e. IsRefused e (HasNoRun bytes.now place text.old)) }
+    ensures refused { IfErr result (λ e. IsRunRefused e (HasNoRun bytes.now place text.old)) }
 {
     let (_, front) = bytes.split_at(place);
     let rest = add_labels(front, text)?;
@@ -97,7 +97,7 @@ fn add_labels<'a>(bytes: &'a [u8], text: &mut Octets) -> Result<&'a [u8], DnsErr
     requires short { length text.old ≤ 253 }
     ensures found { IfOk result (λ rest. AddsLabels bytes.now text.old rest.now text.new) }
     ensures within { IfOk result (λ rest. length rest.now ≤ length bytes.now) }
-    ensures refused { IfErr result (λ e. IsRefused e (AreTooLong bytes.now text.old)) }
+    ensures refused { IfErr result (λ e. IsRunRefused e (AreTooLong bytes.now text.old)) }
 {
     let Some((label, behind)) = label_in(bytes) else {
         return Ok(bytes);
@@ -128,7 +128,7 @@ fn label_in(bytes: &[u8]) -> Option<(&[u8], &[u8])>
 
 // What ends labels that began at a place, where it may.
 fn ending(place: usize, rest: &[u8]) -> Option<End>
-    ensures value { result ≡ spec.ending place rest.now }
+    ensures value { result ≡ spec.run_ending place rest.now }
     ensures len { IfSome result (λ last. last.len ≤ 2) }
 {
     let last = end_of(rest)?;
@@ -151,7 +151,7 @@ fn may_point(place: usize, target: Option<usize>) -> bool
 
 // A zero byte or a pointer in front.
 fn end_of(bytes: &[u8]) -> Option<End>
-    ensures value { result ≡ spec.end_of bytes.now }
+    ensures value { result ≡ spec.run_end_of bytes.now }
     ensures len { IfSome result (λ last. last.len ≤ 2) }
 {
     let [high, behind @ ..] = bytes else {
@@ -188,7 +188,7 @@ fn add_label(label: &[u8], text: &mut Octets) -> Result<(), DnsError>
     requires short { length text.old ≤ 253 }
     ensures told { OnOk result (text.new ≡ with_label text.old label.now) }
     ensures short { OnOk result (length text.new ≤ 253) }
-    ensures refused { IfErr result (λ e. IsRefused e (253 < length (with_label text.old label.now))) }
+    ensures refused { IfErr result (λ e. IsRunRefused e (253 < length (with_label text.old label.now))) }
 {
     let dot = if text.len() == 0 { 0 } else { 1 };
     if text.len() + dot + label.len() > MOST {

@@ -2,8 +2,8 @@
 ghost use Rattle.std.specs.Prelude.{◌≡◌, ◌<◌, ◌≤◌, ◌↔◌, ◌^◌, length, IfOk, IfErr, IsErrOf, Some, None};
 ghost use Rattle.net_base.specs.Bytes.{word_at};
 ghost use Rattle.net_base.specs.DomainQuestions.{HasDomainHeader, question_of};
-ghost use Rattle.ndb_dns.specs.Refusals.{IsQuery, Refuses};
-ghost use Rattle.ndb_dns.specs.Runs.{IsRefused};
+ghost use Rattle.ndb_dns.specs.Refusals.{IsQuery, RefusesMessage};
+ghost use Rattle.ndb_dns.specs.Runs.{IsRunRefused};
 
 use crate::fault::DnsError;
 use crate::field::word;
@@ -25,7 +25,7 @@ pub fn read_question(alloc: Global, bytes: &[u8]) -> Result<Question, DnsError>
     ensures short { IsErrOf result DnsError.Short ↔ (length bytes.now < 12) }
     ensures response { IsErrOf result DnsError.Response ↔ (HasDomainHeader bytes.now × (2 ^ 15 ≤ word_at 2 bytes.now)) }
     // want of memory apart, which may come at any message
-    ensures refused { IfErr result (λ e. Refuses e bytes.now) }
+    ensures refused { IfErr result (λ e. RefusesMessage e bytes.now) }
 {
     if bytes.len() < HEADER {
         return Err(DnsError::Short);
@@ -48,7 +48,7 @@ fn read_asked(alloc: Global, bytes: &[u8], id: u16, flags: u16) -> Result<Questi
     requires flags { flags ≡ word_at 2 bytes.now }
     ensures ok { IfOk result (λ q. question_of bytes.now ≡ Some q) }
     ensures within { IfOk result (λ q. (12 ≤ q.end) × (q.end ≤ 271) × (q.end ≤ length bytes.now)) }
-    ensures refused { IfErr result (λ e. IsRefused e (question_of bytes.now ≡ None)) }
+    ensures refused { IfErr result (λ e. IsRunRefused e (question_of bytes.now ≡ None)) }
 {
     let name = read_name(alloc, bytes, HEADER as u64)?;
     let behind = name.end as usize;

@@ -1,7 +1,7 @@
 //! Replies.
 ghost use Rattle.std.specs.Prelude.{◌≡◌, ◌-◌, ◌<◌, ◌≤◌, ◌++◌, ◌∷◌, [], ℕ, List, length, IfOk, OnOk};
 ghost use Rattle.net_base.specs.DomainAnswers as spec;
-ghost use Rattle.ndb_dns.specs.Taken.{Adds, IsFew, Took};
+ghost use Rattle.ndb_dns.specs.Taken.{AddsTaken, AreFewTaken, TookRecord};
 
 use crate::field::{put_word, word};
 use net_base::{Octets, Question};
@@ -35,8 +35,8 @@ impl Records {
     /// No records, and room for those that fit behind a question that ends here.
     pub fn behind(alloc: Global, end: u64) -> Records
         requires { end ≤ 512 }
-        ensures took { Took (512 - end) [] result }
-        ensures few { IsFew result }
+        ensures took { TookRecord (512 - end) [] result }
+        ensures few { AreFewTaken result }
     {
         Records {
             bytes: Octets::new(alloc),
@@ -49,8 +49,8 @@ impl Records {
     /// Adds a record where it fits, and none before it was left out.
     pub fn offer(&mut self, entry: &[u8]) -> Result<(), AllocError>
         requires some { 0 < length entry.now }
-        requires few { IsFew self.old }
-        ensures { OnOk result (Adds self.old (entry.now ∷ []) self.new) }
+        requires few { AreFewTaken self.old }
+        ensures { OnOk result (AddsTaken self.old (entry.now ∷ []) self.new) }
     {
         if self.cut || entry.len() > self.room {
             self.cut = true;
@@ -109,7 +109,7 @@ pub fn reply(
 ) -> Result<Octets, AllocError>
     requires question { (12 ≤ question.now.end) × (question.now.end ≤ length message.now) }
     requires rcode { rcode < 16 }
-    ensures { (offered : List (List ℕ)) → Took (512 - question.now.end) offered records.now
+    ensures { (offered : List (List ℕ)) → TookRecord (512 - question.now.end) offered records.now
         → IfOk result (λ out. out ≡ spec.reply_of message.now question.now rcode offered) }
 {
     let flags = reply_flags(question.flags, records.cut, rcode);

@@ -16,8 +16,8 @@ use Rattle.ndb_chains.specs.declared.chains.Chains.{Chains}
 use Rattle.ndb_chains.specs.Chains.{first_in, width_of, AreChains}
 use Rattle.ndb_chains.proofs.Shared.{first-within, in_bucket, Met, met, none-met}
 use Rattle.ndb_index.specs.Chained.{width_for, AreByPair}
-use Rattle.ndb_index.specs.Hashing.{bucket_in, pair_bucket}
-use Rattle.ndb_index.specs.Kept.{noted, spots_with}
+use Rattle.ndb_index.specs.Hashing.{bucket_of_pair, pair_bucket}
+use Rattle.ndb_index.specs.Kept.{spots_noted, spots_with}
 use Rattle.ndb_index.proofs.Notes.{Placed, placed, pairs_noted, placed_noted, placed_length, spots_length, Notes, notes-one}
 
 abbrev pub Db : Type 0
@@ -42,7 +42,7 @@ chaining-none db width chains is are = record {
     nothing (p ∷ ps) (suc n) is = nothing ps n (omega (arith, is))
 
 pub chaining-next : (db : Db) (width count back bucket : ℕ) (pair : NdbPair) (attr value : List ℕ) (chains new : Chains) → Chaining db width back chains → count ≡ length (all_pairs db) → back < count
-    → ((d : NdbPair) → pair ≡ get_or (all_pairs db) (count - 1 - back) d) → attr ≡ pair.attr → value ≡ pair.value → bucket ≡ bucket_in width attr value → width_of new ≡ width_of chains
+    → ((d : NdbPair) → pair ≡ get_or (all_pairs db) (count - 1 - back) d) → attr ≡ pair.attr → value ≡ pair.value → bucket ≡ bucket_of_pair width attr value → width_of new ≡ width_of chains
     → ((buckets : List ℕ) → AreChains chains buckets → AreChains new (bucket ∷ buckets)) → Chaining db width (back + 1) new
 chaining-next db width count back bucket pair attr value chains new c counted h here ea ev is same pushed =
     let pairs : List NdbPair = all_pairs db in
@@ -50,7 +50,7 @@ chaining-next db width count back bucket pair attr value chains new c counted h 
     let i : ℕ = length pairs - (back + 1) in
     let at : count - 1 - back ≡ i = omega (arith, counted, h) in
     let own : bucket ≡ key (get_or pairs i pair) =
-    is ∙ ap (λ (a : List ℕ). bucket_in width a value) ea ∙ ap (λ (v : List ℕ). bucket_in width pair.attr v) ev ∙ ap key (here pair) ∙ ap (λ (k : ℕ). key (get_or pairs k pair)) at in
+    is ∙ ap (λ (a : List ℕ). bucket_of_pair width a value) ea ∙ ap (λ (v : List ℕ). bucket_of_pair width pair.attr v) ev ∙ ap key (here pair) ∙ ap (λ (k : ℕ). key (get_or pairs k pair)) at in
     let within : i < length pairs = omega (arith, counted, h) in
     let up : i + 1 ≡ length pairs - back = omega (arith, counted, h) in
     let keys : map key (drop i pairs) ≡ bucket ∷ map key (drop (length pairs - back) pairs) =
@@ -92,27 +92,27 @@ items_alike width bucket (pair ∷ pairs) (spot ∷ spots) same = by (pair_bucke
     by true e = ap suc e
     by false e = e
 
-same_bucket : (width : ℕ) (attr value : List ℕ) (pair : NdbPair) → is_pair attr value pair ≡ true → pair_bucket width pair ≡ bucket_in width attr value
+same_bucket : (width : ℕ) (attr value : List ℕ) (pair : NdbPair) → is_pair attr value pair ≡ true → pair_bucket width pair ≡ bucket_of_pair width attr value
 same_bucket width attr value pair e =
-    ap (λ (a : List ℕ). bucket_in width a pair.value) ((bytes_decides pair.attr attr).0 (first_so (bytes_eq pair.attr attr) (bytes_eq pair.value value) e))
-    ∙ ap (λ (v : List ℕ). bucket_in width attr v) ((bytes_decides pair.value value).0 (second_so (bytes_eq pair.attr attr) (bytes_eq pair.value value) e))
+    ap (λ (a : List ℕ). bucket_of_pair width a pair.value) ((bytes_decides pair.attr attr).0 (first_so (bytes_eq pair.attr attr) (bytes_eq pair.value value) e))
+    ∙ ap (λ (v : List ℕ). bucket_of_pair width attr v) ((bytes_decides pair.value value).0 (second_so (bytes_eq pair.attr attr) (bytes_eq pair.value value) e))
 
 -- those of another bucket are other pairs
-bucket_noted : (width bucket : ℕ) (attr value : List ℕ) (items : Placed) (spots : List Spot) → bucket ≡ bucket_in width attr value → pairs_noted attr value (in_bucket (item_bucket width) bucket items) spots ≡ pairs_noted attr value items spots
+bucket_noted : (width bucket : ℕ) (attr value : List ℕ) (items : Placed) (spots : List Spot) → bucket ≡ bucket_of_pair width attr value → pairs_noted attr value (in_bucket (item_bucket width) bucket items) spots ≡ pairs_noted attr value items spots
 bucket_noted width bucket attr value [] spots is = refl
 bucket_noted width bucket attr value (item ∷ items) spots is =
     by (item_bucket width item == bucket) refl (is_pair attr value item.0) refl
-    (bucket_noted width bucket attr value items (noted (is_pair attr value item.0) item.1 spots) is)
+    (bucket_noted width bucket attr value items (spots_noted (is_pair attr value item.0) item.1 spots) is)
   where
     by : (b : Bool) → (item_bucket width item == bucket) ≡ b → (p : Bool) → is_pair attr value item.0 ≡ p
-        → pairs_noted attr value (in_bucket (item_bucket width) bucket items) (noted (is_pair attr value item.0) item.1 spots) ≡ pairs_noted attr value items (noted (is_pair attr value item.0) item.1 spots)
-        → pairs_noted attr value (cond b (item ∷ in_bucket (item_bucket width) bucket items) (in_bucket (item_bucket width) bucket items)) spots ≡ pairs_noted attr value items (noted (is_pair attr value item.0) item.1 spots)
+        → pairs_noted attr value (in_bucket (item_bucket width) bucket items) (spots_noted (is_pair attr value item.0) item.1 spots) ≡ pairs_noted attr value items (spots_noted (is_pair attr value item.0) item.1 spots)
+        → pairs_noted attr value (cond b (item ∷ in_bucket (item_bucket width) bucket items) (in_bucket (item_bucket width) bucket items)) spots ≡ pairs_noted attr value items (spots_noted (is_pair attr value item.0) item.1 spots)
     by true eb p ep rest = rest
     by false eb true ep rest =
         let here : item_bucket width item ≡ bucket = same_bucket width attr value item.0 ep ∙ sym is in
         absurd (grind (arith, nat_tests, eb, here))
     by false eb false ep rest =
-        let still : noted (is_pair attr value item.0) item.1 spots ≡ spots = ap (λ (b : Bool). noted b item.1 spots) ep in
+        let still : spots_noted (is_pair attr value item.0) item.1 spots ≡ spots = ap (λ (b : Bool). spots_noted b item.1 spots) ep in
         ap (pairs_noted attr value (in_bucket (item_bucket width) bucket items)) (sym still) ∙ rest
 
 -- so many pairs are left, those before them are noted, and so many steps were made, with the others of the bucket at most so many
@@ -120,24 +120,24 @@ pub record Walk (db : Db) (width left : ℕ) (attr value : List ℕ) (spots : Li
   pub before : Placed
   pub rest : Placed
   pub is : before ++ rest ≡ placed db
-  pub count : left ≡ first_in (bucket_in width attr value) (map (item_bucket width) rest)
-  pub looks : steps + length (in_bucket (item_bucket width) (bucket_in width attr value) rest) ≤ most
-  pub done : pairs_noted attr value (in_bucket (item_bucket width) (bucket_in width attr value) rest) spots ≡ spots_with attr value db
+  pub count : left ≡ first_in (bucket_of_pair width attr value) (map (item_bucket width) rest)
+  pub looks : steps + length (in_bucket (item_bucket width) (bucket_of_pair width attr value) rest) ≤ most
+  pub done : pairs_noted attr value (in_bucket (item_bucket width) (bucket_of_pair width attr value) rest) spots ≡ spots_with attr value db
 
-pub walk-none : (db : Db) (width left bucket : ℕ) (attr value : List ℕ) (spots : List Spot) (steps most : ℕ) → most ≡ steps + length (filter (λ pair. pair_bucket width pair == bucket_in width attr value) (all_pairs db)) → spots ≡ [] → bucket ≡ bucket_in width attr value → left ≡ first_in bucket (map (pair_bucket width) (all_pairs db)) → Walk db width left attr value spots steps most
+pub walk-none : (db : Db) (width left bucket : ℕ) (attr value : List ℕ) (spots : List Spot) (steps most : ℕ) → most ≡ steps + length (filter (λ pair. pair_bucket width pair == bucket_of_pair width attr value) (all_pairs db)) → spots ≡ [] → bucket ≡ bucket_of_pair width attr value → left ≡ first_in bucket (map (pair_bucket width) (all_pairs db)) → Walk db width left attr value spots steps most
 walk-none db width left bucket attr value spots steps most all none own is =
     let keys : map (item_bucket width) (placed db) ≡ map (pair_bucket width) (all_pairs db) = buckets_are width (all_pairs db) (pair_spots db) (spots_length db) in
     record {
       before = [];
       rest = placed db;
       is = refl;
-      count = is ∙ ap (λ (b : ℕ). first_in b (map (pair_bucket width) (all_pairs db))) own ∙ ap (first_in (bucket_in width attr value)) (sym keys);
-      looks = omega (arith, all, items_alike width (bucket_in width attr value) (all_pairs db) (pair_spots db) (spots_length db));
-      done = bucket_noted width (bucket_in width attr value) attr value (placed db) spots refl ∙ ap (pairs_noted attr value (placed db)) none ∙ placed_noted attr value db;
+      count = is ∙ ap (λ (b : ℕ). first_in b (map (pair_bucket width) (all_pairs db))) own ∙ ap (first_in (bucket_of_pair width attr value)) (sym keys);
+      looks = omega (arith, all, items_alike width (bucket_of_pair width attr value) (all_pairs db) (pair_spots db) (spots_length db));
+      done = bucket_noted width (bucket_of_pair width attr value) attr value (placed db) spots refl ∙ ap (pairs_noted attr value (placed db)) none ∙ placed_noted attr value db;
     }
 
-abbrev meets : (db : Db) (width left : ℕ) (attr value : List ℕ) (spots : List Spot) (steps most : ℕ) → (w : Walk db width left attr value spots steps most) → 0 < left → Met (item_bucket width) (bucket_in width attr value) w.rest left
-meets db width left attr value spots steps most w some = met (item_bucket width) (bucket_in width attr value) w.rest left w.count some
+abbrev meets : (db : Db) (width left : ℕ) (attr value : List ℕ) (spots : List Spot) (steps most : ℕ) → (w : Walk db width left attr value spots steps most) → 0 < left → Met (item_bucket width) (bucket_of_pair width attr value) w.rest left
+meets db width left attr value spots steps most w some = met (item_bucket width) (bucket_of_pair width attr value) w.rest left w.count some
 
 pub walk-within : (db : Db) (width left : ℕ) (attr value : List ℕ) (spots : List Spot) (steps most : ℕ) → Walk db width left attr value spots steps most → 0 < left → left ≤ length (all_pairs db)
 walk-within db width left attr value spots steps most w some =
@@ -169,21 +169,21 @@ walk-next db width left count next attr value chains spots new steps later most 
     let chained : AreChains chains (map (pair_bucket width) (all_pairs db)) = subst (λ (n : ℕ). AreChains chains (map (pair_bucket n) (all_pairs db))) (sym wide) held.are in
     let follows : next ≡ first_in (key m.one) (map key m.behind) =
     nexts (map key front) (key m.one) (map key m.behind) (subst (λ (bs : List ℕ). AreChains chains bs) keys chained) (m.count ∙ ap suc (sym (length-map m.behind key))) in
-    let at : next ≡ first_in (bucket_in width attr value) (map key m.behind) = follows ∙ ap (λ (b : ℕ). first_in b (map key m.behind)) m.key_is in (
+    let at : next ≡ first_in (bucket_of_pair width attr value) (map key m.behind) = follows ∙ ap (λ (b : ℕ). first_in b (map key m.behind)) m.key_is in (
       record {
         before = front ++ m.one ∷ [];
         rest = m.behind;
         is = append_assoc front (m.one ∷ []) m.behind ∙ sym all;
         count = at;
         looks = omega (arith, w.looks, ap (λ (xs : Placed). length xs) m.rest, one_more);
-        done = ap (pairs_noted attr value (in_bucket key (bucket_in width attr value) m.behind)) (notes-one db (count - left) attr value spots new m.one noting within one)
+        done = ap (pairs_noted attr value (in_bucket key (bucket_of_pair width attr value) m.behind)) (notes-one db (count - left) attr value spots new m.one noting within one)
             ∙ ap (λ (xs : Placed). pairs_noted attr value xs spots) (sym m.rest)
             ∙ w.done;
       },
-      omega (arith, at, m.count, first-within (bucket_in width attr value) (map key m.behind), length-map m.behind key),
+      omega (arith, at, m.count, first-within (bucket_of_pair width attr value) (map key m.behind), length-map m.behind key),
     )
 
 pub walk-all : (db : Db) (width left : ℕ) (attr value : List ℕ) (spots : List Spot) (steps most : ℕ) → Walk db width left attr value spots steps most → left ≡ 0 → spots ≡ spots_with attr value db
 walk-all db width left attr value spots steps most w none =
-    let nothing : in_bucket (item_bucket width) (bucket_in width attr value) w.rest ≡ [] = none-met (item_bucket width) (bucket_in width attr value) w.rest (sym w.count ∙ none) in
+    let nothing : in_bucket (item_bucket width) (bucket_of_pair width attr value) w.rest ≡ [] = none-met (item_bucket width) (bucket_of_pair width attr value) w.rest (sym w.count ∙ none) in
     ap (λ (xs : Placed). pairs_noted attr value xs spots) (sym nothing) ∙ w.done

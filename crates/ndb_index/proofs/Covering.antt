@@ -9,7 +9,7 @@ use Rattle.std.proofs.lemmas.Bool.{and_parts, and_from, eqb-true}
 use Rattle.net_base.specs.Ndb.{NdbPair}
 use Rattle.net_base.specs.Networks.{Network, network_of, contains_address, is_on, is_filled}
 use Rattle.ndb_tuple.specs.Prefixes.{first_bits, prefix_of, is_prefix, is_on_prefix}
-use Rattle.ndb_tuple.specs.Places.{places_of}
+use Rattle.ndb_tuple.specs.Places.{tuple_places}
 use Rattle.ndb_tuple.proofs.Shared.{same_truth, any_wider, any_gives}
 use Rattle.ndb_index.specs.Nets.{has_prefix, has_length, places_kept, HasPlaces, HasAllLengths, is_covered}
 use Rattle.ndb_index.proofs.Own.{Db, Kept}
@@ -28,12 +28,12 @@ or_more test xs i d before now after within so_far put =
     ∙ ap (λ b. before || b) (sym (list_any_more test xs i d within))
 
 -- some tuple has the prefix where places are kept for it
-filled_is : (test : List (List NdbPair) → Bool) (number : ℕ) (db : Db) → is_filled (places_of test number db) ≡ list_any test db
+filled_is : (test : List (List NdbPair) → Bool) (number : ℕ) (db : Db) → is_filled (tuple_places test number db) ≡ list_any test db
 filled_is test number [] = refl
 filled_is test number (tuple ∷ db) = at (test tuple) (filled_is test (number + 1) db)
   where
-    at : (b : Bool) → is_filled (places_of test (number + 1) db) ≡ list_any test db → is_filled (cond b (number ∷ places_of test (number + 1) db) (places_of test (number + 1) db)) ≡ (b || list_any test db)
-    at true rest = filled number (places_of test (number + 1) db)
+    at : (b : Bool) → is_filled (tuple_places test (number + 1) db) ≡ list_any test db → is_filled (cond b (number ∷ tuple_places test (number + 1) db) (tuple_places test (number + 1) db)) ≡ (b || list_any test db)
+    at true rest = filled number (tuple_places test (number + 1) db)
       where
         filled : (n : ℕ) (ns : List ℕ) → is_filled (n ∷ ns) ≡ true
         filled n ns = grind (arith, nat_tests)

@@ -14,15 +14,15 @@ use Rattle.net_base.specs.Search.{line_has, tuple_has, tuples_with, values_in}
 use Rattle.net_base.specs.Networks.{Network, network_of, bits_of, first_of, tuple_names, contains_address, own_networks, addresses_of, longest_first, is_filled, closest}
 use Rattle.ndb_tuple.specs.declared.numbers.Kind.TheVariants.{Address}
 use Rattle.ndb_tuple.specs.Numbers.{numbers_in}
-use Rattle.ndb_tuple.specs.Places.{places_of, places_with}
+use Rattle.ndb_tuple.specs.Places.{tuple_places, places_with}
 use Rattle.ndb_tuple.specs.Closest.{first_filled}
 use Rattle.ndb_tuple.proofs.Shared.{Joins, first_here, first_past, one_filled, none_filled, near_is}
 use Rattle.net_base.specs.declared.ndb.spot.Spot.{Spot}
 use Rattle.net_base.specs.Spots.{spot_at}
 use Rattle.ndb_index.specs.Kept.{spot_in, spots_from, spots_with}
-use Rattle.ndb_index.specs.Nets.{is_own, own_places, longest_places}
+use Rattle.ndb_index.specs.Nets.{is_own_network, own_places, longest_places}
 use Rattle.ndb_index.specs.Index.{near_count}
-use Rattle.ndb_index.specs.Near.{AreWithin, Finds, SpotsWithin, tuples_at, spot_tuples, numbers_of}
+use Rattle.ndb_index.specs.Near.{AreWithinNear, FindsPlaces, SpotsWithin, tuples_at, spot_tuples, numbers_of}
 use Rattle.net_base.proofs.Members.{length_map}
 
 abbrev pub Db : Type 0
@@ -41,7 +41,7 @@ any_position attr value number (line ∷ lines) place = at (line_has attr value 
     at true rest = refl
     at false rest = rest
 
-spots_placed : (attr value : List ℕ) (number : ℕ) (db : Db) → places (spots_from number attr value db) ≡ places_of (tuple_has attr value) number db
+spots_placed : (attr value : List ℕ) (number : ℕ) (db : Db) → places (spots_from number attr value db) ≡ tuple_places (tuple_has attr value) number db
 spots_placed attr value number [] = refl
 spots_placed attr value number (tuple ∷ db) =
     map-append (λ spot. spot.place) (option_to_list (spot_in number attr value tuple)) (spots_from (number + 1) attr value db)
@@ -49,7 +49,7 @@ spots_placed attr value number (tuple ∷ db) =
     ∙ ap (λ back. cond (tuple_has attr value tuple) (number ∷ []) [] ++ back) (spots_placed attr value (number + 1) db)
     ∙ at (tuple_has attr value tuple)
   where
-    at : (b : Bool) → cond b (number ∷ []) [] ++ places_of (tuple_has attr value) (number + 1) db ≡ cond b (number ∷ places_of (tuple_has attr value) (number + 1) db) (places_of (tuple_has attr value) (number + 1) db)
+    at : (b : Bool) → cond b (number ∷ []) [] ++ tuple_places (tuple_has attr value) (number + 1) db ≡ cond b (number ∷ tuple_places (tuple_has attr value) (number + 1) db) (tuple_places (tuple_has attr value) (number + 1) db)
     at true = refl
     at false = refl
 
@@ -61,21 +61,21 @@ get_behind : (before : Db) (tuple : List (List NdbPair)) (db : Db) → get_or (b
 get_behind [] tuple db = refl
 get_behind (t ∷ before) tuple db = get_behind before tuple db
 
-found_from : (test : List (List NdbPair) → Bool) (before db : Db) (n : ℕ) → n ≡ length before → tuples_at (before ++ db) (places_of test n db) ≡ filter test db
+found_from : (test : List (List NdbPair) → Bool) (before db : Db) (n : ℕ) → n ≡ length before → tuples_at (before ++ db) (tuple_places test n db) ≡ filter test db
 found_from test before [] n e = refl
 found_from test before (tuple ∷ db) n e =
     at (test tuple)
-    (ap (λ (all : Db). tuples_at all (places_of test (n + 1) db)) (sym (append_assoc before (tuple ∷ []) db))
+    (ap (λ (all : Db). tuples_at all (tuple_places test (n + 1) db)) (sym (append_assoc before (tuple ∷ []) db))
     ∙ found_from test (before ++ tuple ∷ []) db (n + 1) (omega (arith, e, length-append before (tuple ∷ []))))
   where
-    at : (b : Bool) → tuples_at (before ++ tuple ∷ db) (places_of test (n + 1) db) ≡ filter test db → tuples_at (before ++ tuple ∷ db) (cond b (n ∷ places_of test (n + 1) db) (places_of test (n + 1) db)) ≡ cond b (tuple ∷ filter test db) (filter test db)
+    at : (b : Bool) → tuples_at (before ++ tuple ∷ db) (tuple_places test (n + 1) db) ≡ filter test db → tuples_at (before ++ tuple ∷ db) (cond b (n ∷ tuple_places test (n + 1) db) (tuple_places test (n + 1) db)) ≡ cond b (tuple ∷ filter test db) (filter test db)
     at true rest =
-        ap (λ t. t ∷ tuples_at (before ++ tuple ∷ db) (places_of test (n + 1) db)) (ap (λ i. get_or (before ++ tuple ∷ db) i []) e ∙ get_behind before tuple db)
+        ap (λ t. t ∷ tuples_at (before ++ tuple ∷ db) (tuple_places test (n + 1) db)) (ap (λ i. get_or (before ++ tuple ∷ db) i []) e ∙ get_behind before tuple db)
         ∙ ap (λ tuples. tuple ∷ tuples) rest
     at false rest = rest
 
 -- the tuples at the places of those that pass
-pub tuples_found : (test : List (List NdbPair) → Bool) (db : Db) → tuples_at db (places_of test 0 db) ≡ filter test db
+pub tuples_found : (test : List (List NdbPair) → Bool) (db : Db) → tuples_at db (tuple_places test 0 db) ≡ filter test db
 tuples_found test db = found_from test [] db 0 refl
 
 map_twice : {X Y Z : Type 0} (g : Y → Z) (f : X → Y) (xs : List X) → map g (map f xs) ≡ map (λ x. g (f x)) xs
@@ -95,12 +95,12 @@ AllBelow : ℕ → List ℕ → Type 0
 AllBelow n [] = Unit {0}
 AllBelow n (p ∷ ps) = (p < n) × AllBelow n ps
 
-below_places : (test : List (List NdbPair) → Bool) (number : ℕ) (db : Db) (n : ℕ) → number + length db ≤ n → AllBelow n (places_of test number db)
+below_places : (test : List (List NdbPair) → Bool) (number : ℕ) (db : Db) (n : ℕ) → number + length db ≤ n → AllBelow n (tuple_places test number db)
 unfolding AllBelow
 below_places test number [] n within = tt
 below_places test number (tuple ∷ db) n within = at (test tuple) (below_places test (number + 1) db n (omega (arith, within)))
   where
-    at : (b : Bool) → AllBelow n (places_of test (number + 1) db) → AllBelow n (cond b (number ∷ places_of test (number + 1) db) (places_of test (number + 1) db))
+    at : (b : Bool) → AllBelow n (tuple_places test (number + 1) db) → AllBelow n (cond b (number ∷ tuple_places test (number + 1) db) (tuple_places test (number + 1) db))
     at true rest = (omega (arith, within), rest)
     at false rest = rest
 
@@ -114,7 +114,7 @@ unfolding AllBelow
 below_longest ips db [] = tt
 below_longest ips db (ones ∷ range) =
     below_append (length db) (own_places (32 - ones) ips db) (flat_map (λ o. own_places (32 - o) ips db) range)
-    (below_places (is_own (32 - ones) ips) 0 db (length db) (omega arith)) (below_longest ips db range)
+    (below_places (is_own_network (32 - ones) ips) 0 db (length db) (omega arith)) (below_longest ips db range)
 
 at_place : (n : ℕ) (ps : List ℕ) → AllBelow n ps → (i : ℕ) → i < length ps → get_or ps i 0 < n
 unfolding AllBelow
@@ -122,10 +122,10 @@ at_place n [] below i within = absurd (omega (arith, within))
 at_place n (p ∷ ps) below zero within = below.0
 at_place n (p ∷ ps) below (suc i) within = at_place n ps below.1 i (omega (arith, within))
 
-pub places_within : (test : List (List NdbPair) → Bool) (db : Db) → AreWithin db (places_of test 0 db)
-places_within test db = at_place (length db) (places_of test 0 db) (below_places test 0 db (length db) (omega arith))
+pub places_within : (test : List (List NdbPair) → Bool) (db : Db) → AreWithinNear db (tuple_places test 0 db)
+places_within test db = at_place (length db) (tuple_places test 0 db) (below_places test 0 db (length db) (omega arith))
 
-pub longest_within : (ips : List ℕ) (db : Db) → AreWithin db (longest_places ips db)
+pub longest_within : (ips : List ℕ) (db : Db) → AreWithinNear db (longest_places ips db)
 longest_within ips db = at_place (length db) (longest_places ips db) (below_longest ips db (range_with_len 0 33))
 
 spot_at_place : (n : ℕ) (spots : List Spot) → AllBelow n (places spots) → (i : ℕ) (d : Spot) → i < length spots → (get_or spots i d).place < n
@@ -156,12 +156,12 @@ own_at : ℕ → List ℕ → List Network → List Network
 own_at bits ips networks = filter (λ network. network.bits == bits) (filter (λ network. list_any (contains_address network) ips) networks)
 
 -- the tuples of the networks of one length
-own_tuples : (bits : ℕ) (ips : List ℕ) (db : Db) → map (λ network. network.tuple) (own_at bits ips (filter_map network_of db)) ≡ filter (is_own bits ips) db
+own_tuples : (bits : ℕ) (ips : List ℕ) (db : Db) → map (λ network. network.tuple) (own_at bits ips (filter_map network_of db)) ≡ filter (is_own_network bits ips) db
 unfolding own_at
 own_tuples bits ips [] = refl
 own_tuples bits ips (tuple ∷ db) = at (network_of tuple) refl (own_tuples bits ips db)
   where
-    of_length : (network : Network) (same own : Bool) → network.tuple ≡ tuple → (network.bits == bits) ≡ same → map (λ n. n.tuple) (own_at bits ips (filter_map network_of db)) ≡ filter (is_own bits ips) db → map (λ n. n.tuple) (filter (λ n. n.bits == bits) (cond own (network ∷ filter (λ n. list_any (contains_address n) ips) (filter_map network_of db)) (filter (λ n. list_any (contains_address n) ips) (filter_map network_of db)))) ≡ cond (same && own) (tuple ∷ filter (is_own bits ips) db) (filter (is_own bits ips) db)
+    of_length : (network : Network) (same own : Bool) → network.tuple ≡ tuple → (network.bits == bits) ≡ same → map (λ n. n.tuple) (own_at bits ips (filter_map network_of db)) ≡ filter (is_own_network bits ips) db → map (λ n. n.tuple) (filter (λ n. n.bits == bits) (cond own (network ∷ filter (λ n. list_any (contains_address n) ips) (filter_map network_of db)) (filter (λ n. list_any (contains_address n) ips) (filter_map network_of db)))) ≡ cond (same && own) (tuple ∷ filter (is_own_network bits ips) db) (filter (is_own_network bits ips) db)
     of_length network true true here e rest =
         ap (λ b. map (λ n. n.tuple) (cond b (network ∷ own_at bits ips (filter_map network_of db)) (own_at bits ips (filter_map network_of db)))) e
         ∙ ap (λ t. t ∷ map (λ n. n.tuple) (own_at bits ips (filter_map network_of db))) here
@@ -171,7 +171,7 @@ own_tuples bits ips (tuple ∷ db) = at (network_of tuple) refl (own_tuples bits
     of_length network true false here e rest = rest
     of_length network false false here e rest = rest
 
-    at : (o : Option Network) → network_of tuple ≡ o → map (λ n. n.tuple) (own_at bits ips (filter_map network_of db)) ≡ filter (is_own bits ips) db → map (λ n. n.tuple) (own_at bits ips (cons_option o (filter_map network_of db))) ≡ cond (option_map_or (λ network. network.bits == bits && list_any (contains_address network) ips) o false) (tuple ∷ filter (is_own bits ips) db) (filter (is_own bits ips) db)
+    at : (o : Option Network) → network_of tuple ≡ o → map (λ n. n.tuple) (own_at bits ips (filter_map network_of db)) ≡ filter (is_own_network bits ips) db → map (λ n. n.tuple) (own_at bits ips (cons_option o (filter_map network_of db))) ≡ cond (option_map_or (λ network. network.bits == bits && list_any (contains_address network) ips) o false) (tuple ∷ filter (is_own_network bits ips) db) (filter (is_own_network bits ips) db)
     at None e rest = rest
     at (Some network) e rest = of_length network (network.bits == bits) (list_any (contains_address network) ips) (network_tuple tuple network e) refl rest
 
@@ -180,7 +180,7 @@ unfolding own_at
 ranged ips db [] = refl
 ranged ips db (ones ∷ range) =
     map-append (λ place. get_or db place []) (own_places (32 - ones) ips db) (flat_map (λ o. own_places (32 - o) ips db) range)
-    ∙ ap (λ front. front ++ tuples_at db (flat_map (λ o. own_places (32 - o) ips db) range)) (tuples_found (is_own (32 - ones) ips) db ∙ sym (own_tuples (32 - ones) ips db))
+    ∙ ap (λ front. front ++ tuples_at db (flat_map (λ o. own_places (32 - o) ips db) range)) (tuples_found (is_own_network (32 - ones) ips) db ∙ sym (own_tuples (32 - ones) ips db))
     ∙ ap (λ back. map (λ n. n.tuple) (own_at (32 - ones) ips (filter_map network_of db)) ++ back) (ranged ips db range)
     ∙ sym (map-append (λ network. network.tuple) (own_at (32 - ones) ips (filter_map network_of db)) (flat_map (λ o. own_at (32 - o) ips (filter_map network_of db)) range))
 
@@ -247,11 +247,11 @@ spots_count attr value db =
     sym (length_map (λ spot. get_or db spot.place []) (spots_with attr value db)) ∙ ap (λ (ts : Db). length ts) (spots_found attr value db)
 
 -- places of the tuples that contain a pair find these
-pub all_found : (attr value : List ℕ) (db : Db) (found : List ℕ) → found ≡ places_with attr value db → Finds db attr value found
+pub all_found : (attr value : List ℕ) (db : Db) (found : List ℕ) → found ≡ places_with attr value db → FindsPlaces db attr value found
 all_found attr value db found are =
     let tuples = ap (tuples_at db) are ∙ tuples_found (tuple_has attr value) db in
     record {
-      within = subst (AreWithin db) (sym are) (places_within (tuple_has attr value) db);
+      within = subst (AreWithinNear db) (sym are) (places_within (tuple_has attr value) db);
       tuples = tuples;
       count = sym (length_map (λ place. get_or db place []) found) ∙ ap (λ (ts : Db). length ts) tuples;
     }

@@ -12,7 +12,7 @@ use Rattle.net_base.specs.Spots.{spot_at, line_spots, all_lines, spread, pair_sp
 use Rattle.net_base.specs.Store.{all_pairs}
 use Rattle.net_base.specs.declared.ndb.spot.Spot.{Spot}
 use Rattle.net_base.proofs.Shared.{lines-length, number_itself}
-use Rattle.ndb_index.specs.Kept.{spot_in, spots_from, spots_with, ends_at, with_spot, noted, lines_noted}
+use Rattle.ndb_index.specs.Kept.{spot_in, spots_from, spots_with, spot_ends_at, with_spot, spots_noted, lines_noted}
 
 abbrev pub Placed : Type 0
 Placed = List (NdbPair × Spot)
@@ -20,7 +20,7 @@ Placed = List (NdbPair × Spot)
 -- the spots after these pairs, each with where it stands
 abbrev pub pairs_noted : List ℕ → List ℕ → Placed → List Spot → List Spot
 pairs_noted attr value [] spots = spots
-pairs_noted attr value (item ∷ items) spots = pairs_noted attr value items (noted (is_pair attr value item.0) item.1 spots)
+pairs_noted attr value (item ∷ items) spots = pairs_noted attr value items (spots_noted (is_pair attr value item.0) item.1 spots)
 
 -- all pairs of a database in a row, each with where it stands
 abbrev pub placed : List (List (List NdbPair)) → Placed
@@ -32,7 +32,7 @@ last_is : (spots : List Spot) (spot : Spot) → slice_get (spots ++ spot ∷ [])
 last_is [] spot = refl
 last_is (s ∷ spots) spot = last_is spots spot
 
-ends_push : (place : ℕ) (spots : List Spot) (spot : Spot) → spot.place ≡ place → ends_at place (spots ++ spot ∷ []) ≡ true
+ends_push : (place : ℕ) (spots : List Spot) (spot : Spot) → spot.place ≡ place → spot_ends_at place (spots ++ spot ∷ []) ≡ true
 ends_push place spots spot here =
     let last : length (spots ++ spot ∷ []) - 1 ≡ length spots = omega (arith, length-append spots (spot ∷ [])) in
     ap (λ i. option_map_or (λ s. s.place == place) (slice_get (spots ++ spot ∷ []) i) false) last
@@ -40,19 +40,19 @@ ends_push place spots spot here =
     ∙ ap (λ n. n == place) here ∙ number_itself place
 
 -- after one spot of a tuple the spots end there
-ends_with : (place : ℕ) (spot : Spot) (spots : List Spot) → spot.place ≡ place → ends_at place (with_spot spot spots) ≡ true
-ends_with place spot spots here = at (ends_at spot.place spots) refl
+ends_with : (place : ℕ) (spot : Spot) (spots : List Spot) → spot.place ≡ place → spot_ends_at place (with_spot spot spots) ≡ true
+ends_with place spot spots here = at (spot_ends_at spot.place spots) refl
   where
-    at : (b : Bool) → ends_at spot.place spots ≡ b → ends_at place (cond b spots (spots ++ spot ∷ [])) ≡ true
-    at true e = ap (λ n. ends_at n spots) (sym here) ∙ e
+    at : (b : Bool) → spot_ends_at spot.place spots ≡ b → spot_ends_at place (cond b spots (spots ++ spot ∷ [])) ≡ true
+    at true e = ap (λ n. spot_ends_at n spots) (sym here) ∙ e
     at false e = ends_push place spots spot here
 
 -- a spot of a tuple in which the spots end already
-stays : (place : ℕ) (spot : Spot) (spots : List Spot) → spot.place ≡ place → ends_at place spots ≡ true → with_spot spot spots ≡ spots
-stays place spot spots here ends = ap (λ b. cond b spots (spots ++ spot ∷ [])) (ap (λ n. ends_at n spots) here ∙ ends)
+stays : (place : ℕ) (spot : Spot) (spots : List Spot) → spot.place ≡ place → spot_ends_at place spots ≡ true → with_spot spot spots ≡ spots
+stays place spot spots here ends = ap (λ b. cond b spots (spots ++ spot ∷ [])) (ap (λ n. spot_ends_at n spots) here ∙ ends)
 
 -- a spot noted twice
-pub noted_twice : (b c : Bool) (spot : Spot) (spots : List Spot) → noted c spot (noted b spot spots) ≡ noted (b || c) spot spots
+pub noted_twice : (b c : Bool) (spot : Spot) (spots : List Spot) → spots_noted c spot (spots_noted b spot spots) ≡ spots_noted (b || c) spot spots
 noted_twice true true spot spots = stays spot.place spot (with_spot spot spots) refl (ends_with spot.place spot spots refl)
 noted_twice true false spot spots = refl
 noted_twice false c spot spots = refl
@@ -61,7 +61,7 @@ noted_twice false c spot spots = refl
 
 pub noted_both : (attr value : List ℕ) (xs ys : Placed) (spots : List Spot) → pairs_noted attr value (xs ++ ys) spots ≡ pairs_noted attr value ys (pairs_noted attr value xs spots)
 noted_both attr value [] ys spots = refl
-noted_both attr value (x ∷ xs) ys spots = noted_both attr value xs ys (noted (is_pair attr value x.0) x.1 spots)
+noted_both attr value (x ∷ xs) ys spots = noted_both attr value xs ys (spots_noted (is_pair attr value x.0) x.1 spots)
 
 zip_both : {X Y : Type 0} (xs more : List X) (ys others : List Y) → length ys ≡ length xs → zip (xs ++ more) (ys ++ others) ≡ zip xs ys ++ zip more others
 zip_both [] more [] others same = refl
@@ -82,10 +82,10 @@ zip_at (a ∷ xs) (b ∷ ys) (suc i) x y same h = zip_at xs ys i x y (omega (ari
 
 -- A line.
 
-line_noted : (attr value : List ℕ) (line : List NdbPair) (spot : Spot) (spots : List Spot) → pairs_noted attr value (zip line (map (λ pair. spot) line)) spots ≡ noted (line_has attr value line) spot spots
+line_noted : (attr value : List ℕ) (line : List NdbPair) (spot : Spot) (spots : List Spot) → pairs_noted attr value (zip line (map (λ pair. spot) line)) spots ≡ spots_noted (line_has attr value line) spot spots
 line_noted attr value [] spot spots = refl
 line_noted attr value (pair ∷ line) spot spots =
-    line_noted attr value line spot (noted (is_pair attr value pair) spot spots) ∙ noted_twice (is_pair attr value pair) (line_has attr value line) spot spots
+    line_noted attr value line spot (spots_noted (is_pair attr value pair) spot spots) ∙ noted_twice (is_pair attr value pair) (line_has attr value line) spot spots
 
 -- A tuple.
 
@@ -118,24 +118,24 @@ tuple_noted attr value place number (line ∷ tuple) spots =
     ap (λ (items : Placed). pairs_noted attr value items spots) (zip_both line others front rest (length-map line (λ (pair : NdbPair). spot)))
     ∙ noted_both attr value (zip line front) (zip others rest) spots
     ∙ ap (pairs_noted attr value (zip others rest)) (line_noted attr value line spot spots)
-    ∙ tuple_noted attr value place (number + 1) tuple (noted (line_has attr value line) spot spots)
+    ∙ tuple_noted attr value place (number + 1) tuple (spots_noted (line_has attr value line) spot spots)
 
 -- the lines of a tuple in which the spots end already
-lines_stay : (place number : ℕ) (attr value : List ℕ) (lines : List (List NdbPair)) (spots : List Spot) → ends_at place spots ≡ true → lines_noted place number attr value lines spots ≡ spots
+lines_stay : (place number : ℕ) (attr value : List ℕ) (lines : List (List NdbPair)) (spots : List Spot) → spot_ends_at place spots ≡ true → lines_noted place number attr value lines spots ≡ spots
 lines_stay place number attr value [] spots ends = refl
 lines_stay place number attr value (line ∷ lines) spots ends =
     ap (lines_noted place (number + 1) attr value lines) (at (line_has attr value line)) ∙ lines_stay place (number + 1) attr value lines spots ends
   where
-    at : (b : Bool) → noted b (spot_at place number) spots ≡ spots
+    at : (b : Bool) → spots_noted b (spot_at place number) spots ≡ spots
     at true = stays place (spot_at place number) spots refl ends
     at false = refl
 
 -- the lines of a tuple give the first line with the pair
-lines_give : (place number : ℕ) (attr value : List ℕ) (lines : List (List NdbPair)) (spots : List Spot) → ends_at place spots ≡ false → lines_noted place number attr value lines spots ≡ spots ++ option_to_list (option_map (spot_at place) (position_from (line_has attr value) number lines))
+lines_give : (place number : ℕ) (attr value : List ℕ) (lines : List (List NdbPair)) (spots : List Spot) → spot_ends_at place spots ≡ false → lines_noted place number attr value lines spots ≡ spots ++ option_to_list (option_map (spot_at place) (position_from (line_has attr value) number lines))
 lines_give place number attr value [] spots apart = sym (append-nil spots)
 lines_give place number attr value (line ∷ lines) spots apart = at (line_has attr value line) (lines_give place (number + 1) attr value lines spots apart)
   where
-    at : (b : Bool) → lines_noted place (number + 1) attr value lines spots ≡ spots ++ option_to_list (option_map (spot_at place) (position_from (line_has attr value) (number + 1) lines)) → lines_noted place (number + 1) attr value lines (noted b (spot_at place number) spots) ≡ spots ++ option_to_list (option_map (spot_at place) (cond b (Some number) (position_from (line_has attr value) (number + 1) lines)))
+    at : (b : Bool) → lines_noted place (number + 1) attr value lines spots ≡ spots ++ option_to_list (option_map (spot_at place) (position_from (line_has attr value) (number + 1) lines)) → lines_noted place (number + 1) attr value lines (spots_noted b (spot_at place number) spots) ≡ spots ++ option_to_list (option_map (spot_at place) (cond b (Some number) (position_from (line_has attr value) (number + 1) lines)))
     at true rest =
         let pushed : with_spot (spot_at place number) spots ≡ spots ++ spot_at place number ∷ [] = ap (λ b. cond b spots (spots ++ spot_at place number ∷ [])) apart in
         ap (lines_noted place (number + 1) attr value lines) pushed
@@ -224,12 +224,12 @@ placed_at db i x h = zip_at (all_pairs db) (pair_spots db) i x.0 x.1 (spots_leng
 -- what is noted of the pair with this number
 abbrev pub Notes : List (List (List NdbPair)) → ℕ → List ℕ → List ℕ → List Spot → List Spot → Type 0
 Notes db number attr value old new =
-    (p : NdbPair) (s : Spot) → new ≡ noted (is_pair attr value (get_or (all_pairs db) number p)) (get_or (pair_spots db) number s) old
+    (p : NdbPair) (s : Spot) → new ≡ spots_noted (is_pair attr value (get_or (all_pairs db) number p)) (get_or (pair_spots db) number s) old
 
-pub notes-one : (db : List (List (List NdbPair))) (number : ℕ) (attr value : List ℕ) (old new : List Spot) (item : NdbPair × Spot) → Notes db number attr value old new → number < length (all_pairs db) → get_or (placed db) number item ≡ item → new ≡ noted (is_pair attr value item.0) item.1 old
+pub notes-one : (db : List (List (List NdbPair))) (number : ℕ) (attr value : List ℕ) (old new : List Spot) (item : NdbPair × Spot) → Notes db number attr value old new → number < length (all_pairs db) → get_or (placed db) number item ≡ item → new ≡ spots_noted (is_pair attr value item.0) item.1 old
 notes-one db number attr value old new item step h is =
     step item.0 item.1
-    ∙ ap (λ (x : NdbPair × Spot). noted (is_pair attr value x.0) x.1 old) (sym (placed_at db number item h) ∙ is)
+    ∙ ap (λ (x : NdbPair × Spot). spots_noted (is_pair attr value x.0) x.1 old) (sym (placed_at db number item h) ∙ is)
 
 -- the pairs from a number on
 abbrev pub Scans : List (List (List NdbPair)) → ℕ → List ℕ → List ℕ → List Spot → Type 0
@@ -242,7 +242,7 @@ pub scans-next : (db : List (List (List NdbPair))) (number : ℕ) (attr value : 
 scans-next db number attr value old new p s h step so_far =
     let rest : Placed = drop (number + 1) (placed db) in
     let item : NdbPair × Spot = get_or (placed db) number (p, s) in
-    ap (pairs_noted attr value rest) (step p s ∙ ap (λ (x : NdbPair × Spot). noted (is_pair attr value x.0) x.1 old) (sym (placed_at db number (p, s) h)))
+    ap (pairs_noted attr value rest) (step p s ∙ ap (λ (x : NdbPair × Spot). spots_noted (is_pair attr value x.0) x.1 old) (sym (placed_at db number (p, s) h)))
     ∙ sym (at_drop_more (λ (items : Placed). pairs_noted attr value items old) (placed db) number (p, s) (omega (arith, placed_length db, h)))
     ∙ so_far
 

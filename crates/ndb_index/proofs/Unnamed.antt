@@ -13,7 +13,7 @@ use Rattle.net_base.specs.Store.{all_pairs}
 use Rattle.net_base.proofs.Shared.{neither}
 use Rattle.ndb_tuple.specs.declared.prefixes.Prefix.{Prefix}
 use Rattle.ndb_tuple.specs.Prefixes.{is_prefix}
-use Rattle.ndb_tuple.specs.Places.{places_of}
+use Rattle.ndb_tuple.specs.Places.{tuple_places}
 use Rattle.ndb_index.specs.Nets.{has_prefix, has_length}
 use Rattle.ndb_index.proofs.Own.{Db}
 
@@ -43,15 +43,15 @@ tuples_unnamed tuple db none =
     (sym (list_any-append (has_attr (codes "ipnet")) own (all_pairs db)) ∙ none) in
     (no_network tuple parts.0, parts.1)
 
-placed : (asked : Prefix) (place : ℕ) (db : Db) → IsUnnamed (all_pairs db) → places_of (has_prefix asked) place db ≡ []
+placed : (asked : Prefix) (place : ℕ) (db : Db) → IsUnnamed (all_pairs db) → tuple_places (has_prefix asked) place db ≡ []
 placed asked place [] none = refl
 placed asked place (tuple ∷ db) none =
     let parts = tuples_unnamed tuple db none in
     let apart : has_prefix asked tuple ≡ false = ap (λ o. option_map_or (λ (network : Network). is_prefix network.bits network.ip asked) o false) parts.0 in
-    ap (λ (b : Bool). cond b (place ∷ places_of (has_prefix asked) (place + 1) db) (places_of (has_prefix asked) (place + 1) db)) apart
+    ap (λ (b : Bool). cond b (place ∷ tuple_places (has_prefix asked) (place + 1) db) (tuple_places (has_prefix asked) (place + 1) db)) apart
     ∙ placed asked (place + 1) db parts.1
 
-pub none_placed : (asked : Prefix) (place : ℕ) (db : Db) → list_any (has_attr (codes "ipnet")) (all_pairs db) ≡ false → places_of (has_prefix asked) place db ≡ []
+pub none_placed : (asked : Prefix) (place : ℕ) (db : Db) → list_any (has_attr (codes "ipnet")) (all_pairs db) ≡ false → tuple_places (has_prefix asked) place db ≡ []
 unfolding IsUnnamed
 none_placed asked place db none = placed asked place db none
 

@@ -5,7 +5,7 @@ use Rattle.net_base.specs.Ndb.{NdbPair}
 use Rattle.net_base.specs.Store.{all_pairs}
 use Rattle.ndb_chains.specs.declared.chains.Chains.{Chains}
 use Rattle.ndb_chains.specs.Chains.{width_of, AreChains}
-use Rattle.ndb_index.specs.Hashing.{bucket_in, pair_bucket}
+use Rattle.ndb_index.specs.Hashing.{bucket_of_pair, pair_bucket}
 
 -- how many buckets there are for the pairs of a database: about a quarter as many
 abbrev pub width_for : List (List (List NdbPair)) → ℕ
@@ -13,7 +13,7 @@ width_for db = length (all_pairs db) / 4 + 1
 
 -- how many pairs of a database have a pair's bucket
 abbrev pub alike : List ℕ → List ℕ → List (List (List NdbPair)) → ℕ
-alike attr value db = length (filter (λ pair. pair_bucket (width_for db) pair == bucket_in (width_for db) attr value) (all_pairs db))
+alike attr value db = length (filter (λ pair. pair_bucket (width_for db) pair == bucket_of_pair (width_for db) attr value) (all_pairs db))
 
 -- the chains hold all pairs in a row by their buckets
 pub record AreByPair (db : List (List (List NdbPair))) (chains : Chains) : Type 0 where

@@ -26,19 +26,19 @@ spots_with attr value db = spots_from 0 attr value db
 -- What is found so far.
 
 -- the last spot is in the tuple at this place
-abbrev pub ends_at : ℕ → List Spot → Bool
-ends_at place spots = option_map_or (λ spot. spot.place == place) (slice_get spots (length spots - 1)) false
+abbrev pub spot_ends_at : ℕ → List Spot → Bool
+spot_ends_at place spots = option_map_or (λ spot. spot.place == place) (slice_get spots (length spots - 1)) false
 
 -- the spots with one more, where the last one isn't in the same tuple
 abbrev pub with_spot : Spot → List Spot → List Spot
-with_spot spot spots = if ends_at spot.place spots then spots else spots ++ spot ∷ []
+with_spot spot spots = if spot_ends_at spot.place spots then spots else spots ++ spot ∷ []
 
 -- the spots of a pair after one that stands there, or of another
-abbrev pub noted : Bool → Spot → List Spot → List Spot
-noted stands spot spots = if stands then with_spot spot spots else spots
+abbrev pub spots_noted : Bool → Spot → List Spot → List Spot
+spots_noted stands spot spots = if stands then with_spot spot spots else spots
 
 -- the spots after the lines of the tuple at a place, of which the first has this number
 abbrev pub lines_noted : ℕ → ℕ → List ℕ → List ℕ → List (List NdbPair) → List Spot → List Spot
 lines_noted place number attr value [] spots = spots
 lines_noted place number attr value (line ∷ lines) spots =
-    lines_noted place (number + 1) attr value lines (noted (line_has attr value line) (spot_at place number) spots)
+    lines_noted place (number + 1) attr value lines (spots_noted (line_has attr value line) (spot_at place number) spots)

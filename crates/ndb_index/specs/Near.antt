@@ -7,8 +7,8 @@ use Rattle.ndb_tuple.specs.Numbers.{numbers_in}
 use Rattle.net_base.specs.declared.ndb.spot.Spot.{Spot}
 
 -- the places are in the database
-abbrev pub AreWithin : List (List (List NdbPair)) → List ℕ → Type 0
-AreWithin db places = (i : ℕ) → i < length places → get_or places i 0 < length db
+abbrev pub AreWithinNear : List (List (List NdbPair)) → List ℕ → Type 0
+AreWithinNear db places = (i : ℕ) → i < length places → get_or places i 0 < length db
 
 abbrev pub SpotsWithin : List (List (List NdbPair)) → List Spot → Type 0
 SpotsWithin db spots = (i : ℕ) (d : Spot) → i < length spots → (get_or spots i d).place < length db
@@ -18,8 +18,8 @@ abbrev pub tuples_at : List (List (List NdbPair)) → List ℕ → List (List (L
 tuples_at db places = map (λ place. get_or db place []) places
 
 -- the places are those of the tuples that contain a pair, in order, one for each
-pub record Finds (db : List (List (List NdbPair))) (attr value places : List ℕ) : Type 0 where
-  pub within : AreWithin db places
+pub record FindsPlaces (db : List (List (List NdbPair))) (attr value places : List ℕ) : Type 0 where
+  pub within : AreWithinNear db places
   pub tuples : tuples_at db places ≡ tuples_with attr value db
   pub count : length places ≡ length (tuples_with attr value db)
 

@@ -7,7 +7,7 @@ use Rattle.net_base.specs.Ndb.{NdbPair}
 use Rattle.net_base.specs.Networks.{network_of, contains_address, is_filled}
 use Rattle.ndb_tuple.specs.declared.prefixes.Prefix.{Prefix}
 use Rattle.ndb_tuple.specs.Prefixes.{is_prefix, is_on_prefix, same_prefix, prefix_of}
-use Rattle.ndb_tuple.specs.Places.{places_of}
+use Rattle.ndb_tuple.specs.Places.{tuple_places}
 
 abbrev pub prefix : ℕ → ℕ → Prefix
 prefix bits first = record { bits = bits; first = first }
@@ -36,7 +36,7 @@ place_noted has place places = if has then places ++ place ∷ [] else places
 
 -- by each prefix are kept the places of the networks of a database that have it
 abbrev pub HasPlaces : List (List (List NdbPair)) → List (Prefix × List ℕ) → Type 0
-HasPlaces db networks = (asked : Prefix) → places_kept asked networks ≡ places_of (has_prefix asked) 0 db
+HasPlaces db networks = (asked : Prefix) → places_kept asked networks ≡ tuple_places (has_prefix asked) 0 db
 
 -- the lengths of all networks of a database are among these
 abbrev pub HasAllLengths : List ℕ → List (List (List NdbPair)) → Type 0
@@ -51,17 +51,17 @@ is_covered networks bits ips ip =
     list_any (λ own. is_filled (places_kept (prefix_of bits own) networks) && is_on_prefix ip (prefix_of bits own)) ips
 
 -- the place is one of these
-abbrev pub is_among : ℕ → List ℕ → Bool
-is_among place places = list_any (nat_eq place) places
+abbrev pub is_place_among : ℕ → List ℕ → Bool
+is_place_among place places = list_any (nat_eq place) places
 
 -- the tuple describes a network with so many bits that contains one of the addresses
-abbrev pub is_own : ℕ → List ℕ → List (List NdbPair) → Bool
-is_own bits ips tuple =
+abbrev pub is_own_network : ℕ → List ℕ → List (List NdbPair) → Bool
+is_own_network bits ips tuple =
     option_map_or (λ network. network.bits == bits && list_any (contains_address network) ips) (network_of tuple) false
 
 -- the places of such tuples
 abbrev pub own_places : ℕ → List ℕ → List (List (List NdbPair)) → List ℕ
-own_places bits ips db = places_of (is_own bits ips) 0 db
+own_places bits ips db = tuple_places (is_own_network bits ips) 0 db
 
 -- the places of the networks that contain one of the addresses, those with the longest mask first
 abbrev pub longest_places : List ℕ → List (List (List NdbPair)) → List ℕ

@@ -17,10 +17,10 @@ fn hash_on(hash: u64, bytes: &[u8]) -> u64
 }
 
 /// The bucket of a pair, of so many: by the hash of its attribute with its value behind it.
-#[tactic(auto, unfolding(crate::specs::Hashing::bucket_in))]
+#[tactic(auto, unfolding(crate::specs::Hashing::bucket_of_pair))]
 pub fn bucket_of(width: usize, attr: &[u8], value: &[u8]) -> usize
     requires { 0 < width }
-    ensures value { result ≡ spec.bucket_in width attr.now value.now }
+    ensures value { result ≡ spec.bucket_of_pair width attr.now value.now }
     ensures within { result < width }
 {
     let hash = hash_on(hash_on(FIRST, attr), value);

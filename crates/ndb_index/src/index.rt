@@ -3,7 +3,7 @@ ghost use Rattle.std.specs.Prelude.{◌≡◌, ◌+◌, ◌<◌, ◌≤◌, [], 
 ghost use Rattle.net_base.specs.Search as spec;
 ghost use Rattle.ndb_tuple.specs.Places.{places_with};
 ghost use Rattle.ndb_index.specs.Kept.{spots_with};
-ghost use Rattle.ndb_index.specs.Near.{Finds};
+ghost use Rattle.ndb_index.specs.Near.{FindsPlaces};
 ghost use Rattle.ndb_index.specs.Nets.{HasPlaces, HasAllLengths};
 
 use crate::networks::{self, Networks};
@@ -129,7 +129,7 @@ impl Index {
         ensures places { IfOk result (λ places. places ≡ places_with attr.now value.now self.now) }
         ensures tuples { IfOk result (λ places. filter_map (slice_get self.now) places
             ≡ spec.tuples_with attr.now value.now self.now) }
-        ensures found { IfOk result (Finds self.now attr.now value.now) }
+        ensures found { IfOk result (FindsPlaces self.now attr.now value.now) }
     {
         let spots = self.spots(alloc, attr, value)?;
         let places = places_at(alloc, &spots)?;

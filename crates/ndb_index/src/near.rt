@@ -4,7 +4,7 @@ ghost use Rattle.net_base.specs.Networks as spec;
 ghost use Rattle.ndb_tuple.specs.Closest.{first_filled};
 ghost use Rattle.ndb_tuple.specs.Prefixes.{covers};
 ghost use Rattle.ndb_index.specs.Index.{own_count, near_count};
-ghost use Rattle.ndb_index.specs.Near.{AreWithin, SpotsWithin, tuples_at, spot_tuples, numbers_of};
+ghost use Rattle.ndb_index.specs.Near.{AreWithinNear, SpotsWithin, tuples_at, spot_tuples, numbers_of};
 ghost use Rattle.ndb_index.specs.Nets.{longest_places};
 
 use crate::index::Index;
@@ -51,7 +51,7 @@ impl Index {
         attr: &[u8],
         steps: &mut Steps<L>,
     ) -> Result<Option<Lines>, AllocError>
-        requires { AreWithin self.now places.now }
+        requires { AreWithinNear self.now places.now }
         ensures values { IfOk result (λ values. values ≡ first_filled attr.now (tuples_at self.now places.now)) }
         ensures cost { steps.new ≤ steps.old + length places.now }
     {

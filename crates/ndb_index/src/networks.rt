@@ -4,7 +4,7 @@ ghost use Rattle.std.specs.List.{list_any};
 ghost use Rattle.net_base.specs.Ndb.{NdbPair};
 ghost use Rattle.ndb_tuple.specs.declared.prefixes.Prefix.{Prefix as Seen};
 ghost use Rattle.ndb_tuple.specs.Prefixes.{covers, same_prefix};
-ghost use Rattle.ndb_index.specs.Nets.{places_kept, places_found, place_noted, has_prefix, has_length, is_covered, is_among, prefix, HasPlaces, HasAllLengths, own_places, longest_places};
+ghost use Rattle.ndb_index.specs.Nets.{places_kept, places_found, place_noted, has_prefix, has_length, is_covered, is_place_among, prefix, HasPlaces, HasAllLengths, own_places, longest_places};
 
 use indexmap::{IndexMap, IndexSet};
 use ndb_tuple::{Places, Prefix, Prefixes, firsts_of, network_of};
@@ -117,8 +117,8 @@ pub fn prefixes_of(
 
 /// Adds places to a set of them.
 fn add_places(places: &[u64], set: &mut BTreeSet<u64>) -> Result<(), AllocError>
-    ensures { OnOk result ((place : ℕ) → is_among place set.new.keys
-        ≡ (is_among place set.old.keys || is_among place places.now)) }
+    ensures { OnOk result ((place : ℕ) → is_place_among place set.new.keys
+        ≡ (is_place_among place set.old.keys || is_place_among place places.now)) }
 {
     for place in places {
         set.insert(*place)?;
@@ -133,8 +133,8 @@ fn places_with(
     bits: u32,
     firsts: &[u32],
 ) -> Result<BTreeSet<u64>, AllocError>
-    ensures { IfOk result (λ set. (place : ℕ) → is_among place set.keys
-        ≡ list_any (λ first. is_among place (places_kept (prefix bits first) networks.now.entries)) firsts.now) }
+    ensures { IfOk result (λ set. (place : ℕ) → is_place_among place set.keys
+        ≡ list_any (λ first. is_place_among place (places_kept (prefix bits first) networks.now.entries)) firsts.now) }
 {
     let mut set = BTreeSet::new(alloc);
     for first in firsts {

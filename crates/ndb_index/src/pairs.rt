@@ -31,7 +31,7 @@ pub fn chains_of(alloc: Global, db: &Db) -> Result<Chains, AllocError>
 
 /// Whether the last spot is in the tuple at a place.
 fn ends_at(spots: &[Spot], place: u64) -> bool
-    ensures { result ≡ spec.ends_at place spots.now }
+    ensures { result ≡ spec.spot_ends_at place spots.now }
 {
     match spots.last() {
         Some(spot) => spot.place == place,
@@ -62,7 +62,7 @@ fn add_found<P: Ledger>(
 ) -> Result<(), AllocError>
     requires { number < length (all_pairs tuples.now) }
     ensures noted { OnOk result ((p : NdbPair) (s : Seen) → spots.new.items
-        ≡ spec.noted (is_pair attr.now value.now (get_or (all_pairs tuples.now) number p))
+        ≡ spec.spots_noted (is_pair attr.now value.now (get_or (all_pairs tuples.now) number p))
         (get_or (pair_spots tuples.now) number s) spots.old.items) }
     ensures cost { steps.new ≡ steps.old + 1 }
 {

@@ -1,7 +1,7 @@
 //! The tuples with a pair, by its spots.
 ghost use Rattle.std.specs.Prelude.{◌≡◌, ◌+◌, ◌<◌, ◌≤◌, length, map, IfOk};
 ghost use Rattle.net_base.specs.Store.{all_pairs};
-ghost use Rattle.ndb_index.specs.Near.{Finds};
+ghost use Rattle.ndb_index.specs.Near.{FindsPlaces};
 
 use crate::pairs::spots_scanned;
 use ndb_reader::{Steps, Tuples};
@@ -29,7 +29,7 @@ pub fn search_scanned(
     attr: &[u8],
     value: &[u8],
 ) -> Result<Places, AllocError>
-    ensures { IfOk result (Finds tuples.now attr.now value.now) }
+    ensures { IfOk result (FindsPlaces tuples.now attr.now value.now) }
 {
     search_by::<Brand>(alloc, tuples, attr, value, Blank::new(1))
 }
@@ -45,7 +45,7 @@ fn search_by<P: Ledger>(
     requires name { blank.name ≡ P.name }
     requires parts { blank.parts ≡ P.parts }
     requires some { 0 < blank.parts }
-    ensures { IfOk result (Finds tuples.now attr.now value.now) }
+    ensures { IfOk result (FindsPlaces tuples.now attr.now value.now) }
 {
     let mut steps = Steps::<P>::new(blank);
     let places = search_counted(alloc, tuples, attr, value, &mut steps)?;
@@ -60,7 +60,7 @@ fn search_counted<P: Ledger>(
     value: &[u8],
     steps: &mut Steps<P>,
 ) -> Result<Places, AllocError>
-    ensures found { IfOk result (Finds tuples.now attr.now value.now) }
+    ensures found { IfOk result (FindsPlaces tuples.now attr.now value.now) }
     ensures cost { steps.new ≤ steps.old + length (all_pairs tuples.now) }
 {
     let spots = spots_scanned(alloc, tuples, attr, value, steps)?;

@@ -4,16 +4,16 @@ use Rattle.std.specs.Prelude.{flat_map}
 use Rattle.std.proofs.lemmas.List.{take_more}
 use Rattle.std.proofs.lemmas.List.Concat.{flat_map-append}
 use Rattle.net_base.specs.Ndb.{NdbPair}
-use Rattle.ndb_reader.specs.Written.{line_text}
+use Rattle.ndb_reader.specs.Written.{pairs_text}
 
 -- the lines of a tuple so far
 abbrev pub flat : List (List NdbPair) → List NdbPair
 flat tuple = flat_map (λ line. line) tuple
 
 pub flat-next : (tuple : List (List NdbPair)) (n : ℕ) (line : List NdbPair) (out new : List ℕ) → n < length tuple → line ≡ get_or tuple n []
-    → ((pairs : List NdbPair) → out ≡ line_text pairs → new ≡ line_text (pairs ++ line)) → out ≡ line_text (flat (take n tuple)) → new ≡ line_text (flat (take (n + 1) tuple))
+    → ((pairs : List NdbPair) → out ≡ pairs_text pairs → new ≡ pairs_text (pairs ++ line)) → out ≡ pairs_text (flat (take n tuple)) → new ≡ pairs_text (flat (take (n + 1) tuple))
 flat-next tuple n line out new h here step is =
     step (flat (take n tuple)) is
-    ∙ ap line_text (ap (λ (l : List NdbPair). flat (take n tuple) ++ l) (here ∙ sym (append-nil (get_or tuple n [])))
+    ∙ ap pairs_text (ap (λ (l : List NdbPair). flat (take n tuple) ++ l) (here ∙ sym (append-nil (get_or tuple n [])))
     ∙ sym (flat_map-append (λ (l : List NdbPair). l) (take n tuple) (get_or tuple n [] ∷ []))
     ∙ ap flat (sym (take_more tuple n [] h)))

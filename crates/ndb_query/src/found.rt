@@ -2,8 +2,8 @@
 ghost use Rattle.std.specs.Prelude.{◌≡◌, ◌+◌, ◌<◌, ◌≤◌, flat_map, length, map, IfOk};
 ghost use Rattle.net_base.specs.Search.{tuples_with, beside, all_beside};
 ghost use Rattle.ndb_index.specs.Index.{found};
-ghost use Rattle.ndb_index.specs.Near.{AreWithin, tuples_at};
-ghost use Rattle.ndb_query.specs.Told.{tuple_text};
+ghost use Rattle.ndb_index.specs.Near.{AreWithinNear, tuples_at};
+ghost use Rattle.ndb_query.specs.Told.{tuple_as_line};
 
 use ndb_index::search_scanned;
 use ndb_reader::{Steps, Tuples, put_line};
@@ -15,7 +15,7 @@ use std::sync::ledger::{Blank, Ledger};
 
 /// The pairs of a tuple in order, as the text of a database spells them, with a blank between them.
 fn tuple_line(alloc: Global, tuple: &Tuple<'_>) -> Result<Octets, AllocError>
-    ensures { IfOk result (λ text. text ≡ tuple_text tuple.now) }
+    ensures { IfOk result (λ text. text ≡ tuple_as_line tuple.now) }
 {
     let mut out = Octets::new(alloc);
     for number in 0..tuple.len() {
@@ -31,8 +31,8 @@ fn place_lines<L: Ledger>(
     places: &[u64],
     steps: &mut Steps<L>,
 ) -> Result<Lines, AllocError>
-    requires { AreWithin tuples.now places.now }
-    ensures lines { IfOk result (λ lines. lines ≡ map tuple_text (tuples_at tuples.now places.now)) }
+    requires { AreWithinNear tuples.now places.now }
+    ensures lines { IfOk result (λ lines. lines ≡ map tuple_as_line (tuples_at tuples.now places.now)) }
     ensures cost { steps.new ≤ steps.old + length places.now }
 {
     let mut lines = Lines::new(alloc);
@@ -53,7 +53,7 @@ fn place_values<L: Ledger>(
     other: &[u8],
     steps: &mut Steps<L>,
 ) -> Result<Lines, AllocError>
-    requires { AreWithin tuples.now places.now }
+    requires { AreWithinNear tuples.now places.now }
     ensures values { IfOk result (λ values. values
         ≡ flat_map (beside attr.now value.now other.now) (tuples_at tuples.now places.now)) }
     ensures cost { steps.new ≤ steps.old + length places.now }
@@ -74,7 +74,7 @@ fn tuples_counted<L: Ledger>(
     value: &[u8],
     steps: &mut Steps<L>,
 ) -> Result<Lines, AllocError>
-    ensures lines { IfOk result (λ lines. lines ≡ map tuple_text (tuples_with attr.now value.now tuples.now)) }
+    ensures lines { IfOk result (λ lines. lines ≡ map tuple_as_line (tuples_with attr.now value.now tuples.now)) }
     ensures cost { steps.new ≤ steps.old + found attr.now value.now tuples.now }
 {
     let places = search_scanned(alloc, tuples, attr, value)?;
@@ -110,7 +110,7 @@ fn tuple_lines<L: Ledger>(
     requires name { blank.name ≡ L.name }
     requires parts { blank.parts ≡ L.parts }
     requires some { 0 < blank.parts }
-    ensures { IfOk result (λ lines. lines ≡ map tuple_text (tuples_with attr.now value.now db)) }
+    ensures { IfOk result (λ lines. lines ≡ map tuple_as_line (tuples_with attr.now value.now db)) }
 {
     let tuples = Tuples::new(db);
     let mut steps = Steps::<L>::new(blank);
@@ -140,7 +140,7 @@ fn beside_values<L: Ledger>(
 
 /// The tuples with a pair, a line each: its pairs in order, with a blank between them.
 pub fn tuples_found(alloc: Global, db: Db, attr: &[u8], value: &[u8]) -> Result<Lines, AllocError>
-    ensures { IfOk result (λ lines. lines ≡ map tuple_text (tuples_with attr.now value.now db)) }
+    ensures { IfOk result (λ lines. lines ≡ map tuple_as_line (tuples_with attr.now value.now db)) }
 {
     let lines = tuple_lines::<Brand>(alloc, db, attr, value, Blank::new(1))?;
     Ok(lines)

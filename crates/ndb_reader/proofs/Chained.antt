@@ -13,7 +13,7 @@ use Rattle.ndb_chains.specs.declared.chains.Chains.{Chains}
 use Rattle.ndb_chains.specs.Chains.{first_in, width_of, AreChains}
 use Rattle.ndb_chains.proofs.Shared.{in_bucket, Met, met, none-met}
 use Rattle.ndb_reader.specs.Filed.{tuples_of}
-use Rattle.ndb_reader.specs.Names.{names_seen, bucket_in, AreByName}
+use Rattle.ndb_reader.specs.Names.{names_seen, name_bucket, AreByName}
 use Rattle.ndb_reader.proofs.Once.{turned}
 use Rattle.net_base.proofs.Shared.{same_text, equal_texts}
 
@@ -27,7 +27,7 @@ module _ {Z : Type 0} where
   seen-at name [] = refl
   seen-at name (key ∷ keys) = ap (λ (n : ℕ). cond (not (bytes_eq name (vec_items key))) (1 + n) 0) (seen-at name keys)
 
-  pub bucket-is : (name : List ℕ) (keys : List (Vec ℕ Z)) → unwrap_or (position (λ key. bytes_eq name (vec_items key)) keys) (length keys) ≡ bucket_in (names_seen keys) name
+  pub bucket-is : (name : List ℕ) (keys : List (Vec ℕ Z)) → unwrap_or (position (λ key. bytes_eq name (vec_items key)) keys) (length keys) ≡ name_bucket (names_seen keys) name
   bucket-is name keys =
       at_or (position_or_len (λ key. bytes_eq name (vec_items key)) keys) (nat_lt (position_or_len (λ key. bytes_eq name (vec_items key)) keys) (length keys)) refl (prefix_len-le-length (λ key. not (bytes_eq name (vec_items key))) keys)
       ∙ sym (seen-at name keys)
@@ -44,20 +44,20 @@ next-same a b = by (a == b) refl
     by false e = grind (arith, nat_tests, e)
 
 -- names with one number are the same, where one of them is among those that are numbered
-bucket-same : (names : List (List ℕ)) (f n : List ℕ) → list_any (bytes_eq n) names ≡ true → (bucket_in names f == bucket_in names n) ≡ bytes_eq f n
+bucket-same : (names : List (List ℕ)) (f n : List ℕ) → list_any (bytes_eq n) names ≡ true → (name_bucket names f == name_bucket names n) ≡ bytes_eq f n
 bucket-same [] f n among = absurd cc
 bucket-same (x ∷ names) f n among = by (bytes_eq f x) refl (bytes_eq n x) refl among (bucket-same names f n)
   where
-    by : (bf : Bool) → bytes_eq f x ≡ bf → (bn : Bool) → bytes_eq n x ≡ bn → (bn || list_any (bytes_eq n) names) ≡ true → (list_any (bytes_eq n) names ≡ true → (bucket_in names f == bucket_in names n) ≡ bytes_eq f n)
-        → (cond (not bf) (1 + bucket_in names f) 0 == cond (not bn) (1 + bucket_in names n) 0) ≡ bytes_eq f n
+    by : (bf : Bool) → bytes_eq f x ≡ bf → (bn : Bool) → bytes_eq n x ≡ bn → (bn || list_any (bytes_eq n) names) ≡ true → (list_any (bytes_eq n) names ≡ true → (name_bucket names f == name_bucket names n) ≡ bytes_eq f n)
+        → (cond (not bf) (1 + name_bucket names f) 0 == cond (not bn) (1 + name_bucket names n) 0) ≡ bytes_eq f n
     by true ef true en here later = sym (ap (bytes_eq f) (equal_texts n x en) ∙ ef)
     by true ef false en here later =
-        let zero-not : (0 == 1 + bucket_in names n) ≡ false = grind (arith, nat_tests) in
+        let zero-not : (0 == 1 + name_bucket names n) ≡ false = grind (arith, nat_tests) in
         zero-not ∙ sym (ap (λ (g : List ℕ). bytes_eq g n) (equal_texts f x ef) ∙ turned x n ∙ en)
     by false ef true en here later =
-        let not-zero : (1 + bucket_in names f == 0) ≡ false = grind (arith, nat_tests) in
+        let not-zero : (1 + name_bucket names f == 0) ≡ false = grind (arith, nat_tests) in
         not-zero ∙ sym (ap (bytes_eq f) (equal_texts n x en) ∙ ef)
-    by false ef false en here later = next-same (bucket_in names f) (bucket_in names n) ∙ later here
+    by false ef false en here later = next-same (name_bucket names f) (name_bucket names n) ∙ later here
 
 filter-alike : (p q : File → Bool) → ((f : File) → p f ≡ q f) → (files : List File) → filter p files ≡ filter q files
 filter-alike p q alike [] = refl
@@ -68,11 +68,11 @@ filter-alike p q alike (f ∷ files) =
 -- The walk.
 
 abbrev pub number_of : List (List ℕ) → File → ℕ
-number_of names file = bucket_in names file.name
+number_of names file = name_bucket names file.name
 
-bucket-named : (names : List (List ℕ)) (name : List ℕ) (files : List File) → list_any (bytes_eq name) names ≡ true → tuples_of (in_bucket (number_of names) (bucket_in names name) files) ≡ tuples_named files name
+bucket-named : (names : List (List ℕ)) (name : List ℕ) (files : List File) → list_any (bytes_eq name) names ≡ true → tuples_of (in_bucket (number_of names) (name_bucket names name) files) ≡ tuples_named files name
 bucket-named names name files among =
-    ap tuples_of (filter-alike (λ (file : File). bucket_in names file.name == bucket_in names name) (λ (file : File). bytes_eq file.name name) (λ file. bucket-same names file.name name among) files)
+    ap tuples_of (filter-alike (λ (file : File). name_bucket names file.name == name_bucket names name) (λ (file : File). bytes_eq file.name name) (λ file. bucket-same names file.name name among) files)
 
 -- so many files are left, and the tuples of those before them that have the number are added
 pub record Walk (names : List (List ℕ)) (files : List File) (bucket left : ℕ) (first out : Grown) : Type 0 where
@@ -138,7 +138,7 @@ walk-next names files bucket left count next chains first out new w some held co
     falls : (behind : List File) → next ≡ first_in bucket (map (number_of names) behind) → left ≡ suc (length behind) → next < left
     falls behind at is = omega (arith, at, is, first-le bucket (map (number_of names) behind), length-map behind (number_of names))
 
-pub walk-all : (names : List (List ℕ)) (files : List File) (name : List ℕ) (bucket left : ℕ) (first out : Grown) → Walk names files bucket left first out → left ≡ 0 → bucket ≡ bucket_in names name → list_any (bytes_eq name) names ≡ true → out ≡ with_tuples (tuples_named files name) first
+pub walk-all : (names : List (List ℕ)) (files : List File) (name : List ℕ) (bucket left : ℕ) (first out : Grown) → Walk names files bucket left first out → left ≡ 0 → bucket ≡ name_bucket names name → list_any (bytes_eq name) names ≡ true → out ≡ with_tuples (tuples_named files name) first
 walk-all names files name bucket left first out w none is among =
     let key = number_of names in
     let nothing : in_bucket key bucket w.rest ≡ [] = none-met key bucket w.rest (sym w.count ∙ none) in
@@ -167,14 +167,14 @@ chaining-none names files chains width are = record {
     nothing (f ∷ fs) (suc n) is = nothing fs n (omega (arith, is))
 
 pub chaining-next : (names : List (List ℕ)) (files : List File) (count back bucket : ℕ) (name : List ℕ) (chains new : Chains) → Chaining names files back chains → count ≡ length files → back < count
-    → ((d : File) → name ≡ (get_or files (count - 1 - back) d).name) → bucket ≡ bucket_in names name → width_of new ≡ width_of chains
+    → ((d : File) → name ≡ (get_or files (count - 1 - back) d).name) → bucket ≡ name_bucket names name → width_of new ≡ width_of chains
     → ((buckets : List ℕ) → AreChains chains buckets → AreChains new (bucket ∷ buckets)) → Chaining names files (back + 1) new
 chaining-next names files count back bucket name chains new c counted h named is same pushed =
     let key = number_of names in
     let d : File = record { name = []; tuples = [] } in
     let i : ℕ = length files - (back + 1) in
     let at : count - 1 - back ≡ i = omega (arith, counted, h) in
-    let here : bucket ≡ key (get_or files i d) = is ∙ ap (bucket_in names) (named d) ∙ ap (λ (k : ℕ). bucket_in names (get_or files k d).name) at in
+    let here : bucket ≡ key (get_or files i d) = is ∙ ap (name_bucket names) (named d) ∙ ap (λ (k : ℕ). name_bucket names (get_or files k d).name) at in
     let within : i < length files = omega (arith, counted, h) in
     let up : i + 1 ≡ length files - back = omega (arith, counted, h) in
     let keys : map key (drop i files) ≡ bucket ∷ map key (drop (length files - back) files) =

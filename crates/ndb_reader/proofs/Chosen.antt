@@ -6,7 +6,7 @@ use Rattle.std.proofs.lemmas.List.{map-append, at_drop_more, nil_from_length}
 use Rattle.net_base.specs.Ndb.{NdbPair}
 use Rattle.net_base.specs.Search.{has_attr, values_on, values_in}
 use Rattle.net_base.specs.NdbBundle.{each_once}
-use Rattle.ndb_reader.specs.Names.{with_name, with_names, names_seen}
+use Rattle.ndb_reader.specs.Names.{with_one_name, with_names, names_seen}
 use Rattle.ndb_reader.proofs.Once.{turned, once_all, names_append}
 
 abbrev pub Names : Type 0
@@ -27,7 +27,7 @@ module _ {Z : Type 0} where
       ∙ ap (λ b. same key k || b) (any_seen key name is ks)
 
   -- a name that is put among keys
-  pub name_put : (keys after : List (Vec ℕ Z)) (key : Vec ℕ Z) (name : List ℕ) → vec_items key ≡ name → after ≡ cond (list_any (same key) keys) keys (keys ++ key ∷ []) → names_seen after ≡ with_name (names_seen keys) name
+  pub name_put : (keys after : List (Vec ℕ Z)) (key : Vec ℕ Z) (name : List ℕ) → vec_items key ≡ name → after ≡ cond (list_any (same key) keys) keys (keys ++ key ∷ []) → names_seen after ≡ with_one_name (names_seen keys) name
   name_put keys after key name is put =
       ap (λ (ks : List (Vec ℕ Z)). names_seen ks) put
       ∙ by (list_any (same key) keys)

@@ -9,7 +9,7 @@ use Rattle.net_base.specs.NdbBundle.{File, tuples_named}
 use Rattle.net_base.specs.Store.{Grown, with_tuples, empty}
 use Rattle.net_base.proofs.Shared.{slice-length}
 use Rattle.ndb_reader.specs.declared.files.FileEnd.{FileEnd}
-use Rattle.ndb_reader.specs.Filed.{files_in, tuple_at, tuples_of, FilesRise}
+use Rattle.ndb_reader.specs.Filed.{files_ended, tuple_at, tuples_of, FilesRise}
 use Rattle.ndb_reader.specs.Names.{names_seen}
 use Rattle.ndb_reader.proofs.Filing.{Tuples, rise-starts, files-length}
 use Rattle.ndb_reader.proofs.Chained.{gathered, gathered-next}
@@ -75,7 +75,7 @@ at-least name tuple ends bytes count zero rise h = omega arith
 at-least name tuple [] bytes count (suc n) rise h = absurd (omega (arith, h))
 at-least name tuple (end ∷ ends) bytes count (suc n) rise h = omega (arith, rise.1, at-least end.name end.tuple ends bytes count n rise.2 (omega (arith, h)))
 
-files-first : (name tuple : ℕ) (ends : List FileEnd) (names : List ℕ) (db : Tuples) (n : ℕ) → FilesRise name tuple ends (length names) (length db) → n ≤ length ends → slice_range db tuple (tuple_at tuple ends n) ≡ tuples_of (take n (files_in name tuple ends names db))
+files-first : (name tuple : ℕ) (ends : List FileEnd) (names : List ℕ) (db : Tuples) (n : ℕ) → FilesRise name tuple ends (length names) (length db) → n ≤ length ends → slice_range db tuple (tuple_at tuple ends n) ≡ tuples_of (take n (files_ended name tuple ends names db))
 files-first name tuple ends names db zero rise h =
     let none : tuple - tuple ≡ 0 = omega arith in
     ap (λ (k : ℕ). take k (drop tuple db)) none
@@ -85,7 +85,7 @@ files-first name tuple (end ∷ ends) names db (suc n) rise h =
     slice-join db tuple end.tuple (tuple_at end.tuple ends n) rise.1 (at-least end.name end.tuple ends (length names) (length db) n rise.2 rest) (rise-starts end.name end.tuple ends (length names) (length db) rise.2).1
     ∙ ap (λ (ts : Tuples). slice_range db tuple end.tuple ++ ts) (files-first end.name end.tuple ends names db n rise.2 rest)
 
-pub first-row : (ends : List FileEnd) (names : List ℕ) (db : Tuples) (n end : ℕ) → FilesRise 0 0 ends (length names) (length db) → n ≤ length (files_in 0 0 ends names db) → end ≡ tuple_at 0 ends n → take end db ≡ tuples_of (take n (files_in 0 0 ends names db))
+pub first-row : (ends : List FileEnd) (names : List ℕ) (db : Tuples) (n end : ℕ) → FilesRise 0 0 ends (length names) (length db) → n ≤ length (files_ended 0 0 ends names db) → end ≡ tuple_at 0 ends n → take end db ≡ tuples_of (take n (files_ended 0 0 ends names db))
 first-row ends names db n end rise h is =
     let within : n ≤ length ends = omega (arith, h, files-length 0 0 ends names db) in
     let whole : tuple_at 0 ends n ≡ tuple_at 0 ends n - 0 = omega arith in
@@ -104,10 +104,10 @@ row-within name tuple [] bytes count (suc n) rise h = absurd (omega (arith, h))
 row-within name tuple (end ∷ ends) bytes count (suc n) rise h = row-within end.name end.tuple ends bytes count n rise.2 (omega (arith, h))
 
 -- the tuples of a row behind those of the files before it
-pub row-kept : (ends : List FileEnd) (names : List ℕ) (db own : Tuples) (first end from to : ℕ) → FilesRise 0 0 ends (length names) (length db) → first ≤ end → end ≤ length (files_in 0 0 ends names db)
-    → from ≡ tuple_at 0 ends first → to ≡ tuple_at 0 ends end → own ≡ slice_range db from to → tuples_of (take first (files_in 0 0 ends names db)) ++ own ≡ tuples_of (take end (files_in 0 0 ends names db))
+pub row-kept : (ends : List FileEnd) (names : List ℕ) (db own : Tuples) (first end from to : ℕ) → FilesRise 0 0 ends (length names) (length db) → first ≤ end → end ≤ length (files_ended 0 0 ends names db)
+    → from ≡ tuple_at 0 ends first → to ≡ tuple_at 0 ends end → own ≡ slice_range db from to → tuples_of (take first (files_ended 0 0 ends names db)) ++ own ≡ tuples_of (take end (files_ended 0 0 ends names db))
 row-kept ends names db own first end from to rise le h begins stops is =
-    let files : List File = files_in 0 0 ends names db in
+    let files : List File = files_ended 0 0 ends names db in
     let within : end ≤ length ends = omega (arith, h, files-length 0 0 ends names db) in
     let rises : from ≤ to = omega (arith, begins, stops, row-rises 0 0 ends (length names) (length db) first end rise le within) in
     let inside : from ≤ length db = omega (arith, begins, row-within 0 0 ends (length names) (length db) first rise (omega (arith, le, within))) in

@@ -6,7 +6,7 @@ use Rattle.std.proofs.lemmas.List.Elements.{filter-append}
 use Rattle.std.proofs.lemmas.Slice.Eq.{bytes_eq-Decides}
 use Rattle.net_base.specs.NdbBundle.{each_once}
 use Rattle.ndb_text.proofs.Shared.{false_true}
-use Rattle.ndb_reader.specs.Names.{with_name, with_names}
+use Rattle.ndb_reader.specs.Names.{with_one_name, with_names}
 use Rattle.net_base.proofs.Shared.{equal_texts}
 
 -- the names that are not this one
@@ -41,7 +41,7 @@ others_push x n ns b same =
     ∙ ap (λ holds. others x ns ++ cond (not holds) (n ∷ []) []) same
 
 -- one more name
-once_push : (ns : List (List ℕ)) (n : List ℕ) → each_once (ns ++ n ∷ []) ≡ with_name (each_once ns) n
+once_push : (ns : List (List ℕ)) (n : List ℕ) → each_once (ns ++ n ∷ []) ≡ with_one_name (each_once ns) n
 unfolding among others
 once_push [] n = refl
 once_push (x ∷ ns) n = ap (λ rest. x ∷ others x rest) (once_push ns n) ∙ at (bytes_eq x n) refl (among n (each_once ns)) refl
@@ -67,4 +67,4 @@ once_all ms = once_more [] ms
 -- names in two rows
 pub names_append : (ns xs ys : List (List ℕ)) → with_names ns (xs ++ ys) ≡ with_names (with_names ns xs) ys
 names_append ns [] ys = refl
-names_append ns (x ∷ xs) ys = names_append (with_name ns x) xs ys
+names_append ns (x ∷ xs) ys = names_append (with_one_name ns x) xs ys

@@ -10,7 +10,7 @@ use Rattle.net_base.specs.NdbText.{is_white, is_hash, is_equals, is_quote, is_em
 use Rattle.ndb_text.proofs.Shared.{before_first-cons, words-word, words-hash, words-white}
 use Rattle.ndb_reader.specs.declared.words.Word.{Word as Kept}
 use Rattle.ndb_reader.specs.declared.words.Words.{Words}
-use Rattle.ndb_reader.specs.Told.{IsRead, AreWords}
+use Rattle.ndb_reader.specs.Told.{IsWordRead, AreWords}
 use Rattle.net_base.specs.NdbBundle.{is_nameless}
 use Rattle.net_base.specs.Store.{Grown, with_pair, with_pairs}
 use Rattle.net_base.proofs.Shared.{or_none, or_true}
@@ -109,7 +109,7 @@ with-more : (g : Grown) (pair : NdbPair) (pairs : List NdbPair) → with_pairs (
 with-more g pair pairs = ap (λ (ps : List NdbPair). record { tuples = g.tuples; lines = g.lines; pairs = ps }) (sym (append_assoc g.pairs (pair ∷ []) pairs))
 
 -- one more word
-pub parsed-word : (old now then : Grown) (line : List ℕ) (kept after : Words) (rest : List ℕ) (read : Kept) → Parsed old now line kept rest → 0 < length rest → get_or rest 0 0 ≢ 35 → is_white (get_or rest 0 0) ≡ false → IsRead read rest (word_of rest)
+pub parsed-word : (old now then : Grown) (line : List ℕ) (kept after : Words) (rest : List ℕ) (read : Kept) → Parsed old now line kept rest → 0 < length rest → get_or rest 0 0 ≢ 35 → is_white (get_or rest 0 0) ≡ false → IsWordRead read rest (word_of rest)
     → then ≡ with_pair (record { attr = read.attr.now; value = read.value.now }) now
     → after.some ≡ true
     → after.nameless ≡ (kept.nameless || is_empty read.attr.now)
@@ -154,7 +154,7 @@ below-any p (b ∷ bytes) e = at (p b) refl (below-any p bytes) e
     at false f rest g = rw f (omega (arith, rest g))
 
 -- a quote that isn't closed
-pub quoted-open : (read : Kept) (bytes : List ℕ) (end : ℕ) (quoted : List ℕ) → end + 2 ≤ length bytes → quoted ≡ drop (end + 2) bytes → list_any is_quote quoted ≡ false → read.attr.now ≡ take end bytes → read.value.now ≡ quoted → read.rest.now ≡ [] → read.unclosed ≡ true → read.followed ≡ false → IsRead read bytes (quoted_word (take end bytes) (drop (end + 2) bytes))
+pub quoted-open : (read : Kept) (bytes : List ℕ) (end : ℕ) (quoted : List ℕ) → end + 2 ≤ length bytes → quoted ≡ drop (end + 2) bytes → list_any is_quote quoted ≡ false → read.attr.now ≡ take end bytes → read.value.now ≡ quoted → read.rest.now ≡ [] → read.unclosed ≡ true → read.followed ≡ false → IsWordRead read bytes (quoted_word (take end bytes) (drop (end + 2) bytes))
 quoted-open read bytes end quoted room is none attr value rest unclosed followed =
     let word : quoted_word (take end bytes) (drop (end + 2) bytes) ≡ record { attr = take end bytes; value = quoted; takes = length (take end bytes) + 2 + length quoted; unclosed = true; followed = false } =
     ap (quoted_word (take end bytes)) (sym is)
@@ -168,7 +168,7 @@ quoted-open read bytes end quoted room is none attr value rest unclosed followed
     })
 
 -- a quote that is closed
-pub quoted-closed : (read : Kept) (bytes : List ℕ) (end close more : ℕ) (quoted after : List ℕ) → end + 2 ≤ length bytes → quoted ≡ drop (end + 2) bytes → list_any is_quote quoted ≡ true → close ≡ position_or_len is_quote quoted → after ≡ drop (close + 1) quoted → more ≡ position_or_len is_white after → read.attr.now ≡ take end bytes → read.value.now ≡ take close quoted → read.rest.now ≡ drop more after → read.unclosed ≡ false → read.followed ≡ not (is_empty (take more after)) → IsRead read bytes (quoted_word (take end bytes) (drop (end + 2) bytes))
+pub quoted-closed : (read : Kept) (bytes : List ℕ) (end close more : ℕ) (quoted after : List ℕ) → end + 2 ≤ length bytes → quoted ≡ drop (end + 2) bytes → list_any is_quote quoted ≡ true → close ≡ position_or_len is_quote quoted → after ≡ drop (close + 1) quoted → more ≡ position_or_len is_white after → read.attr.now ≡ take end bytes → read.value.now ≡ take close quoted → read.rest.now ≡ drop more after → read.unclosed ≡ false → read.followed ≡ not (is_empty (take more after)) → IsWordRead read bytes (quoted_word (take end bytes) (drop (end + 2) bytes))
 quoted-closed read bytes end close more quoted after room is some at_close at_after at_more attr value rest unclosed followed =
     let front : before_first is_quote quoted ≡ take close quoted = ap (λ n. take n quoted) (sym at_close) in
     let behind : after_first is_quote quoted ≡ after = ap (λ n. drop (n + 1) quoted) (sym at_close) ∙ sym at_after in
@@ -201,7 +201,7 @@ pub quoted-room : (bytes run : List ℕ) (len end : ℕ) → run ≡ take len by
 quoted-room bytes run len end is within e =
     omega (arith, begins-some is_quote (drop (end + 1) run) e, length-drop (end + 1) run, ap length is, length-take len bytes, within)
 
-pub word-quoted : (read : Kept) (bytes : List ℕ) (len end : ℕ) → len ≡ position_or_len is_white bytes → end ≡ position_or_len is_equals (take len bytes) → len ≤ length bytes → begins is_quote (drop (end + 1) (take len bytes)) ≡ true → IsRead read bytes (quoted_word (take end bytes) (drop (end + 2) bytes)) → IsRead read bytes (word_of bytes)
+pub word-quoted : (read : Kept) (bytes : List ℕ) (len end : ℕ) → len ≡ position_or_len is_white bytes → end ≡ position_or_len is_equals (take len bytes) → len ≤ length bytes → begins is_quote (drop (end + 1) (take len bytes)) ≡ true → IsWordRead read bytes (quoted_word (take end bytes) (drop (end + 2) bytes)) → IsWordRead read bytes (word_of bytes)
 word-quoted read bytes len end at_len at_end within quote r =
     let run : before_first is_white bytes ≡ take len bytes = ap (λ n. take n bytes) (sym at_len) in
     let short : end ≤ length (take len bytes) = omega (arith, at_end, prefix_len-le-length (λ b. not (is_equals b)) (take len bytes)) in
@@ -216,7 +216,7 @@ word-quoted read bytes len end at_len at_end within quote r =
     ∙ ap (λ n. quoted_word (take end bytes) (drop n bytes)) count in
     rw word r
 
-pub word-plain : (read : Kept) (bytes : List ℕ) (len end : ℕ) → len ≡ position_or_len is_white bytes → end ≡ position_or_len is_equals (take len bytes) → len ≤ length bytes → begins is_quote (drop (end + 1) (take len bytes)) ≡ false → read.attr.now ≡ take end (take len bytes) → read.value.now ≡ drop (end + 1) (take len bytes) → read.rest.now ≡ drop len bytes → read.unclosed ≡ false → read.followed ≡ false → IsRead read bytes (word_of bytes)
+pub word-plain : (read : Kept) (bytes : List ℕ) (len end : ℕ) → len ≡ position_or_len is_white bytes → end ≡ position_or_len is_equals (take len bytes) → len ≤ length bytes → begins is_quote (drop (end + 1) (take len bytes)) ≡ false → read.attr.now ≡ take end (take len bytes) → read.value.now ≡ drop (end + 1) (take len bytes) → read.rest.now ≡ drop len bytes → read.unclosed ≡ false → read.followed ≡ false → IsWordRead read bytes (word_of bytes)
 word-plain read bytes len end at_len at_end within quote attr value rest unclosed followed =
     let run : before_first is_white bytes ≡ take len bytes = ap (λ n. take n bytes) (sym at_len) in
     let by : List ℕ → Word = λ r. cond (begins is_quote (after_first is_equals r)) (quoted_word (before_first is_equals r) (drop (length (before_first is_equals r) + 2) bytes)) (plain_word r) in
@@ -233,6 +233,6 @@ word-plain read bytes len end at_len at_end within quote attr value rest unclose
     })
 
 -- behind a word there are fewer bytes
-pub shorter : (read : Kept) (rest : List ℕ) → 0 < length rest → is_white (get_or rest 0 0) ≡ false → IsRead read rest (word_of rest) → length read.rest.now < length rest
+pub shorter : (read : Kept) (rest : List ℕ) → 0 < length rest → is_white (get_or rest 0 0) ≡ false → IsWordRead read rest (word_of rest) → length read.rest.now < length rest
 shorter read [] some white is = absurd (omega arith)
 shorter read (b ∷ bytes) some white is = omega (arith, ap length is.rest, length-drop (word_of (b ∷ bytes)).takes (b ∷ bytes), takes-some b bytes white)

@@ -5,7 +5,7 @@ use Rattle.net_base.specs.Ndb.{NdbPair}
 use Rattle.net_base.specs.NdbText.{is_white, is_percent, begins, is_empty, word_pair, pairs_of, words_of, words_behind}
 use Rattle.net_base.specs.NdbBundle.{File, bundle_file, is_file_line, causes_of, least_of_causes, first_bad, unnamed_file, local_file, named_files}
 use Rattle.ndb_text.proofs.Shared.{false_true}
-use Rattle.ndb_reader.specs.Filed.{Filed, line_filed, gone_on, started, file_begun, file_grown}
+use Rattle.ndb_reader.specs.Filed.{Filed, line_filed, gone_on, with_started, file_begun, file_grown}
 use Rattle.ndb_reader.proofs.Reading.{Read, Next, read-none, read-blank, read-on, read-start, read-file, read-all}
 use Rattle.ndb_text.proofs.NdbFiles.{percent_of_file}
 
@@ -71,10 +71,10 @@ turn-on lines n line f g new r turn file words white is =
     (sym (is ∙ ap (λ (h : Filed). gone_on h) (opened f g (pairs_of line) r.pairs turn.is)))
     (record { read = read-on lines n f.closed f.name f.whole f.last line r.read turn.next file turn.good (some-words line words) white; pairs = refl })
 
-pub turn-start : (lines : List (List ℕ)) (n : ℕ) (line : List ℕ) (f g new : Filed) → Reads lines n f → Turn lines n f line g → is_file_line line ≡ false → not (is_empty (words_of line)) ≡ true → begins is_white line ≡ false → new ≡ started g → Reads lines (n + 1) new
+pub turn-start : (lines : List (List ℕ)) (n : ℕ) (line : List ℕ) (f g new : Filed) → Reads lines n f → Turn lines n f line g → is_file_line line ≡ false → not (is_empty (words_of line)) ≡ true → begins is_white line ≡ false → new ≡ with_started g → Reads lines (n + 1) new
 turn-start lines n line f g new r turn file words white is =
     subst (λ (h : Filed). Reads lines (n + 1) h)
-    (sym (is ∙ ap (λ (h : Filed). started h) (opened f g (pairs_of line) r.pairs turn.is)))
+    (sym (is ∙ ap (λ (h : Filed). with_started h) (opened f g (pairs_of line) r.pairs turn.is)))
     (record { read = read-start lines n f.closed f.name f.whole f.last line r.read turn.next file turn.good (some-words line words) white; pairs = refl })
 
 pub turn-file : (lines : List (List ℕ)) (n : ℕ) (line name : List ℕ) (f g new : Filed) → Reads lines n f → Turn lines n f line g → is_file_line line ≡ true → name ≡ bundle_file line → new ≡ file_begun name g → Reads lines (n + 1) new

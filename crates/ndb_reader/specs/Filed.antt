@@ -8,10 +8,10 @@ use Rattle.ndb_reader.specs.declared.files.Files.{Files}
 use Rattle.ndb_reader.specs.declared.bundle.Bundle.{Bundle}
 
 -- the files with these ends, the first of which begins here
-abbrev pub files_in : ℕ → ℕ → List FileEnd → List ℕ → List (List (List NdbPair)) → List File
-files_in name tuple [] names tuples = []
-files_in name tuple (end ∷ ends) names tuples =
-    record { name = slice_range names name end.name; tuples = slice_range tuples tuple end.tuple } ∷ files_in end.name end.tuple ends names tuples
+abbrev pub files_ended : ℕ → ℕ → List FileEnd → List ℕ → List (List (List NdbPair)) → List File
+files_ended name tuple [] names tuples = []
+files_ended name tuple (end ∷ ends) names tuples =
+    record { name = slice_range names name end.name; tuples = slice_range tuples tuple end.tuple } ∷ files_ended end.name end.tuple ends names tuples
 
 -- where the last file's name ends, and its tuples do
 abbrev pub last_name : ℕ → List FileEnd → ℕ
@@ -23,10 +23,10 @@ last_tuple start [] = start
 last_tuple start (end ∷ ends) = last_tuple end.tuple ends
 
 -- where the file with this number begins
-abbrev pub name_at : ℕ → List FileEnd → ℕ → ℕ
-name_at start ends zero = start
-name_at start [] (suc i) = start
-name_at start (end ∷ ends) (suc i) = name_at end.name ends i
+abbrev pub file_begins_at : ℕ → List FileEnd → ℕ → ℕ
+file_begins_at start ends zero = start
+file_begins_at start [] (suc i) = start
+file_begins_at start (end ∷ ends) (suc i) = file_begins_at end.name ends i
 
 abbrev pub tuple_at : ℕ → List FileEnd → ℕ → ℕ
 tuple_at start ends zero = start
@@ -54,7 +54,7 @@ pub record Filed : Type 0 where
 -- what is shown, by what is kept
 abbrev pub filed_by : List FileEnd → List ℕ → Grown → Filed
 filed_by ends names growing = record {
-  closed = files_in 0 0 ends names growing.tuples;
+  closed = files_ended 0 0 ends names growing.tuples;
   name = drop (last_name 0 ends) names;
   whole = drop (last_tuple 0 ends) growing.tuples;
   last = growing.lines;
@@ -81,8 +81,8 @@ abbrev pub last_ended : Filed → Filed
 last_ended f = record { closed = f.closed; name = f.name; whole = f.whole ++ tuple_of f.last; last = []; pairs = f.pairs }
 
 -- with the line that was open, which starts a tuple
-abbrev pub started : Filed → Filed
-started f = gone_on (last_ended f)
+abbrev pub with_started : Filed → Filed
+with_started f = gone_on (last_ended f)
 
 -- the file that grows, as it stands
 abbrev pub file_grown : Filed → File
@@ -98,7 +98,7 @@ tuples_of files = flat_map (λ file. file.tuples) files
 
 -- all files of a bundle
 abbrev pub files_of : Bundle → List File
-files_of bundle = files_in 0 0 bundle.ends.items bundle.names.items bundle.db
+files_of bundle = files_ended 0 0 bundle.ends.items bundle.names.items bundle.db
 
 abbrev pub AreBundled : Bundle → Type 0
 AreBundled bundle = FilesRise 0 0 bundle.ends.items (length bundle.names.items) (length bundle.db)

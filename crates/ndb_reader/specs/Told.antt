@@ -18,7 +18,7 @@ abbrev pub is_break : ℕ → Bool
 is_break byte = text.is_equals byte || text.is_white byte
 
 -- the word at the front of these bytes is this one, and the rest stands behind it
-pub record IsRead (read : Word) (bytes : List ℕ) (word : text.Word) : Type 0 where
+pub record IsWordRead (read : Word) (bytes : List ℕ) (word : text.Word) : Type 0 where
   pub attr : read.attr.now ≡ word.attr
   pub value : read.value.now ≡ word.value
   pub rest : read.rest.now ≡ drop word.takes bytes

@@ -2,7 +2,7 @@
 ghost use Rattle.std.specs.Prelude.{◌≡◌, ◌≤◌, ◌<◌, ◌++◌, [], length, take, get_or, slice_range, OnOk};
 ghost use Rattle.net_base.specs.NdbBundle.{File};
 ghost use Rattle.net_base.specs.Store.{with_tuples};
-ghost use Rattle.ndb_reader.specs.Filed.{files_of, tuples_of, name_at, tuple_at, AreBundled};
+ghost use Rattle.ndb_reader.specs.Filed.{files_of, tuples_of, file_begins_at, tuple_at, AreBundled};
 
 use crate::copy::add_tuples;
 use crate::files::FileEnd;
@@ -83,7 +83,7 @@ fn part(bytes: &[u8], first: usize, end: usize) -> &[u8]
 /// Where the name of the file with this number begins.
 fn name_begin(ends: &[FileEnd], number: usize) -> usize
     requires { number ≤ length ends.now }
-    ensures { result ≡ name_at 0 ends.now number }
+    ensures { result ≡ file_begins_at 0 ends.now number }
 {
     if number == 0 {
         return 0;

@@ -5,7 +5,7 @@ ghost use Rattle.net_base.specs.Search.{has_attr, values_in, values_on};
 ghost use Rattle.net_base.specs.Store.{all_pairs, with_tuples};
 ghost use Rattle.std.specs.List.{list_any};
 ghost use Rattle.ndb_reader.specs.Filed.{files_of, tuples_of, AreBundled};
-ghost use Rattle.ndb_reader.specs.Names.{with_name, with_names, names_seen, bucket_in, AreByName};
+ghost use Rattle.ndb_reader.specs.Names.{with_one_name, with_names, names_seen, name_bucket, AreByName};
 
 use crate::bundle::Bundle;
 use indexmap::IndexSet;
@@ -45,7 +45,7 @@ fn add_name_of(
 
 /// Adds a name that doesn't stand among these.
 fn add_name(alloc: Global, name: &[u8], names: &mut IndexSet<Vec<u8>>) -> Result<(), AllocError>
-    ensures { OnOk result (names_seen names.new.keys ≡ with_name (names_seen names.old.keys) name.now) }
+    ensures { OnOk result (names_seen names.new.keys ≡ with_one_name (names_seen names.old.keys) name.now) }
 {
     let name = Vec::from_slice(alloc, name)?;
     names.insert(name)?;
@@ -100,7 +100,7 @@ fn names_of(alloc: Global, db: &Db, end: usize) -> Result<IndexSet<Vec<u8>>, All
 
 /// The number of a name among the names, or how many they are.
 fn bucket_of(names: &IndexSet<Vec<u8>>, name: &[u8]) -> usize
-    ensures value { result ≡ bucket_in (names_seen names.now.keys) name.now }
+    ensures value { result ≡ name_bucket (names_seen names.now.keys) name.now }
     ensures within { result < length (names_seen names.now.keys) + 1 }
 {
     names.get_index_of(name).unwrap_or(names.len())

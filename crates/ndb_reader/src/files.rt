@@ -84,7 +84,7 @@ impl Files {
     pub(crate) fn start(&mut self) -> Result<(), AllocError>
         requires { AreFiled self.old }
         ensures sound { OnOk result (AreFiled self.new) }
-        ensures ok { OnOk result (spec.filed self.new ≡ spec.started (spec.filed self.old)) }
+        ensures ok { OnOk result (spec.filed self.new ≡ spec.with_started (spec.filed self.old)) }
     {
         self.end_tuple()?;
         self.go_on()

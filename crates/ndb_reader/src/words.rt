@@ -3,7 +3,7 @@ ghost use Rattle.std.specs.Prelude.{◌≡◌, true, map, ◌≤◌, ◌+◌, �
 ghost use Rattle.std.specs.List.{list_any, position_or_len};
 ghost use Rattle.net_base.specs.NdbText as spec;
 ghost use Rattle.net_base.specs.Store.{with_pairs};
-ghost use Rattle.ndb_reader.specs.Told.{AreWords, IsRead, is_break};
+ghost use Rattle.ndb_reader.specs.Told.{AreWords, IsWordRead, is_break};
 
 use net_base::Growing;
 use std::alloc::AllocError;
@@ -86,7 +86,7 @@ pub(crate) fn read_words(line: &[u8], growing: &mut Growing) -> Result<Words, Al
 
 /// The word that begins these bytes: it is quoted where its first `=` is followed by a quote.
 fn word_at(bytes: &[u8]) -> Word<'_>
-    ensures { IsRead result bytes.now (spec.word_of bytes.now) }
+    ensures { IsWordRead result bytes.now (spec.word_of bytes.now) }
 {
     let ends = ends_of(bytes);
     let run = &bytes[..ends.word];
@@ -115,7 +115,7 @@ fn is_quoted(run: &[u8], end: usize) -> bool
 /// The word whose attribute has this length, and whose value is quoted.
 fn quoted_at(bytes: &[u8], end: usize) -> Word<'_>
     requires { end + 2 ≤ length bytes.now }
-    ensures { IsRead result bytes.now (spec.quoted_word (take end bytes.now) (drop (end + 2) bytes.now)) }
+    ensures { IsWordRead result bytes.now (spec.quoted_word (take end bytes.now) (drop (end + 2) bytes.now)) }
 {
     let attr = &bytes[..end];
     let quoted = from(bytes, end + 2);

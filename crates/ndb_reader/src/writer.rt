@@ -18,7 +18,7 @@ fn has_white(value: &[u8]) -> bool
 
 /// Adds a pair, whose value stands in quotes where it has white space.
 fn put_pair(out: &mut Octets, pair: &NdbPair<'_>) -> Result<(), AllocError>
-    ensures { OnOk result (out.new ≡ out.old ++ spec.pair_text pair.now) }
+    ensures { OnOk result (out.new ≡ out.old ++ spec.one_pair_text pair.now) }
 {
     out.append(pair.attr())?;
     out.append(b"=")?;
@@ -43,7 +43,7 @@ fn put_more(out: &mut Octets, line: &Line<'_>) -> Result<(), AllocError>
 
 /// Adds the pairs of a line with a blank between them.
 fn put_pairs(out: &mut Octets, line: &Line<'_>) -> Result<(), AllocError>
-    ensures { OnOk result (out.new ≡ out.old ++ spec.line_text line.now) }
+    ensures { OnOk result (out.new ≡ out.old ++ spec.pairs_text line.now) }
 {
     if line.len() == 0 {
         return Ok(());
@@ -55,8 +55,8 @@ fn put_pairs(out: &mut Octets, line: &Line<'_>) -> Result<(), AllocError>
 
 /// Adds a pair behind others, with a blank between them.
 fn put_next(out: &mut Octets, pair: &NdbPair<'_>) -> Result<(), AllocError>
-    ensures { OnOk result ((pairs : List Seen) → out.old ≡ spec.line_text pairs
-        → out.new ≡ spec.line_text (pairs ++ pair.now ∷ [])) }
+    ensures { OnOk result ((pairs : List Seen) → out.old ≡ spec.pairs_text pairs
+        → out.new ≡ spec.pairs_text (pairs ++ pair.now ∷ [])) }
 {
     if out.len() == 0 {
         put_pair(out, pair)?;
@@ -69,8 +69,8 @@ fn put_next(out: &mut Octets, pair: &NdbPair<'_>) -> Result<(), AllocError>
 
 /// Adds the pairs of a line behind others, with a blank between them.
 pub fn put_line(out: &mut Octets, line: &Line<'_>) -> Result<(), AllocError>
-    ensures { OnOk result ((pairs : List Seen) → out.old ≡ spec.line_text pairs
-        → out.new ≡ spec.line_text (pairs ++ line.now)) }
+    ensures { OnOk result ((pairs : List Seen) → out.old ≡ spec.pairs_text pairs
+        → out.new ≡ spec.pairs_text (pairs ++ line.now)) }
 {
     for number in 0..line.len() {
         put_next(out, &line.pair(number))?;

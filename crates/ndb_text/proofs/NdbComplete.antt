@@ -9,7 +9,7 @@ use Rattle.net_base.specs.NdbText.{is_white, is_hash, is_equals, is_quote, begin
 use Rattle.net_base.specs.NdbBundle.{is_nameless}
 use Rattle.ndb_text.proofs.NdbPlain.{or_false, or_false_first, or_false_rest, one_add, none-take, none-drop, before_first-cons, words-white, words-word, words-hash}
 use Rattle.ndb_text.proofs.NdbLists.{before_first-none}
-use Rattle.ndb_text.specs.NdbSpelling.{None_of, IsAttr, alone, plain, quoted, IsWord, ReadsWords}
+use Rattle.ndb_text.specs.NdbSpelling.{None_of, IsAttr, alone, plain, quoted, IsPairWord, ReadsWords}
 use Rattle.ndb_text.proofs.NdbSound.{Stops, after-none, after-cons, drop-two, words-passed, Faultless, first-way}
 
 -- Parts of bytes.
@@ -90,7 +90,7 @@ pub record Front (bytes : List ℕ) (word : Word) : Type 0 where
   pub spelling : List ℕ
   pub rest : List ℕ
   pub bytes_are : bytes ≡ spelling ++ rest
-  pub is_word : IsWord spelling (word_pair word) rest
+  pub is_word : IsPairWord spelling (word_pair word) rest
   pub takes : word.takes ≡ length spelling
 
 attr-front : (bytes : List ℕ) → begins is_hash bytes ≡ false → is_empty (before_first is_equals (before_first is_white bytes)) ≡ false → IsAttr (before_first is_equals (before_first is_white bytes))
@@ -101,7 +101,7 @@ attr-front bytes hash named = record {
   hash = begins-take is_hash (position_or_len is_equals (before_first is_white bytes)) (before_first is_white bytes) (begins-take is_hash (position_or_len is_white bytes) bytes hash);
 }
 
-plain-is_word : (bytes : List ℕ) (u : Bool) → list_any is_equals (before_first is_white bytes) ≡ u → begins is_quote (after_first is_equals (before_first is_white bytes)) ≡ false → IsAttr (before_first is_equals (before_first is_white bytes)) → IsWord (before_first is_white bytes) (word_pair (plain_word (before_first is_white bytes))) (drop (position_or_len is_white bytes) bytes)
+plain-is_word : (bytes : List ℕ) (u : Bool) → list_any is_equals (before_first is_white bytes) ≡ u → begins is_quote (after_first is_equals (before_first is_white bytes)) ≡ false → IsAttr (before_first is_equals (before_first is_white bytes)) → IsPairWord (before_first is_white bytes) (word_pair (plain_word (before_first is_white bytes))) (drop (position_or_len is_white bytes) bytes)
 plain-is_word bytes true e v a = record {
   way = plain;
   bytes = around is_equals 61 equals_is (before_first is_white bytes) e;
@@ -222,7 +222,7 @@ complete-word w ws next unclosed nameless followed b bs hash first others =
     let left : (word_of (b ∷ bs)).takes - 1 ≡ length s.tail = ap (λ (n : ℕ). n - 1) (f.takes ∙ ap length spelling) ∙ omega arith in
     let rest : words_behind 0 f.rest ≡ ws =
     sym (words-passed s.tail f.rest) ∙ (ap (λ (xs : List ℕ). words_behind (length s.tail) xs) (sym bytes) ∙ (ap (λ (n : ℕ). words_behind n bs) (sym left) ∙ others)) in
-    ([], f.spelling, f.rest, f.bytes_are, tt, subst (λ (x : Word). IsWord f.spelling (word_pair x) f.rest) first f.is_word, next f.rest rest)
+    ([], f.spelling, f.rest, f.bytes_are, tt, subst (λ (x : Word). IsPairWord f.spelling (word_pair x) f.rest) first f.is_word, next f.rest rest)
 
 complete-cons_if : (w : Word) (ws : List Word) → ((rest : List ℕ) → words_behind 0 rest ≡ ws → ReadsWords rest (map word_pair ws)) → w.unclosed ≡ false → is_nameless w ≡ false → w.followed ≡ false → (b : ℕ) (bs : List ℕ) (v h : Bool) → is_white b ≡ v → is_hash b ≡ h → (words_behind 0 bs ≡ w ∷ ws → ReadsWords bs (word_pair w ∷ map word_pair ws)) → words_behind 0 (b ∷ bs) ≡ w ∷ ws → ReadsWords (b ∷ bs) (word_pair w ∷ map word_pair ws)
 complete-cons_if w ws next unclosed nameless followed b bs true h ev eh more e =

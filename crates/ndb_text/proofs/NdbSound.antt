@@ -9,7 +9,7 @@ use Rattle.net_base.specs.NdbText.{is_white, is_hash, is_equals, is_quote, begin
 use Rattle.net_base.specs.NdbBundle.{is_nameless}
 use Rattle.ndb_text.proofs.NdbPlain.{or_false, or_false_first, or_false_rest, before_first-cons, words-white, words-word, words-hash}
 use Rattle.ndb_text.proofs.NdbLists.{before_first-none}
-use Rattle.ndb_text.specs.NdbSpelling.{None_of, IsAttr, Way, alone, plain, quoted, spelled, Suits, EndsWord, IsWord, IsWhite, IsComment, ReadsWords, ReadsLine}
+use Rattle.ndb_text.specs.NdbSpelling.{None_of, IsAttr, PairWay, alone, plain, quoted, spelled, Suits, EndsWord, IsPairWord, IsWhite, IsComment, ReadsWords, ReadsLine}
 
 -- Parts of bytes.
 
@@ -129,12 +129,12 @@ takes-quoted pair rest a v ends =
     ∙ ap (quoted_word pair.attr) (drop-two pair.attr 61 34 behind)))) in
     takes-as (quoted_word pair.attr behind) (word_of (word ++ rest)) pair word is_word (takes-quoted_word pair rest v ends)
 
-takes-way : (way : Way) (pair : NdbPair) (rest : List ℕ) → IsAttr pair.attr → Suits way pair.value → EndsWord rest → Takes (word_of (spelled way pair ++ rest)) pair (spelled way pair)
+takes-way : (way : PairWay) (pair : NdbPair) (rest : List ℕ) → IsAttr pair.attr → Suits way pair.value → EndsWord rest → Takes (word_of (spelled way pair ++ rest)) pair (spelled way pair)
 takes-way alone pair rest a v ends = takes-alone pair rest a v ends
 takes-way plain pair rest a v ends = takes-plain pair rest a v.0 v.1 ends
 takes-way quoted pair rest a v ends = takes-quoted pair rest a v ends
 
-pub takes-word : (word : List ℕ) (pair : NdbPair) (rest : List ℕ) → IsWord word pair rest → Takes (word_of (word ++ rest)) pair word
+pub takes-word : (word : List ℕ) (pair : NdbPair) (rest : List ℕ) → IsPairWord word pair rest → Takes (word_of (word ++ rest)) pair word
 takes-word word pair rest w =
     subst (λ (bs : List ℕ). Takes (word_of (bs ++ rest)) pair bs) (sym w.bytes) (takes-way w.way pair rest w.attr w.value w.ends)
 
@@ -179,7 +179,7 @@ first-attr : (attr : List ℕ) → IsAttr attr → First attr
 first-attr [] a = absurd (omega (arith, a.some))
 first-attr (b ∷ bs) a = record { byte = b; tail = bs; is = refl; white = or_false_first (is_white b) (list_any is_white bs) a.white; hash = a.hash }
 
-pub first-way : (way : Way) (pair : NdbPair) → IsAttr pair.attr → First (spelled way pair)
+pub first-way : (way : PairWay) (pair : NdbPair) → IsAttr pair.attr → First (spelled way pair)
 first-way alone pair a = first-attr pair.attr a
 first-way plain pair a =
     let f = first-attr pair.attr a in
@@ -195,7 +195,7 @@ words-first_at b tail rest white hash takes =
     ∙ ap (λ (ws : List Word). word_of ((b ∷ tail) ++ rest) ∷ ws) (ap (λ (n : ℕ). words_behind n (tail ++ rest)) left ∙ words-passed tail rest)
 
 -- the words of a line that begins with a word
-words-first : (word : List ℕ) (pair : NdbPair) (rest : List ℕ) → IsWord word pair rest → words_behind 0 (word ++ rest) ≡ word_of (word ++ rest) ∷ words_behind 0 rest
+words-first : (word : List ℕ) (pair : NdbPair) (rest : List ℕ) → IsPairWord word pair rest → words_behind 0 (word ++ rest) ≡ word_of (word ++ rest) ∷ words_behind 0 rest
 words-first word pair rest w =
     let f = first-way w.way pair w.attr in
     let e : word ≡ f.byte ∷ f.tail = w.bytes ∙ f.is in

@@ -17,17 +17,17 @@ pub record IsAttr (attr : List ℕ) : Type 0 where
   pub hash : begins is_hash attr ≡ false
 
 -- the ways to spell a pair: its attribute alone, its value as it is, its value in double quotes
-pub data Way : Type 0 where
-  alone plain quoted : Way
+pub data PairWay : Type 0 where
+  alone plain quoted : PairWay
 
 -- the bytes of a pair, spelled in a way
-abbrev pub spelled : Way → NdbPair → List ℕ
+abbrev pub spelled : PairWay → NdbPair → List ℕ
 spelled alone pair = pair.attr
 spelled plain pair = pair.attr ++ (61 ∷ pair.value)
 spelled quoted pair = pair.attr ++ (61 ∷ 34 ∷ (pair.value ++ 34 ∷ []))
 
 -- the values that may be spelled in a way: none; one without white space that doesn't begin with a quote; one without a quote
-abbrev pub Suits : Way → List ℕ → Type 0
+abbrev pub Suits : PairWay → List ℕ → Type 0
 Suits alone value = value ≡ []
 Suits plain value = None_of is_white value × (begins is_quote value ≡ false)
 Suits quoted value = None_of is_quote value
@@ -37,8 +37,8 @@ abbrev pub EndsWord : List ℕ → Type 0
 EndsWord rest = (rest ≡ []) ⊎ (begins is_white rest ≡ true)
 
 -- a pair that is spelled in front of the rest of a line
-pub record IsWord (word : List ℕ) (pair : NdbPair) (rest : List ℕ) : Type 0 where
-  pub way : Way
+pub record IsPairWord (word : List ℕ) (pair : NdbPair) (rest : List ℕ) : Type 0 where
+  pub way : PairWay
   pub bytes : word ≡ spelled way pair
   pub attr : IsAttr pair.attr
   pub value : Suits way pair.value
@@ -57,7 +57,7 @@ IsComment rest = (rest ≡ []) ⊎ (begins is_hash rest ≡ true)
 abbrev pub ReadsWords : List ℕ → List NdbPair → Type 0
 ReadsWords line [] = (white rest : List ℕ) × (line ≡ white ++ rest) × IsWhite white × IsComment rest
 ReadsWords line (pair ∷ pairs) =
-    (white word rest : List ℕ) × (line ≡ white ++ (word ++ rest)) × IsWhite white × IsWord word pair rest × ReadsWords rest pairs
+    (white word rest : List ℕ) × (line ≡ white ++ (word ++ rest)) × IsWhite white × IsPairWord word pair rest × ReadsWords rest pairs
 
 -- a line without a zero byte, which doesn't begin with `%`, reads as these pairs
 pub record ReadsLine (line : List ℕ) (pairs : List NdbPair) : Type 0 where

@@ -6,7 +6,7 @@ use Rattle.std.proofs.lemmas.List.Concat.{flat_map-append}
 use Rattle.net_base.specs.Ndb.{NdbPair}
 use Rattle.net_base.specs.Search.{line_has, tuple_has, values_in, or_where_empty, values_on_found, beside}
 use Rattle.ndb_tuple.specs.declared.numbers.Kind.{Kind}
-use Rattle.ndb_tuple.specs.Numbers.{attr_of, read_of, numbers_near, numbers_found}
+use Rattle.ndb_tuple.specs.Numbers.{attr_of, number_read_of, numbers_near, numbers_found}
 use Rattle.ndb_tuple.proofs.Lists.{Joins, joins_more}
 use Rattle.ndb_tuple.proofs.Pieces.{any_find}
 
@@ -18,19 +18,19 @@ found_at kind tuple (Some line) = numbers_near kind line tuple
 pub found_joins : (attr value : List ℕ) (kind : Kind) → Joins (numbers_found attr value kind)
 found_joins attr value kind = record {
   none = refl;
-  both = λ xs ys. ap (λ found. filter_map (read_of kind) (flat_map (beside attr value (attr_of kind)) found)) (filter-append (tuple_has attr value) xs ys)
-      ∙ ap (filter_map (read_of kind)) (flat_map-append (beside attr value (attr_of kind)) (filter (tuple_has attr value) xs) (filter (tuple_has attr value) ys))
-      ∙ filter_map-append (read_of kind) (flat_map (beside attr value (attr_of kind)) (filter (tuple_has attr value) xs)) (flat_map (beside attr value (attr_of kind)) (filter (tuple_has attr value) ys));
+  both = λ xs ys. ap (λ found. filter_map (number_read_of kind) (flat_map (beside attr value (attr_of kind)) found)) (filter-append (tuple_has attr value) xs ys)
+      ∙ ap (filter_map (number_read_of kind)) (flat_map-append (beside attr value (attr_of kind)) (filter (tuple_has attr value) xs) (filter (tuple_has attr value) ys))
+      ∙ filter_map-append (number_read_of kind) (flat_map (beside attr value (attr_of kind)) (filter (tuple_has attr value) xs)) (flat_map (beside attr value (attr_of kind)) (filter (tuple_has attr value) ys));
 }
 
 pub found_one : (attr value : List ℕ) (kind : Kind) (tuple : List (List NdbPair)) → numbers_found attr value kind (tuple ∷ []) ≡ found_at kind tuple (find (line_has attr value) tuple)
 found_one attr value kind tuple =
-    ap (λ holds. filter_map (read_of kind) (flat_map (beside attr value (attr_of kind)) (cond holds (tuple ∷ []) []))) (any_find (line_has attr value) tuple)
+    ap (λ holds. filter_map (number_read_of kind) (flat_map (beside attr value (attr_of kind)) (cond holds (tuple ∷ []) []))) (any_find (line_has attr value) tuple)
     ∙ at (find (line_has attr value) tuple) refl
   where
-    at : (line : Option (List NdbPair)) → find (line_has attr value) tuple ≡ line → filter_map (read_of kind) (flat_map (beside attr value (attr_of kind)) (cond (is_some line) (tuple ∷ []) [])) ≡ found_at kind tuple line
+    at : (line : Option (List NdbPair)) → find (line_has attr value) tuple ≡ line → filter_map (number_read_of kind) (flat_map (beside attr value (attr_of kind)) (cond (is_some line) (tuple ∷ []) [])) ≡ found_at kind tuple line
     at None e = refl
-    at (Some line) e = ap (filter_map (read_of kind)) (append-nil (beside attr value (attr_of kind) tuple) ∙ ap (λ o. or_where_empty (values_on_found (attr_of kind) o) (values_in (attr_of kind) tuple)) e)
+    at (Some line) e = ap (filter_map (number_read_of kind)) (append-nil (beside attr value (attr_of kind) tuple) ∙ ap (λ o. or_where_empty (values_on_found (attr_of kind) o) (values_in (attr_of kind) tuple)) e)
 
 -- one more tuple, with the pair and without it
 pub found_more : (attr value : List ℕ) (kind : Kind) (db : List (List (List NdbPair))) (i : ℕ) (tuple : List (List NdbPair)) (line : List NdbPair) → i < length db → tuple ≡ get_or db i tuple → find (line_has attr value) tuple ≡ Some line → numbers_found attr value kind (take (i + 1) db) ≡ numbers_found attr value kind (take i db) ++ numbers_near kind line tuple

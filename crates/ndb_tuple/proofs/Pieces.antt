@@ -9,7 +9,7 @@ use Rattle.net_base.specs.Ndb.{NdbPair}
 use Rattle.net_base.specs.Networks.{first_of}
 use Rattle.net_base.specs.Search.{has_attr, values_on, values_in, or_where_empty}
 use Rattle.ndb_tuple.specs.declared.numbers.Kind.{Kind}
-use Rattle.ndb_tuple.specs.Numbers.{attr_of, read_of, pair_number, numbers_on, numbers_in, numbers_near}
+use Rattle.ndb_tuple.specs.Numbers.{attr_of, number_read_of, pair_number, numbers_on, numbers_in, numbers_near}
 use Rattle.ndb_tuple.proofs.Lists.{Joins, joins_more, joins_first, empty_from_first}
 
 as_list : {X : Type 0} (o : Option X) → cons_option o [] ≡ option_to_list o
@@ -19,17 +19,17 @@ as_list (Some x) = refl
 on_joins : (kind : Kind) → Joins (numbers_on kind)
 on_joins kind = record {
   none = refl;
-  both = λ xs ys. ap (λ found. filter_map (read_of kind) (map (λ pair. pair.value) found)) (filter-append (has_attr (attr_of kind)) xs ys)
-      ∙ ap (filter_map (read_of kind)) (map-append (λ pair. pair.value) (filter (has_attr (attr_of kind)) xs) (filter (has_attr (attr_of kind)) ys))
-      ∙ filter_map-append (read_of kind) (values_on (attr_of kind) xs) (values_on (attr_of kind) ys);
+  both = λ xs ys. ap (λ found. filter_map (number_read_of kind) (map (λ pair. pair.value) found)) (filter-append (has_attr (attr_of kind)) xs ys)
+      ∙ ap (filter_map (number_read_of kind)) (map-append (λ pair. pair.value) (filter (has_attr (attr_of kind)) xs) (filter (has_attr (attr_of kind)) ys))
+      ∙ filter_map-append (number_read_of kind) (values_on (attr_of kind) xs) (values_on (attr_of kind) ys);
 }
 
 on_one : (kind : Kind) (pair : NdbPair) → numbers_on kind (pair ∷ []) ≡ option_to_list (pair_number kind pair)
 unfolding pair_number
 on_one kind pair = at (has_attr (attr_of kind) pair)
   where
-    at : (holds : Bool) → filter_map (read_of kind) (map (λ p. p.value) (cond holds (pair ∷ []) [])) ≡ option_to_list (cond holds (read_of kind pair.value) None)
-    at true = as_list (read_of kind pair.value)
+    at : (holds : Bool) → filter_map (number_read_of kind) (map (λ p. p.value) (cond holds (pair ∷ []) [])) ≡ option_to_list (cond holds (number_read_of kind pair.value) None)
+    at true = as_list (number_read_of kind pair.value)
     at false = refl
 
 -- one more pair of a line, which holds a number, and one which holds none
@@ -52,12 +52,12 @@ on_first kind line i pair number within here none found =
 in_joins : (kind : Kind) → Joins (numbers_in kind)
 in_joins kind = record {
   none = refl;
-  both = λ xs ys. ap (filter_map (read_of kind)) (flat_map-append (values_on (attr_of kind)) xs ys)
-      ∙ filter_map-append (read_of kind) (values_in (attr_of kind) xs) (values_in (attr_of kind) ys);
+  both = λ xs ys. ap (filter_map (number_read_of kind)) (flat_map-append (values_on (attr_of kind)) xs ys)
+      ∙ filter_map-append (number_read_of kind) (values_in (attr_of kind) xs) (values_in (attr_of kind) ys);
 }
 
 in_one : (kind : Kind) (line : List NdbPair) → numbers_in kind (line ∷ []) ≡ numbers_on kind line
-in_one kind line = ap (filter_map (read_of kind)) (append-nil (values_on (attr_of kind) line))
+in_one kind line = ap (filter_map (number_read_of kind)) (append-nil (values_on (attr_of kind) line))
 
 -- one more line of a tuple
 pub in_more : (kind : Kind) (tuple : List (List NdbPair)) (i : ℕ) (line : List NdbPair) → i < length tuple → line ≡ get_or tuple i line → numbers_in kind (take (i + 1) tuple) ≡ numbers_in kind (take i tuple) ++ numbers_on kind line
@@ -86,11 +86,11 @@ near_is attr (pair ∷ line) others = at (has_attr attr pair) (near_is attr line
 -- beside a pair on a line that has numbers' attribute, and on one that lacks it
 pub near_on : (kind : Kind) (line : List NdbPair) (tuple : List (List NdbPair)) → list_any (has_attr (attr_of kind)) line ≡ true → numbers_near kind line tuple ≡ numbers_on kind line
 near_on kind line tuple named =
-    ap (filter_map (read_of kind)) (near_is (attr_of kind) line (values_in (attr_of kind) tuple) ∙ ap (λ holds. cond holds (values_on (attr_of kind) line) (values_in (attr_of kind) tuple)) named)
+    ap (filter_map (number_read_of kind)) (near_is (attr_of kind) line (values_in (attr_of kind) tuple) ∙ ap (λ holds. cond holds (values_on (attr_of kind) line) (values_in (attr_of kind) tuple)) named)
 
 pub near_in : (kind : Kind) (line : List NdbPair) (tuple : List (List NdbPair)) → list_any (has_attr (attr_of kind)) line ≡ false → numbers_near kind line tuple ≡ numbers_in kind tuple
 near_in kind line tuple named =
-    ap (filter_map (read_of kind)) (near_is (attr_of kind) line (values_in (attr_of kind) tuple) ∙ ap (λ holds. cond holds (values_on (attr_of kind) line) (values_in (attr_of kind) tuple)) named)
+    ap (filter_map (number_read_of kind)) (near_is (attr_of kind) line (values_in (attr_of kind) tuple) ∙ ap (λ holds. cond holds (values_on (attr_of kind) line) (values_in (attr_of kind) tuple)) named)
 
 -- some element passes where one is found
 pub any_find : {X : Type 0} (p : X → Bool) (xs : List X) → list_any p xs ≡ is_some (find p xs)

@@ -32,7 +32,7 @@ impl Kind {
 
     /// The number that such a value spells.
     pub fn read(self, word: &[u8]) -> Option<u32>
-        ensures { result ≡ spec.read_of self word.now }
+        ensures { result ≡ spec.number_read_of self word.now }
     {
         match self {
             Kind::Address => read_address(word),

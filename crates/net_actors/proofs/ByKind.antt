@@ -27,13 +27,13 @@ use Rattle.net_base.specs.Medium.{medium_step}
 use Rattle.net_base.specs.Versions.{database_of}
 use Rattle.conversation.specs.Kept.{Seat}
 use Rattle.conversation.specs.Memory.{work_takes}
-use Rattle.conversation.specs.Stands.{StandsFor, StandsForSome, Gives, IsShort, IsReady as IsTalkReady, Says, step_at}
-use Rattle.host_dir.specs.Ready.{is_ready}
+use Rattle.conversation.specs.Stands.{StandsFor, StandsForSome, GivesSeat, IsShort, IsSeatReady as IsTalkReady, Says, step_at}
+use Rattle.host_dir.specs.Ready.{is_row_ready}
 use Rattle.host_dir.proofs.Shared.{ready_is}
-use Rattle.medium.specs.OnMedium.{OnMedium, medium_of}
-use Rattle.net_actors.specs.AtDesk.{AtDesk, IsAtHost, IsAtSome, IsDeskOf, Replies, desk_at, host_of, leaves_desk}
-use Rattle.net_actors.specs.Kept.{IsActorOf, IsMediumOf, Keeps, seen, state_of}
-use Rattle.net_actors.specs.Stepping.{IsReady, KindSteps, Steps, kind_ready}
+use Rattle.medium.specs.OnMedium.{OnMedium, medium_laid}
+use Rattle.net_actors.specs.AtDesk.{AtDesk, IsAtHost, IsAtSome, IsDeskOf, Replies, desk_at, host_at_desk, leaves_desk}
+use Rattle.net_actors.specs.Kept.{IsActorOf, IsMediumOf, KeepsKind, seen_kept, kept_state}
+use Rattle.net_actors.specs.Stepping.{IsKeptReady, KindSteps, StepsKept, kind_ready}
 use Rattle.net_actors.specs.declared.actor.Actor.{Actor as Kept}
 use Rattle.net_actors.specs.declared.kind.Kind.{Kind}
 use Rattle.net_actors.specs.declared.kind.Kind.TheVariants as kind
@@ -46,18 +46,18 @@ some_map f (Some x) = refl
 
 -- Desks.
 
-same_desk : (dbs : List Version) (d : AtDesk) (h : HostSpec) (e : Event) (now : ℕ) → IsAtHost d h → desk_reply dbs h e now (desk_at d) ≡ desk_reply dbs (host_of d) e now (desk_at d)
+same_desk : (dbs : List Version) (d : AtDesk) (h : HostSpec) (e : Event) (now : ℕ) → IsAtHost d h → desk_reply dbs h e now (desk_at d) ≡ desk_reply dbs (host_at_desk d) e now (desk_at d)
 same_desk dbs d h (event.Cs q) now at =
     ap (λ (x : List ℕ). Some (cs_reply (cs_list (database_of dbs d.version) x h.nets q))) (sym at.name_is)
     ∙ ap (λ (x : List Proto). Some (cs_reply (cs_list (database_of dbs d.version) d.name x q))) (sym at.nets_are)
 same_desk dbs d h _ now at = refl
 
 at_host : (w : World) (d : AtDesk) (h : Option HostSpec) (e : Event) (now : ℕ) → d.dbs ≡ w.dbs → IsAtSome d h
-    → option_and_then (λ (host : HostSpec). step_as IsDesk (desk_step w.dbs host e now (desk_at d))) h ≡ step_as IsDesk (desk_step d.dbs (host_of d) e now (desk_at d))
+    → option_and_then (λ (host : HostSpec). step_as IsDesk (desk_step w.dbs host e now (desk_at d))) h ≡ step_as IsDesk (desk_step d.dbs (host_at_desk d) e now (desk_at d))
 at_host w d None e now is at = absurd at
 at_host w d (Some h) e now is at =
     ap (λ (r : Option Reply). step_as IsDesk (option_map (desk_replies (desk_at d)) r)) (same_desk w.dbs d h e now at)
-    ∙ ap (λ (dbs : List Version). step_as IsDesk (desk_step dbs (host_of d) e now (desk_at d))) (sym is)
+    ∙ ap (λ (dbs : List Version). step_as IsDesk (desk_step dbs (host_at_desk d) e now (desk_at d))) (sym is)
 
 -- with another version it is of the same host
 at_version : (d : AtDesk) (n : ℕ) (h : Option HostSpec) → IsAtSome d h → IsAtSome (record d { version = n }) h
@@ -137,7 +137,7 @@ pub kept_is : (c : Seat) (s : Conv) → StandsFor c s → c.conv ≡ s
 unfolding StandsFor
 kept_is c s is = is
 
-talk_gives : (new : Seat) (o : Outcome) (t : Option (Step Conv)) → Gives new o t → t ≡ Some (record { state = new.conv; outcome = o })
+talk_gives : (new : Seat) (o : Outcome) (t : Option (Step Conv)) → GivesSeat new o t → t ≡ Some (record { state = new.conv; outcome = o })
 talk_gives new o None g = absurd g
 talk_gives new o (Some t) g =
     ap (λ (s : Conv). Some (record { state = s; outcome = t.outcome })) (sym (kept_is new t.state g.0))
@@ -146,11 +146,11 @@ talk_gives new o (Some t) g =
 -- Media.
 
 at_medium : (w : World) (m : OnMedium) (n : ℕ) (work : Work) → IsMediumOf w n m
-    → option_and_then (λ (spec : MediumSpec). step_as IsMedium (medium_step spec w.seed work.event work.with (medium_of m))) (slice_get w.media n)
-    ≡ step_as IsMedium (medium_step m.spec m.seed work.event work.with (medium_of m))
+    → option_and_then (λ (spec : MediumSpec). step_as IsMedium (medium_step spec w.seed work.event work.with (medium_laid m))) (slice_get w.media n)
+    ≡ step_as IsMedium (medium_step m.spec m.seed work.event work.with (medium_laid m))
 at_medium w m n work is =
-    ap (λ (x : Option MediumSpec). option_and_then (λ (spec : MediumSpec). step_as IsMedium (medium_step spec w.seed work.event work.with (medium_of m))) x) is.spec_is
-    ∙ ap (λ (seed : ℕ). step_as IsMedium (medium_step m.spec seed work.event work.with (medium_of m))) (sym is.seed_is)
+    ap (λ (x : Option MediumSpec). option_and_then (λ (spec : MediumSpec). step_as IsMedium (medium_step spec w.seed work.event work.with (medium_laid m))) x) is.spec_is
+    ∙ ap (λ (seed : ℕ). step_as IsMedium (medium_step m.spec seed work.event work.with (medium_laid m))) (sym is.seed_is)
 
 -- Actors.
 
@@ -159,36 +159,36 @@ in_world : (w : World) (a : ActorName) (s : Actor) (now : ℕ) (work : Work) →
 in_world w a s now work has = ap (λ (b : Bool). when b (table_step w a s now work)) has
 
 -- what is kept tells whether the table answers
-table_ready : (w : World) (a : ActorName) (k : Kind) (now : ℕ) (work : Work) → Keeps w a k → kind_ready k now work ≡ is_some (table_step w a (seen k) now work)
+table_ready : (w : World) (a : ActorName) (k : Kind) (now : ℕ) (work : Work) → KeepsKind w a k → kind_ready k now work ≡ is_some (table_step w a (seen_kept k) now work)
 table_ready w (name.Desk h) (kind.Desk d) now work keeps =
-    some_map (desk_replies (desk_at d)) (desk_reply d.dbs (host_of d) work.event now (desk_at d))
-    ∙ (some_map _ (desk_step d.dbs (host_of d) work.event now (desk_at d))
+    some_map (desk_replies (desk_at d)) (desk_reply d.dbs (host_at_desk d) work.event now (desk_at d))
+    ∙ (some_map _ (desk_step d.dbs (host_at_desk d) work.event now (desk_at d))
     ∙ ap (λ (t : Option (Step Actor)). is_some t) (sym (at_host w d (slice_get w.hosts h) work.event now keeps.databases keeps.host)))
 table_ready w (name.Dir h p) (kind.Dir d) now work keeps =
-    ap (λ (q : Proto). is_ready q work.event work.with d.dir) keeps.proto_is
+    ap (λ (q : Proto). is_row_ready q work.event work.with d.dir) keeps.proto_is
     ∙ (ready_is w h p work.event work.with d.dir ∙ some_map _ (dir_step w h p work.event work.with d.dir))
 table_ready w (name.Conv h p n) (kind.Conv c) now work keeps =
     ap (λ (m : ℕ). is_some (conv_step m work.event work.with now c.conv)) keeps ∙ some_map _ (conv_step n work.event work.with now c.conv)
 table_ready w (name.Medium n) (kind.Medium m) now work keeps =
-    some_map _ (medium_step m.spec m.seed work.event work.with (medium_of m)) ∙ ap (λ (t : Option (Step Actor)). is_some t) (sym (at_medium w m n work keeps))
+    some_map _ (medium_step m.spec m.seed work.event work.with (medium_laid m)) ∙ ap (λ (t : Option (Step Actor)). is_some t) (sym (at_medium w m n work keeps))
 table_ready w name.Clock kind.Clock now work keeps = some_map plain_step (clock_reply work.event)
 table_ready w _ _ now work keeps = absurd keeps
 
-told_of : (a : Kept) (now : ℕ) (work : Work) (w : World) → IsActorOf w a → kind_ready a.kind now work ≡ is_some (actor_step w a.name (state_of a) now work)
+told_of : (a : Kept) (now : ℕ) (work : Work) (w : World) → IsActorOf w a → kind_ready a.kind now work ≡ is_some (actor_step w a.name (kept_state a) now work)
 unfolding IsActorOf
 told_of a now work w of =
-    table_ready w a.name a.kind now work of.1 ∙ ap (λ (t : Option (Step Actor)). is_some t) (sym (in_world w a.name (seen a.kind) now work of.0))
+    table_ready w a.name a.kind now work of.1 ∙ ap (λ (t : Option (Step Actor)). is_some t) (sym (in_world w a.name (seen_kept a.kind) now work of.0))
 
 pub told_in : (a : Kept) (now : ℕ) (work : Work) (told : Bool) → told ≡ kind_ready a.kind now work
-    → (w : World) → IsActorOf w a → told ≡ is_some (actor_step w a.name (state_of a) now work)
+    → (w : World) → IsActorOf w a → told ≡ is_some (actor_step w a.name (kept_state a) now work)
 told_in a now work told is w of = is ∙ told_of a now work w of
 
-pub ready_of : (a : Kept) (now : ℕ) (work : Work) → IsReady a now work → kind_ready a.kind now work ≡ true
+pub ready_of : (a : Kept) (now : ℕ) (work : Work) → IsKeptReady a now work → kind_ready a.kind now work ≡ true
 ready_of a now work r = told_of a now work r.0 r.1 ∙ r.2
 
 -- what is kept steps as the table does, and is still kept of the world
-table_steps : (w : World) (a : ActorName) (k l : Kind) (now : ℕ) (work : Work) (o : Outcome) → Keeps w a k → KindSteps k l now work o
-    → Keeps w a l × (table_step w a (seen k) now work ≡ Some (record { state = seen l; outcome = o }))
+table_steps : (w : World) (a : ActorName) (k l : Kind) (now : ℕ) (work : Work) (o : Outcome) → KeepsKind w a k → KindSteps k l now work o
+    → KeepsKind w a l × (table_step w a (seen_kept k) now work ≡ Some (record { state = seen_kept l; outcome = o }))
 table_steps w (name.Desk h) (kind.Desk d) (kind.Desk e) now work o keeps s = (
   subst (IsDeskOf w h) (sym s.same) (desk_keeps w h d e.version keeps),
   at_host w d (slice_get w.hosts h) work.event now keeps.databases keeps.host ∙ ap (step_as IsDesk) s.step,
@@ -211,26 +211,26 @@ table_steps w (name.Medium n) (kind.Medium m) _ now work o keeps s = absurd s
 table_steps w name.Clock kind.Clock _ now work o keeps s = absurd s
 table_steps w _ _ _ now work o keeps s = absurd keeps
 
-steps_in : (a : Kept) (l : Kind) (now : ℕ) (work : Work) (o : Outcome) → KindSteps a.kind l now work o → Steps a (record { name = a.name; kind = l }) now work o
+steps_in : (a : Kept) (l : Kind) (now : ℕ) (work : Work) (o : Outcome) → KindSteps a.kind l now work o → StepsKept a (record { name = a.name; kind = l }) now work o
 unfolding IsActorOf
 steps_in a l now work o s w of =
     let t = table_steps w a.name a.kind l now work o of.1 s in
-    record { of_world = (of.0, t.0); step = in_world w a.name (seen a.kind) now work of.0 ∙ t.1 }
+    record { of_world = (of.0, t.0); step = in_world w a.name (seen_kept a.kind) now work of.0 ∙ t.1 }
 
 -- an outcome of what is kept has its reply twice
-copy_of : (a : Kept) (l : Kind) (now : ℕ) (work : Work) (o : Outcome) → IsReady a now work → KindSteps a.kind l now work o → o.copy ≡ Some o.reply
+copy_of : (a : Kept) (l : Kind) (now : ℕ) (work : Work) (o : Outcome) → IsKeptReady a now work → KindSteps a.kind l now work o → o.copy ≡ Some o.reply
 unfolding IsActorOf
 copy_of a l now work o r s =
-    table_copies r.0 a.name (seen a.kind) (seen l) now work o (table_steps r.0 a.name a.kind l now work o r.1.1 s).1
+    table_copies r.0 a.name (seen_kept a.kind) (seen_kept l) now work o (table_steps r.0 a.name a.kind l now work o r.1.1 s).1
 
-pub steps_if : {E : Type 0} (r : Result Outcome E) (a : Kept) (l : Kind) (now : ℕ) (work : Work) → IfOk r (KindSteps a.kind l now work) → IfOk r (Steps a (record { name = a.name; kind = l }) now work)
+pub steps_if : {E : Type 0} (r : Result Outcome E) (a : Kept) (l : Kind) (now : ℕ) (work : Work) → IfOk r (KindSteps a.kind l now work) → IfOk r (StepsKept a (record { name = a.name; kind = l }) now work)
 steps_if (Ok o) a l now work is = steps_in a l now work o is
 steps_if (Err e) a l now work is = tt
 
-pub copy_if : {E : Type 0} (r : Result Outcome E) (a : Kept) (l : Kind) (now : ℕ) (work : Work) → IsReady a now work → IfOk r (KindSteps a.kind l now work) → IfOk r (λ (o : Outcome). o.copy ≡ Some o.reply)
+pub copy_if : {E : Type 0} (r : Result Outcome E) (a : Kept) (l : Kind) (now : ℕ) (work : Work) → IsKeptReady a now work → IfOk r (KindSteps a.kind l now work) → IfOk r (λ (o : Outcome). o.copy ≡ Some o.reply)
 copy_if (Ok o) a l now work ready is = copy_of a l now work o ready is
 copy_if (Err e) a l now work ready is = tt
 
-pub of_world : (w : World) (a : ActorName) (k : Kind) → has_actor w a ≡ true → Keeps w a k → IsActorOf w (record { name = a; kind = k })
+pub of_world : (w : World) (a : ActorName) (k : Kind) → has_actor w a ≡ true → KeepsKind w a k → IsActorOf w (record { name = a; kind = k })
 unfolding IsActorOf
 of_world w a k has keeps = (has, keeps)

@@ -15,9 +15,9 @@ use Rattle.net_base.specs.Actors.{Actor}
 use Rattle.net_base.specs.Duties.{due_of, generation_of, slots_of}
 use Rattle.duties.specs.declared.due.Due.{Due}
 use Rattle.duties.specs.Ticking.{due_at, dues_of}
-use Rattle.net_actors.specs.Together.{AreActors, Numbered, state_in}
+use Rattle.net_actors.specs.Together.{AreActors, Numbered, state_at_actor}
 use Rattle.net_actors.specs.declared.actor.Actor.{Actor as Kept}
-use Rattle.net_actors.specs.Kept.{state_of}
+use Rattle.net_actors.specs.Kept.{kept_state}
 use Rattle.net_actors.specs.Numbers.{number_of}
 use Rattle.net_actors.proofs.Placed.{stands_in, states_are}
 
@@ -96,22 +96,22 @@ none_due h p n s is = ap (λ (o : Option ℕ). option_to_list (option_map (at_mo
 some_due : (h : ℕ) (p : Proto) (n at : ℕ) (s : Actor) → due_of s ≡ Some at → at_moment h p n s at ∷ [] ≡ option_to_list (due_in_state h p n s)
 some_due h p n at s is = ap (λ (o : Option ℕ). option_to_list (option_map (at_moment h p n s) o)) (sym is)
 
-pub due_none : (v : Numbered) (h : ℕ) (p : Proto) (n : ℕ) (x : Kept) (ds : List Due) → slice_get v.actors (number_of v.hosts v.media (name.Conv h p n)) ≡ Some x → None ≡ due_of (state_of x)
-    → ds ≡ ds ++ option_to_list (due_at (state_in v) (name.Conv h p n))
+pub due_none : (v : Numbered) (h : ℕ) (p : Proto) (n : ℕ) (x : Kept) (ds : List Due) → slice_get v.actors (number_of v.hosts v.media (name.Conv h p n)) ≡ Some x → None ≡ due_of (kept_state x)
+    → ds ≡ ds ++ option_to_list (due_at (state_at_actor v) (name.Conv h p n))
 due_none v h p n x ds is none =
-    no_slot ds ∙ ap (λ (more : List Due). ds ++ more) (none_due h p n (state_in v (name.Conv h p n)) (ap due_of (stands_in v (name.Conv h p n) x is) ∙ sym none))
+    no_slot ds ∙ ap (λ (more : List Due). ds ++ more) (none_due h p n (state_at_actor v (name.Conv h p n)) (ap due_of (stands_in v (name.Conv h p n) x is) ∙ sym none))
 
 abbrev with_generation : ℕ → Proto → ℕ → ℕ → ℕ → Due
 with_generation h p n g at = record { host = h; proto = p; slot = n; generation = g; due = at }
 
-pub due_some : (v : Numbered) (h : ℕ) (p : Proto) (n : ℕ) (x : Kept) (at g : ℕ) (old new : List Due) → slice_get v.actors (number_of v.hosts v.media (name.Conv h p n)) ≡ Some x → Some at ≡ due_of (state_of x)
-    → g ≡ generation_of (state_of x) → new ≡ old ++ with_generation h p n g at ∷ []
-    → new ≡ old ++ option_to_list (due_at (state_in v) (name.Conv h p n))
+pub due_some : (v : Numbered) (h : ℕ) (p : Proto) (n : ℕ) (x : Kept) (at g : ℕ) (old new : List Due) → slice_get v.actors (number_of v.hosts v.media (name.Conv h p n)) ≡ Some x → Some at ≡ due_of (kept_state x)
+    → g ≡ generation_of (kept_state x) → new ≡ old ++ with_generation h p n g at ∷ []
+    → new ≡ old ++ option_to_list (due_at (state_at_actor v) (name.Conv h p n))
 due_some v h p n x at g old new is some gen added =
     let same = stands_in v (name.Conv h p n) x is in
     added
     ∙ (ap (λ (k : ℕ). old ++ with_generation h p n k at ∷ []) (gen ∙ ap generation_of (sym same))
-    ∙ ap (λ (more : List Due). old ++ more) (some_due h p n at (state_in v (name.Conv h p n)) (ap due_of same ∙ sym some)))
+    ∙ ap (λ (more : List Due). old ++ more) (some_due h p n at (state_at_actor v (name.Conv h p n)) (ap due_of same ∙ sym some)))
 
 -- States that are equal give equal moments.
 
@@ -134,25 +134,25 @@ flat_same f g c a (suc n) same =
 due_same : (f g : ActorName → Actor) (h : ℕ) (p : Proto) (n : ℕ) → f (name.Conv h p n) ≡ g (name.Conv h p n) → due_at f (name.Conv h p n) ≡ due_at g (name.Conv h p n)
 due_same f g h p n same = ap (due_in_state h p n) same
 
-pub dues_are : (v : Numbered) (ds : List Due) → ds ≡ dues_below (state_in v) v.hosts → (w : World) (states : ActorName → Actor) → AreActors w v states → ds ≡ dues_of w states
+pub dues_are : (v : Numbered) (ds : List Due) → ds ≡ dues_below (state_at_actor v) v.hosts → (w : World) (states : ActorName → Actor) → AreActors w v states → ds ≡ dues_of w states
 dues_are v ds is w states are =
     is
-    ∙ (ap (dues_below (state_in v)) are.hosts_are
-    ∙ flat_same (due_at (state_in v)) (due_at states) (λ (h : ℕ). slots_of h proto.Il ++ slots_of h proto.Udp) 0 (length w.hosts) at_host)
+    ∙ (ap (dues_below (state_at_actor v)) are.hosts_are
+    ∙ flat_same (due_at (state_at_actor v)) (due_at states) (λ (h : ℕ). slots_of h proto.Il ++ slots_of h proto.Udp) 0 (length w.hosts) at_host)
   where
-    at_slot : (h : ℕ) (p : Proto) (n : ℕ) → h < length w.hosts → n < 32 → due_at (state_in v) (name.Conv h p n) ≡ due_at states (name.Conv h p n)
+    at_slot : (h : ℕ) (p : Proto) (n : ℕ) → h < length w.hosts → n < 32 → due_at (state_at_actor v) (name.Conv h p n) ≡ due_at states (name.Conv h p n)
     at_slot h p n host slot =
-        due_same (state_in v) states h p n
+        due_same (state_at_actor v) states h p n
         (states_are w v states (name.Conv h p n) are (and_from (nat_lt h (length w.hosts)) (nat_lt n 32) (lt-ltb h (length w.hosts) host) (lt-ltb n 32 slot)))
 
-    at_proto : (h : ℕ) (p : Proto) → h < length w.hosts → filter_map (due_at (state_in v)) (slots_of h p) ≡ filter_map (due_at states) (slots_of h p)
-    at_proto h p host = map_same (due_at (state_in v)) (due_at states) (λ (n : ℕ). name.Conv h p n) 0 32 (λ n slot. at_slot h p n host (omega (arith, slot)))
+    at_proto : (h : ℕ) (p : Proto) → h < length w.hosts → filter_map (due_at (state_at_actor v)) (slots_of h p) ≡ filter_map (due_at states) (slots_of h p)
+    at_proto h p host = map_same (due_at (state_at_actor v)) (due_at states) (λ (n : ℕ). name.Conv h p n) 0 32 (λ n slot. at_slot h p n host (omega (arith, slot)))
 
     at_host : (h : ℕ) → h < 0 + length w.hosts
-        → filter_map (due_at (state_in v)) (slots_of h proto.Il ++ slots_of h proto.Udp) ≡ filter_map (due_at states) (slots_of h proto.Il ++ slots_of h proto.Udp)
+        → filter_map (due_at (state_at_actor v)) (slots_of h proto.Il ++ slots_of h proto.Udp) ≡ filter_map (due_at states) (slots_of h proto.Il ++ slots_of h proto.Udp)
     at_host h lt =
         let host : h < length w.hosts = omega (arith, lt) in
-        filter_map-append (due_at (state_in v)) (slots_of h proto.Il) (slots_of h proto.Udp)
-        ∙ (ap (λ (ds : List Due). ds ++ filter_map (due_at (state_in v)) (slots_of h proto.Udp)) (at_proto h proto.Il host)
+        filter_map-append (due_at (state_at_actor v)) (slots_of h proto.Il) (slots_of h proto.Udp)
+        ∙ (ap (λ (ds : List Due). ds ++ filter_map (due_at (state_at_actor v)) (slots_of h proto.Udp)) (at_proto h proto.Il host)
         ∙ (ap (λ (ds : List Due). filter_map (due_at states) (slots_of h proto.Il) ++ ds) (at_proto h proto.Udp host)
         ∙ sym (filter_map-append (due_at states) (slots_of h proto.Il) (slots_of h proto.Udp))))

@@ -29,7 +29,7 @@ use Rattle.net_base.specs.Net.{WorkAt, play, played, stepped_to}
 use Rattle.net_base.specs.Number.{number}
 use Rattle.net_base.specs.Timer as timer
 use Rattle.net_base.specs.Timer.{Timer}
-use Rattle.net_actors.specs.Small.{IsSmall}
+use Rattle.net_actors.specs.Small.{IsSmallActor}
 use Rattle.table_laws.specs.ActorRows.{ActorRow, AtDesk, AtDir, AtConv, AtMedium, AtClock, Lays, MediumRow}
 use Rattle.table_laws.specs.ConvRows.{ConvRow}
 use Rattle.table_laws.specs.ConvRows as row
@@ -277,11 +277,11 @@ opens_empty timers (name.Conv h proto.Udp n) = refl
 opens_empty timers (name.Medium m) = refl
 opens_empty timers name.Clock = refl
 
-small_conv : (c : Conv) (k : Core) → c.core ≡ k → core_size k < 2 ^ 30 → IsSmall (IsConv c)
-small_conv c (Il e) is few = subst (λ (k : Core). IsSmall (IsConv (record c { core = k }))) (sym is) (record { few_sent = omega (arith, few); few_got = omega (arith, few) })
-small_conv c (Udp e) is few = subst (λ (k : Core). IsSmall (IsConv (record c { core = k }))) (sym is) tt
+small_conv : (c : Conv) (k : Core) → c.core ≡ k → core_size k < 2 ^ 30 → IsSmallActor (IsConv c)
+small_conv c (Il e) is few = subst (λ (k : Core). IsSmallActor (IsConv (record c { core = k }))) (sym is) (record { few_sent = omega (arith, few); few_got = omega (arith, few) })
+small_conv c (Udp e) is few = subst (λ (k : Core). IsSmallActor (IsConv (record c { core = k }))) (sym is) tt
 
-small_is : (s : Actor) → size_of s < 2 ^ 30 → IsSmall s
+small_is : (s : Actor) → size_of s < 2 ^ 30 → IsSmallActor s
 small_is (IsConv c) few = small_conv c c.core refl few
 small_is (IsMedium m) few = omega (arith, few)
 small_is (IsDir d) few = tt
@@ -289,7 +289,7 @@ small_is (IsDesk d) few = tt
 small_is IsPlain few = tt
 
 -- what few works led to is small
-pub few_works : (w : World) (a : ActorName) (ps : List WorkAt) → length ps < 2 ^ 30 → IsSmall (played w a (opening_actor w.timers a) ps)
+pub few_works : (w : World) (a : ActorName) (ps : List WorkAt) → length ps < 2 ^ 30 → IsSmallActor (played w a (opening_actor w.timers a) ps)
 few_works w a ps few =
     let raised = all_raise w a (opening_actor w.timers a) ps in
     let empty = opens_empty w.timers a in

@@ -29,8 +29,8 @@ pub record AreNets (nets : List Proto) : Type 0 where
   pub once : AllPairs (λ net other. net ≢ other) nets
 
 -- a host of that name with these nets; a desk asks for nothing else of it
-abbrev pub host_of : AtDesk → HostSpec
-host_of d = record { name = d.name; nets = d.nets; ifaces = []; routes = []; starts = [] }
+abbrev pub host_at_desk : AtDesk → HostSpec
+host_at_desk d = record { name = d.name; nets = d.nets; ifaces = []; routes = []; starts = [] }
 
 -- a host is of that name, with these nets
 pub record IsAtHost (d : AtDesk) (h : HostSpec) : Type 0 where

@@ -6,15 +6,15 @@ use Rattle.net_base.specs.declared.address.Proto.{Proto}
 use Rattle.net_base.specs.declared.address.Proto.TheVariants as proto
 use Rattle.net_base.specs.declared.world.World.{World}
 
-abbrev pub proto_number : Proto → ℕ
-proto_number proto.Il = 0
-proto_number proto.Udp = 1
+abbrev pub number_of_proto : Proto → ℕ
+number_of_proto proto.Il = 0
+number_of_proto proto.Udp = 1
 
 -- where there are so many hosts and media
 abbrev pub number_of : ℕ → ℕ → ActorName → ℕ
 number_of hosts media (name.Desk h) = h
-number_of hosts media (name.Dir h p) = hosts + 2 * h + proto_number p
-number_of hosts media (name.Conv h p n) = 3 * hosts + 64 * h + 32 * proto_number p + n
+number_of hosts media (name.Dir h p) = hosts + 2 * h + number_of_proto p
+number_of hosts media (name.Conv h p n) = 3 * hosts + 64 * h + 32 * number_of_proto p + n
 number_of hosts media (name.Medium m) = 67 * hosts + m
 number_of hosts media name.Clock = 67 * hosts + media
 
@@ -23,16 +23,16 @@ abbrev pub actor_count : ℕ → ℕ → ℕ
 actor_count hosts media = 67 * hosts + media + 1
 
 -- it is one of them
-abbrev pub is_among : ℕ → ℕ → ActorName → Bool
-is_among hosts media (name.Desk h) = nat_lt h hosts
-is_among hosts media (name.Dir h p) = nat_lt h hosts
-is_among hosts media (name.Conv h p n) = nat_lt h hosts && nat_lt n 32
-is_among hosts media (name.Medium m) = nat_lt m media
-is_among hosts media name.Clock = true
+abbrev pub is_actor_among : ℕ → ℕ → ActorName → Bool
+is_actor_among hosts media (name.Desk h) = nat_lt h hosts
+is_actor_among hosts media (name.Dir h p) = nat_lt h hosts
+is_actor_among hosts media (name.Conv h p n) = nat_lt h hosts && nat_lt n 32
+is_actor_among hosts media (name.Medium m) = nat_lt m media
+is_actor_among hosts media name.Clock = true
 
 -- the number of an actor of the world
-abbrev pub number_in : World → ActorName → ℕ
-number_in w a = number_of (length w.hosts) (length w.media) a
+abbrev pub number_in_world : World → ActorName → ℕ
+number_in_world w a = number_of (length w.hosts) (length w.media) a
 
 abbrev pub count_in : World → ℕ
 count_in w = actor_count (length w.hosts) (length w.media)

@@ -4,7 +4,7 @@ use Rattle.net_base.specs.Actors.{Actor, IsConv, IsMedium}
 use Rattle.conversation.specs.Stands.{IsShort}
 
 -- a conversation has sent and got few messages, and the next frame of a medium has a number
-abbrev pub IsSmall : Actor → Type 0
-IsSmall (IsConv c) = IsShort c
-IsSmall (IsMedium m) = m.frames + 1 < 2 ^ 64
-IsSmall _ = Unit {0}
+abbrev pub IsSmallActor : Actor → Type 0
+IsSmallActor (IsConv c) = IsShort c
+IsSmallActor (IsMedium m) = m.frames + 1 < 2 ^ 64
+IsSmallActor _ = Unit {0}

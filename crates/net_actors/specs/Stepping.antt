@@ -13,40 +13,40 @@ use Rattle.net_base.specs.Directory.{dir_step}
 use Rattle.net_base.specs.Medium.{datagram_length, medium_step, takes}
 use Rattle.conversation.specs.Kept.{Seat}
 use Rattle.conversation.specs.Memory.{work_takes}
-use Rattle.conversation.specs.Stands.{Steps as TalkSteps, slot_of, step_at}
-use Rattle.host_dir.specs.Kept.{Steps as DirSteps, Wants as DirWants}
-use Rattle.host_dir.specs.Ready.{is_ready}
-use Rattle.medium.specs.OnMedium.{OnMedium, medium_of}
+use Rattle.conversation.specs.Stands.{StepsSeat as TalkSteps, slot_of, step_at}
+use Rattle.host_dir.specs.Kept.{StepsDir as DirSteps, Wants as DirWants}
+use Rattle.host_dir.specs.Ready.{is_row_ready}
+use Rattle.medium.specs.OnMedium.{OnMedium, medium_laid}
 use Rattle.medium.specs.Replies.{NextHasText}
-use Rattle.net_actors.specs.AtDesk.{AtDesk, Replies, desk_at, host_of}
-use Rattle.net_actors.specs.Kept.{IsActorOf, state_of}
+use Rattle.net_actors.specs.AtDesk.{AtDesk, Replies, desk_at, host_at_desk}
+use Rattle.net_actors.specs.Kept.{IsActorOf, kept_state}
 use Rattle.net_actors.specs.declared.actor.Actor.{Actor as Kept}
 use Rattle.net_actors.specs.declared.kind.Kind.{Kind}
 use Rattle.net_actors.specs.declared.kind.Kind.TheVariants as kind
 
 -- in some world of which it is an actor, its table answers the work
-abbrev pub IsReady : Kept → ℕ → Work → Type 0
-IsReady a now work = (w : World) × IsActorOf w a × (is_some (actor_step w a.name (state_of a) now work) ≡ true)
+abbrev pub IsKeptReady : Kept → ℕ → Work → Type 0
+IsKeptReady a now work = (w : World) × IsActorOf w a × (is_some (actor_step w a.name (kept_state a) now work) ≡ true)
 
 -- its table answers with this outcome and leaves this state, and it stays an actor of the world
-pub record StepsIn (w : World) (old new : Kept) (now : ℕ) (work : Work) (o : Outcome) : Type 0 where
+pub record StepsKeptIn (w : World) (old new : Kept) (now : ℕ) (work : Work) (o : Outcome) : Type 0 where
   pub of_world : IsActorOf w new
-  pub step : actor_step w old.name (state_of old) now work ≡ Some (record { state = state_of new; outcome = o })
+  pub step : actor_step w old.name (kept_state old) now work ≡ Some (record { state = kept_state new; outcome = o })
 
 -- so in each world of which it is an actor
-abbrev pub Steps : Kept → Kept → ℕ → Work → Outcome → Type 0
-Steps old new now work o = (w : World) → IsActorOf w old → StepsIn w old new now work o
+abbrev pub StepsKept : Kept → Kept → ℕ → Work → Outcome → Type 0
+StepsKept old new now work o = (w : World) → IsActorOf w old → StepsKeptIn w old new now work o
 
 -- What an actor that is kept answers, in no world.
 
 -- the table of a medium answers the work
 abbrev pub medium_ready : OnMedium → Work → Bool
-medium_ready m work = is_some (medium_step m.spec m.seed work.event work.with (medium_of m))
+medium_ready m work = is_some (medium_step m.spec m.seed work.event work.with (medium_laid m))
 
 -- its table answers the work
 abbrev pub kind_ready : Kind → ℕ → Work → Bool
-kind_ready (kind.Desk d) now work = is_some (desk_reply d.dbs (host_of d) work.event now (desk_at d))
-kind_ready (kind.Dir d) now work = is_ready d.proto work.event work.with d.dir
+kind_ready (kind.Desk d) now work = is_some (desk_reply d.dbs (host_at_desk d) work.event now (desk_at d))
+kind_ready (kind.Dir d) now work = is_row_ready d.proto work.event work.with d.dir
 kind_ready (kind.Conv c) now work = is_some (step_at c now work c.conv)
 kind_ready (kind.Medium m) now work = medium_ready m work
 kind_ready kind.Clock now work = is_some (clock_reply work.event)
@@ -54,7 +54,7 @@ kind_ready kind.Clock now work = is_some (clock_reply work.event)
 -- what the world says of the desk stays
 pub record DeskSteps (old new : AtDesk) (now : ℕ) (work : Work) (o : Outcome) : Type 0 where
   pub same : new ≡ record old { version = new.version }
-  pub step : desk_step old.dbs (host_of old) work.event now (desk_at old) ≡ Some (record { state = desk_at new; outcome = o })
+  pub step : desk_step old.dbs (host_at_desk old) work.event now (desk_at old) ≡ Some (record { state = desk_at new; outcome = o })
 
 -- a conversation steps in its slot
 pub record ConvSteps (old new : Seat) (now : ℕ) (work : Work) (o : Outcome) : Type 0 where
@@ -66,13 +66,13 @@ pub record ConvSteps (old new : Seat) (now : ℕ) (work : Work) (o : Outcome) : 
 pub record MediumSteps (old new : OnMedium) (work : Work) (o : Outcome) : Type 0 where
   pub spec : new.spec ≡ old.spec
   pub seed : new.seed ≡ old.seed
-  pub step : medium_step old.spec old.seed work.event work.with (medium_of old) ≡ Some (record { state = medium_of new; outcome = o })
+  pub step : medium_step old.spec old.seed work.event work.with (medium_laid old) ≡ Some (record { state = medium_laid new; outcome = o })
 
 -- a copy is taken
 pub record MediumTakes (old new : OnMedium) (o : Outcome) : Type 0 where
   pub spec : new.spec ≡ old.spec
   pub seed : new.seed ≡ old.seed
-  pub step : takes (medium_of old).queue (medium_of old).held (medium_of old) ≡ Some (record { state = medium_of new; outcome = o })
+  pub step : takes (medium_laid old).queue (medium_laid old).held (medium_laid old) ≡ Some (record { state = medium_laid new; outcome = o })
 
 abbrev pub KindSteps : Kind → Kind → ℕ → Work → Outcome → Type 0
 KindSteps (kind.Desk d) (kind.Desk e) now work o = DeskSteps d e now work o

@@ -5,9 +5,9 @@ ghost use Rattle.net_base.specs.declared.world.World.{World as AnyWorld};
 ghost use Rattle.net_base.specs.Actors.{actor_step, has_actor, opening_actor};
 ghost use Rattle.net_base.specs.Duties as duties;
 ghost use Rattle.net_base.specs.World.{IsWorld};
-ghost use Rattle.net_actors.specs.Kept.{IsActorOf, state_of};
-ghost use Rattle.net_actors.specs.Small.{IsSmall};
-ghost use Rattle.net_actors.specs.Stepping.{IsReady, ActorMayWant, Steps};
+ghost use Rattle.net_actors.specs.Kept.{IsActorOf, kept_state};
+ghost use Rattle.net_actors.specs.Small.{IsSmallActor};
+ghost use Rattle.net_actors.specs.Stepping.{IsKeptReady, ActorMayWant, StepsKept};
 
 use crate::kind::Kind;
 use ndb_versions::IndexedVersions;
@@ -39,7 +39,7 @@ impl Actor {
         requires dbs { arc_value dbs.now ≡ world.now.dbs }
         ensures of { IfOk result (IsActorOf world.now) }
         ensures name { IfOk result (λ a. a.name ≡ name) }
-        ensures opening { IfOk result (λ a. state_of a ≡ opening_actor world.now.timers name) }
+        ensures opening { IfOk result (λ a. kept_state a ≡ opening_actor world.now.timers name) }
     {
         let kind = Kind::new(alloc, world, dbs, name)?;
         Ok(Actor { name, kind })
@@ -56,7 +56,7 @@ impl Actor {
     #[tactic(auto, using(crate::proofs::ByKind::told_in))]
     pub fn ready(&self, now: u64, work: &Work) -> bool
         ensures { (w : AnyWorld) → IsActorOf w self.now
-            → result ≡ is_some (actor_step w self.now.name (state_of self.now) now work.now) }
+            → result ≡ is_some (actor_step w self.now.name (kept_state self.now) now work.now) }
     {
         self.kind.ready(now, work)
     }
@@ -65,9 +65,9 @@ impl Actor {
     #[tactic(auto, using(crate::proofs::ByKind::ready_of, crate::proofs::ByKind::steps_if, crate::proofs::ByKind::copy_if))]
     pub fn step(&mut self, now: u64, work: &Work) -> Result<Outcome, AllocError>
         requires now { now < 2 ^ 63 }
-        requires small { IsSmall (state_of self.old) }
-        requires ready { IsReady self.old now work.now }
-        ensures ok { IfOk result (Steps self.old self.new now work.now) }
+        requires small { IsSmallActor (kept_state self.old) }
+        requires ready { IsKeptReady self.old now work.now }
+        ensures ok { IfOk result (StepsKept self.old self.new now work.now) }
         ensures name { self.new.name ≡ self.old.name }
         ensures copy { IfOk result (λ o. o.copy ≡ Some o.reply) }
         ensures err { OnErr result (self.new ≡ self.old) }
@@ -78,14 +78,14 @@ impl Actor {
 
     /// The moment at which it is due.
     pub fn due(&self) -> Option<u64>
-        ensures { result ≡ duties.due_of (state_of self.now) }
+        ensures { result ≡ duties.due_of (kept_state self.now) }
     {
         self.kind.due()
     }
 
     /// The generation of a conversation, else 0.
     pub fn generation(&self) -> u64
-        ensures { result ≡ duties.generation_of (state_of self.now) }
+        ensures { result ≡ duties.generation_of (kept_state self.now) }
     {
         self.kind.generation()
     }

@@ -9,7 +9,7 @@ ghost use Rattle.std.specs.Arc.{arc_value};
 ghost use Rattle.duties.specs.Ticking.{dues_of};
 ghost use Rattle.net_actors.specs.Numbers as spec;
 ghost use Rattle.net_actors.specs.Numbers.{count_in};
-ghost use Rattle.net_actors.specs.Together.{AreActors, AreFirst, CanStep, MayWantAt, Steps, due_in_slot, dues_at, has_name};
+ghost use Rattle.net_actors.specs.Together.{AreActors, AreFirst, CanStep, MayWantAt, StepsTogether, due_in_slot, dues_at, has_name};
 
 use crate::actor::Actor;
 use crate::number::{actor_at, actor_count, is_among, number_of};
@@ -89,7 +89,7 @@ impl Actors {
     pub fn step(&mut self, name: ActorName, now: u64, work: &Work) -> Result<Outcome, AllocError>
         requires now { now < 2 ^ 63 }
         requires ready { CanStep self.old name now work.now }
-        ensures ok { IfOk result (Steps self.old self.new name now work.now) }
+        ensures ok { IfOk result (StepsTogether self.old self.new name now work.now) }
         ensures copy { IfOk result (λ o. o.copy ≡ Some o.reply) }
         ensures err { OnErr result (self.new ≡ self.old) }
         ensures memory { OnErr result (MayWantAt self.old name now work.now) }

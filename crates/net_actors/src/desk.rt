@@ -7,7 +7,7 @@ ghost use Rattle.net_base.specs.Desk as spec;
 ghost use Rattle.net_base.specs.Paths.{walk as node_at};
 ghost use Rattle.net_base.specs.World.{is_nets};
 ghost use Rattle.net_base.specs.Versions.{database_of, in_force};
-ghost use Rattle.net_actors.specs.AtDesk.{Replies, desk_at, host_of, leaves_desk};
+ghost use Rattle.net_actors.specs.AtDesk.{Replies, desk_at, host_at_desk, leaves_desk};
 ghost use Rattle.net_actors.specs.Stepping.{desk_takes};
 
 use crate::outcome::answered;
@@ -67,7 +67,7 @@ impl Desk {
 
     /// Whether the desk has an answer at a moment, in ms.
     pub fn ready(&self, now: u64, event: &Event) -> bool
-        ensures { result ≡ is_some (spec.desk_reply self.now.dbs (host_of self.now) event.now now (desk_at self.now)) }
+        ensures { result ≡ is_some (spec.desk_reply self.now.dbs (host_at_desk self.now) event.now now (desk_at self.now)) }
     {
         match event {
             Event::Cs { .. } => true,
@@ -84,8 +84,8 @@ impl Desk {
     /// The answer to an event, where there is one.
     #[tactic(auto, using(crate::proofs::ByKind::told_steps))]
     pub fn answer(&mut self, now: u64, event: &Event) -> Result<Outcome, AllocError>
-        requires { IsTrue (is_some (spec.desk_reply self.old.dbs (host_of self.old) event.now now (desk_at self.old))) }
-        ensures ok { IfOk result (λ o. spec.desk_step self.old.dbs (host_of self.old) event.now now (desk_at self.old)
+        requires { IsTrue (is_some (spec.desk_reply self.old.dbs (host_at_desk self.old) event.now now (desk_at self.old))) }
+        ensures ok { IfOk result (λ o. spec.desk_step self.old.dbs (host_at_desk self.old) event.now now (desk_at self.old)
             ≡ Some (record { state = desk_at self.new; outcome = o })) }
         ensures same { self.new ≡ record self.old { version = self.new.version } }
         ensures err { OnErr result (self.new ≡ self.old) }
@@ -99,9 +99,9 @@ impl Desk {
 
     /// The answer to an event that leaves the desk as it is.
     fn tell(&self, event: &Event, now: u64) -> Result<Outcome, AllocError>
-        requires some { IsTrue (is_some (spec.desk_reply self.now.dbs (host_of self.now) event.now now (desk_at self.now))) }
+        requires some { IsTrue (is_some (spec.desk_reply self.now.dbs (host_at_desk self.now) event.now now (desk_at self.now))) }
         requires leaves { leaves_desk event.now ≡ true }
-        ensures ok { IfOk result (Replies (spec.desk_reply self.now.dbs (host_of self.now) event.now now (desk_at self.now))) }
+        ensures ok { IfOk result (Replies (spec.desk_reply self.now.dbs (host_at_desk self.now) event.now now (desk_at self.now))) }
         ensures memory { OnErr result (desk_takes event.now ≡ true) }
     {
         match event {

@@ -9,10 +9,10 @@ ghost use Rattle.net_base.specs.Medium.{quiet_medium};
 ghost use Rattle.net_base.specs.World.{IsWorld};
 ghost use Rattle.conversation.specs.Memory.{work_takes};
 ghost use Rattle.conversation.specs.Stands.{IsShort, slot_of, step_at};
-ghost use Rattle.medium.specs.OnMedium.{medium_of as seen_medium};
+ghost use Rattle.medium.specs.OnMedium.{medium_laid as seen_medium};
 ghost use Rattle.net_actors.specs.AtDesk.{IsDeskOf, desk_at};
-ghost use Rattle.net_actors.specs.Kept.{IsMediumOf, Keeps, seen};
-ghost use Rattle.net_actors.specs.Small.{IsSmall};
+ghost use Rattle.net_actors.specs.Kept.{IsMediumOf, KeepsKind, seen_kept};
+ghost use Rattle.net_actors.specs.Small.{IsSmallActor};
 ghost use Rattle.net_actors.specs.Stepping.{ConvSteps, KindSteps, ActorMayWant, kind_ready};
 
 use crate::desk::Desk;
@@ -47,8 +47,8 @@ impl Kind {
         requires world { IsWorld world.now }
         requires has { has_actor world.now name ≡ true }
         requires dbs { arc_value dbs.now ≡ world.now.dbs }
-        ensures keeps { IfOk result (Keeps world.now name) }
-        ensures opening { IfOk result (λ k. seen k ≡ opening_actor world.now.timers name) }
+        ensures keeps { IfOk result (KeepsKind world.now name) }
+        ensures opening { IfOk result (λ k. seen_kept k ≡ opening_actor world.now.timers name) }
     {
         match name {
             ActorName::Desk(host) => Ok(Kind::Desk(desk_of(alloc, world, dbs, host)?)),
@@ -77,7 +77,7 @@ impl Kind {
     /// The answer to a work that has one.
     pub fn step(&mut self, now: u64, work: &Work) -> Result<Outcome, AllocError>
         requires now { now < 2 ^ 63 }
-        requires small { IsSmall (seen self.old) }
+        requires small { IsSmallActor (seen_kept self.old) }
         requires ready { IsTrue (kind_ready self.old now work.now) }
         ensures ok { IfOk result (KindSteps self.old self.new now work.now) }
         ensures err { OnErr result (self.new ≡ self.old) }
@@ -94,7 +94,7 @@ impl Kind {
 
     /// The moment at which something is due.
     pub fn due(&self) -> Option<u64>
-        ensures { result ≡ duties.due_of (seen self.now) }
+        ensures { result ≡ duties.due_of (seen_kept self.now) }
     {
         match self {
             Kind::Conv(conv) => due_of(conv),
@@ -104,7 +104,7 @@ impl Kind {
 
     /// The generation of a conversation, else 0.
     pub fn generation(&self) -> u64
-        ensures { result ≡ duties.generation_of (seen self.now) }
+        ensures { result ≡ duties.generation_of (seen_kept self.now) }
     {
         match self {
             Kind::Conv(conv) => generation_of(conv),

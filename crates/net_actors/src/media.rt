@@ -2,7 +2,7 @@
 ghost use Rattle.std.specs.Prelude.{◌≡◌, ◌+◌, ◌^◌, ◌<◌, IfOk, IsTrue, OnErr, None, Some};
 ghost use Rattle.net_base.specs.ActorStep.{replies};
 ghost use Rattle.medium.specs.OnMedium.{IsPending};
-ghost use Rattle.medium.specs.Replies.{NextHasText, reply_of};
+ghost use Rattle.medium.specs.Replies.{NextHasText, laid_reply_of};
 ghost use Rattle.net_actors.specs.Stepping.{MediumMayWant, MediumSteps, MediumTakes, medium_ready};
 
 use crate::outcome::answered;
@@ -54,13 +54,13 @@ fn take(medium: &mut Medium) -> Result<Outcome, AllocError>
 }
 
 fn laid_outcome(laid: Laid) -> Outcome
-    ensures { result ≡ replies (reply_of laid) None }
+    ensures { result ≡ replies (laid_reply_of laid) None }
 {
     answered(reply_to(laid), reply_to(laid))
 }
 
 fn reply_to(laid: Laid) -> Reply
-    ensures { result ≡ reply_of laid }
+    ensures { result ≡ laid_reply_of laid }
 {
     match laid {
         Laid::Frame(frame) => Reply::Laid { frame },

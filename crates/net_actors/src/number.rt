@@ -11,7 +11,7 @@ use net_base::{ActorName, Proto};
 const SLOTS: usize = 32;
 
 fn proto_number(proto: Proto) -> usize
-    ensures { result ≡ spec.proto_number proto }
+    ensures { result ≡ spec.number_of_proto proto }
 {
     match proto {
         Proto::Il => 0,
@@ -44,7 +44,7 @@ pub fn number_of(hosts: u32, media: u32, name: ActorName) -> usize
 
 /// Whether a world with so many hosts and media has the actor.
 pub fn is_among(hosts: u32, media: u32, name: ActorName) -> bool
-    ensures { result ≡ spec.is_among hosts media name }
+    ensures { result ≡ spec.is_actor_among hosts media name }
 {
     match name {
         ActorName::Desk(host) | ActorName::Dir(host, _) => host < hosts,
@@ -56,7 +56,7 @@ pub fn is_among(hosts: u32, media: u32, name: ActorName) -> bool
 
 fn proto_of(number: usize) -> Proto
     requires { number < 2 }
-    ensures { spec.proto_number result ≡ number }
+    ensures { spec.number_of_proto result ≡ number }
 {
     if number == 0 { Proto::Il } else { Proto::Udp }
 }
@@ -65,7 +65,7 @@ fn proto_of(number: usize) -> Proto
 pub fn actor_at(hosts: u32, media: u32, number: usize) -> ActorName
     requires { number < spec.actor_count hosts media }
     ensures number { spec.number_of hosts media result ≡ number }
-    ensures among { spec.is_among hosts media result ≡ true }
+    ensures among { spec.is_actor_among hosts media result ≡ true }
 {
     let all_hosts = hosts as usize;
     if number < all_hosts {
@@ -89,7 +89,7 @@ pub fn actor_at(hosts: u32, media: u32, number: usize) -> ActorName
 /// The numbers of a world's actors are below their count, and different actors have different ones.
 #[tactic(auto, using(crate::proofs::Numbering::below_in, crate::proofs::Numbering::same_in))]
 pub fn numbers_are_apart()
-    ensures below { (w : World) (a : Name) → has_actor w a ≡ true → spec.number_in w a < spec.count_in w }
+    ensures below { (w : World) (a : Name) → has_actor w a ≡ true → spec.number_in_world w a < spec.count_in w }
     ensures apart { (w : World) (a b : Name) → has_actor w a ≡ true → has_actor w b ≡ true
-        → spec.number_in w a ≡ spec.number_in w b → a ≡ b }
+        → spec.number_in_world w a ≡ spec.number_in_world w b → a ≡ b }
 {}

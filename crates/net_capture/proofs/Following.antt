@@ -9,29 +9,29 @@ use Rattle.net_base.specs.declared.history.Entry.{Entry}
 use Rattle.net_base.specs.declared.packet.Packet.{Packet}
 use Rattle.net_base.specs.declared.world.World.{World}
 use Rattle.net_base.specs.Net.{Net, after, moment, net_of, next_net, opening_net, owed, with_of}
-use Rattle.plain_runner.specs.Callers.{IsCaller}
-use Rattle.plain_runner.specs.Followed.{Followed, Follows}
+use Rattle.plain_runner.specs.Callers.{IsCallerKept}
+use Rattle.plain_runner.specs.Followed.{Followed, FollowsRun}
 use Rattle.plain_runner.specs.declared.caller.Caller.{Caller}
 use Rattle.plain_runner.specs.declared.runner.Runner.{Runner}
 use Rattle.plain_runner.proofs.Shared.{moment_within}
-use Rattle.wire_text.specs.Datagram.{IsPacket, packet_of, spelling}
-use Rattle.net_capture.specs.Capture.{Frame, IsReadBack, capture, frame_of, frames, is_shown, laid_by, laid_from, medium_of, packet_in, seen, shown_frames}
-use Rattle.net_capture.specs.Following.{AddsIn, is_on, shown_at}
-use Rattle.net_capture.specs.Savefile.{Seen, file_header, packet_record, seen_at}
+use Rattle.wire_text.specs.Datagram.{IsPacket, datagram_packet, packet_spelling}
+use Rattle.net_capture.specs.Capture.{Frame, IsReadBack, capture, frame_of, frames, is_shown, frames_laid, laid_from, medium_of, given_packet, seen, shown_frames}
+use Rattle.net_capture.specs.Following.{AddsFramesIn, is_medium_shown, shown_at}
+use Rattle.net_capture.specs.Savefile.{Seen, file_header, packet_record, seen_at_moment}
 use Rattle.net_capture.proofs.Laying.{nothing_given, shown_on, shown_one}
 
 -- One entry more.
 
-pub laid_more : (w : World) (net : Net) (h : List Entry) (x : Entry) → laid_from w net (h ++ x ∷ []) ≡ laid_from w net h ++ laid_by (net_of w net h) x
-laid_more w net [] x = append-nil (laid_by net x)
+pub laid_more : (w : World) (net : Net) (h : List Entry) (x : Entry) → laid_from w net (h ++ x ∷ []) ≡ laid_from w net h ++ frames_laid (net_of w net h) x
+laid_more w net [] x = append-nil (frames_laid net x)
 laid_more w net (y ∷ h) x =
-    ap (λ (fs : List Frame). laid_by net y ++ fs) (laid_more w (next_net w net y) h x)
-    ∙ sym (append_assoc (laid_by net y) (laid_from w (next_net w net y) h) (laid_by (net_of w (next_net w net y) h) x))
+    ap (λ (fs : List Frame). frames_laid net y ++ fs) (laid_more w (next_net w net y) h x)
+    ∙ sym (append_assoc (frames_laid net y) (laid_from w (next_net w net y) h) (frames_laid (net_of w (next_net w net y) h) x))
 
 shown_more : (w : World) (h : List Entry) (x : Entry) (medium : Option ℕ)
-    → shown_frames w (h ++ x ∷ []) medium ≡ shown_frames w h medium ++ filter (is_shown medium) (laid_by (after w h) x)
+    → shown_frames w (h ++ x ∷ []) medium ≡ shown_frames w h medium ++ filter (is_shown medium) (frames_laid (after w h) x)
 shown_more w h x medium =
-    ap (filter (is_shown medium)) (laid_more w (opening_net w) h x) ∙ filter-append (is_shown medium) (frames w h) (laid_by (after w h) x)
+    ap (filter (is_shown medium)) (laid_more w (opening_net w) h x) ∙ filter-append (is_shown medium) (frames w h) (frames_laid (after w h) x)
 
 records-append : (fs gs : List Frame)
     → flat_map packet_record (map seen (fs ++ gs)) ≡ flat_map packet_record (map seen fs) ++ flat_map packet_record (map seen gs)
@@ -58,7 +58,7 @@ taken_more h n x lt is = ap (λ (y : Entry). take n h ++ y ∷ []) is ∙ sym (t
 
 pub captured_more : (w : World) (medium : Option ℕ) (h : List Entry) (r new : Runner) (n : ℕ) (x : Entry) (old bytes : List ℕ) → n < length h
     → x ≡ get_or h n x
-    → Captured w medium (take n h) r old → AddsIn w r x medium old bytes → Followed w (r.history.entries ++ x ∷ []) new
+    → Captured w medium (take n h) r old → AddsFramesIn w r x medium old bytes → Followed w (r.history.entries ++ x ∷ []) new
     → Captured w medium (take (n + 1) h) new bytes
 captured_more w medium h r new n x old bytes lt is c adds followed =
     subst (λ (past : List Entry). Captured w medium past new bytes) (taken_more h n x lt is) (record {
@@ -69,17 +69,17 @@ captured_more w medium h r new n x old bytes lt is c adds followed =
           ∙ (append_assoc file_header (flat_map packet_record (map seen (shown_frames w (take n h) medium))) (flat_map packet_record (map seen here))
           ∙ ap (λ (rest : List ℕ). file_header ++ rest)
           (ap (λ (fs : List Frame). flat_map packet_record (map seen (shown_frames w (take n h) medium)) ++ flat_map packet_record (map seen fs)) at_past
-          ∙ (sym (records-append (shown_frames w (take n h) medium) (filter (is_shown medium) (laid_by (after w (take n h)) x)))
+          ∙ (sym (records-append (shown_frames w (take n h) medium) (filter (is_shown medium) (frames_laid (after w (take n h)) x)))
           ∙ ap (λ (fs : List Frame). flat_map packet_record (map seen fs)) (sym (shown_more w (take n h) x medium))))));
       read = subst (AllByRecursion IsReadBack) (sym (shown_more w (take n h) x medium))
-          (all_read (shown_frames w (take n h) medium) (filter (is_shown medium) (laid_by (after w (take n h)) x)) c.read (subst (AllByRecursion IsReadBack) at_past adds.read));
+          (all_read (shown_frames w (take n h) medium) (filter (is_shown medium) (frames_laid (after w (take n h)) x)) c.read (subst (AllByRecursion IsReadBack) at_past adds.read));
     })
   where
     here : List Frame
     here = shown_at w r x medium
 
-    at_past : here ≡ filter (is_shown medium) (laid_by (after w (take n h)) x)
-    at_past = ap (λ (past : List Entry). filter (is_shown medium) (laid_by (after w past) x)) c.followed.history_is
+    at_past : here ≡ filter (is_shown medium) (frames_laid (after w (take n h)) x)
+    at_past = ap (λ (past : List Entry). filter (is_shown medium) (frames_laid (after w past) x)) c.followed.history_is
 
 pub captured_all : (w : World) (medium : Option ℕ) (h items : List Entry) (r : Runner) (n : ℕ) (bytes : List ℕ) → items ≡ h → length items ≤ n
     → Captured w medium (take n items) r bytes → (bytes ≡ capture w h medium) × AllByRecursion IsReadBack (shown_frames w h medium)
@@ -93,7 +93,7 @@ captured_all w medium h items r n bytes same le c =
 -- One entry.
 
 -- nothing is added where no frame is shown
-pub adds_none : (w : World) (r : Runner) (x : Entry) (medium : Option ℕ) (old : List ℕ) → shown_at w r x medium ≡ [] → AddsIn w r x medium old old
+pub adds_none : (w : World) (r : Runner) (x : Entry) (medium : Option ℕ) (old : List ℕ) → shown_at w r x medium ≡ [] → AddsFramesIn w r x medium old old
 adds_none w r x medium old none = record {
   bytes = sym (ap (λ (fs : List Frame). old ++ flat_map packet_record (map seen fs)) none ∙ append-nil old);
   read = subst (AllByRecursion IsReadBack) (sym none) tt;
@@ -101,28 +101,28 @@ adds_none w r x medium old none = record {
 
 -- and else its record
 pub adds_one : (w : World) (r : Runner) (x : Entry) (medium : Option ℕ) (m : ℕ) (p : Packet) (old new : List ℕ) → medium_of x.actor x.reply ≡ Some m
-    → is_on medium (Some m) ≡ true → packet_in (with_of (owed w r.history.entries x.caller)) ≡ Some p
-    → new ≡ old ++ packet_record (seen_at x.moment (spelling p)) → IsPacket p → packet_of (spelling p) ≡ p → AddsIn w r x medium old new
+    → is_medium_shown medium (Some m) ≡ true → given_packet (with_of (owed w r.history.entries x.caller)) ≡ Some p
+    → new ≡ old ++ packet_record (seen_at_moment x.moment (packet_spelling p)) → IsPacket p → datagram_packet (packet_spelling p) ≡ p → AddsFramesIn w r x medium old new
 adds_one w r x medium m p old new on shown gift is fits again = record {
-  bytes = is ∙ ap (λ (rest : List ℕ). old ++ rest) (sym (ap (λ (fs : List Frame). flat_map packet_record (map seen fs)) one ∙ append-nil (packet_record (seen_at x.moment (spelling p)))));
+  bytes = is ∙ ap (λ (rest : List ℕ). old ++ rest) (sym (ap (λ (fs : List Frame). flat_map packet_record (map seen fs)) one ∙ append-nil (packet_record (seen_at_moment x.moment (packet_spelling p)))));
   read = subst (AllByRecursion IsReadBack) (sym one) (record { fits = fits; again = again }, tt);
 }
   where
     one : shown_at w r x medium ≡ record { moment = x.moment; medium = m; packet = p } ∷ []
     one =
-        ap (λ (o : Option ℕ). filter (is_shown medium) (frame_of o x.moment (packet_in (with_of (owed w r.history.entries x.caller))))) on
+        ap (λ (o : Option ℕ). filter (is_shown medium) (frame_of o x.moment (given_packet (with_of (owed w r.history.entries x.caller))))) on
         ∙ (ap (λ (o : Option Packet). filter (is_shown medium) (frame_of (Some m) x.moment o)) gift ∙ shown_one medium m x.moment p shown)
 
 -- the caller that is kept of the entry
-pub caller_there : (w : World) (r : Runner) (x : Entry) → Follows w r x → x.caller < length r.callers.items
+pub caller_there : (w : World) (r : Runner) (x : Entry) → FollowsRun w r x → x.caller < length r.callers.items
 caller_there w r x f = omega (arith, f.may.is_known.1, f.tracks.callers_are.count)
 
-pub caller_is : (w : World) (r : Runner) (x : Entry) (k : Caller) → Follows w r x → slice_get r.callers.items x.caller ≡ Some k
-    → IsCaller w r.history.entries x.caller k
+pub caller_is : (w : World) (r : Runner) (x : Entry) (k : Caller) → FollowsRun w r x → slice_get r.callers.items x.caller ≡ Some k
+    → IsCallerKept w r.history.entries x.caller k
 caller_is w r x k f at = f.tracks.callers_are.each x.caller k at
 
 -- its moment
-pub early_at : (w : World) (r : Runner) (x : Entry) → Follows w r x → x.moment ≤ 1000000000
+pub early_at : (w : World) (r : Runner) (x : Entry) → FollowsRun w r x → x.moment ≤ 1000000000
 early_at w r x f =
     let end : w.end ≤ 1000000000 = leb-true w.end 1000000000 (and_parts (nat_le 1 w.end) (nat_le w.end 1000000000) f.tracks.history.world.end).1 in
     let before : moment w r.history.entries ≤ 1000000000 = omega
@@ -131,8 +131,8 @@ early_at w r x f =
 
 -- so where nothing was given
 pub adds_nothing : (w : World) (r : Runner) (x : Entry) (medium : Option ℕ) (old : List ℕ)
-    → packet_in (with_of (owed w r.history.entries x.caller)) ≡ None
-    → AddsIn w r x medium old old
+    → given_packet (with_of (owed w r.history.entries x.caller)) ≡ None
+    → AddsFramesIn w r x medium old old
 adds_nothing w r x medium old none =
     adds_none w r x medium old
     (ap (λ (p : Option Packet). filter (is_shown medium) (frame_of (medium_of x.actor x.reply) x.moment p)) none
@@ -140,9 +140,9 @@ adds_nothing w r x medium old none =
 
 -- or this packet
 pub adds_given : (w : World) (r : Runner) (x : Entry) (medium : Option ℕ) (p : Packet) (old new : List ℕ)
-    → is_on medium (medium_of x.actor x.reply) ≡ true
-    → packet_in (with_of (owed w r.history.entries x.caller)) ≡ Some p → new ≡ old ++ packet_record (seen_at x.moment (spelling p)) → IsPacket p
-    → packet_of (spelling p) ≡ p → AddsIn w r x medium old new
+    → is_medium_shown medium (medium_of x.actor x.reply) ≡ true
+    → given_packet (with_of (owed w r.history.entries x.caller)) ≡ Some p → new ≡ old ++ packet_record (seen_at_moment x.moment (packet_spelling p)) → IsPacket p
+    → datagram_packet (packet_spelling p) ≡ p → AddsFramesIn w r x medium old new
 adds_given w r x medium p old new on gift is fits again =
     let there = shown_on medium (medium_of x.actor x.reply) on in
-    adds_one w r x medium there.0 p old new there.1 (ap (is_on medium) (sym there.1) ∙ on) gift is fits again
+    adds_one w r x medium there.0 p old new there.1 (ap (is_medium_shown medium) (sym there.1) ∙ on) gift is fits again

@@ -6,9 +6,9 @@ use Rattle.net_base.specs.declared.packet.Packet.{Packet}
 use Rattle.net_base.specs.declared.world.World.{World}
 use Rattle.net_base.specs.Duties.{Duty}
 use Rattle.net_base.specs.Net.{owed, with_of}
-use Rattle.plain_runner.specs.Callers.{IsCaller}
+use Rattle.plain_runner.specs.Callers.{IsCallerKept}
 use Rattle.plain_runner.specs.declared.caller.Caller.{Caller}
-use Rattle.net_capture.specs.Capture.{packet_in}
+use Rattle.net_capture.specs.Capture.{given_packet}
 
 with_first : (ds : List Duty) (d : Duty) → slice_get ds 0 ≡ Some d → with_of ds ≡ d.with
 with_first [] d is = absurd (none_some d is)
@@ -27,9 +27,9 @@ with_none (e ∷ ds) is = absurd (some_none e is)
     some_none : (d : Duty) → Some d ≡ None → ⊥
     some_none d is = cc
 
-module _ (w : World) (h : List Entry) (c : ℕ) (k : Caller) (kept : IsCaller w h c k) where
-  pub given_first : (d : Duty) (p : Option Packet) → slice_get k.owed.list 0 ≡ Some d → p ≡ packet_in d.with → p ≡ packet_in (with_of (owed w h c))
-  given_first d p is same = same ∙ ap packet_in (sym (with_first k.owed.list d is) ∙ ap with_of kept.owes)
+module _ (w : World) (h : List Entry) (c : ℕ) (k : Caller) (kept : IsCallerKept w h c k) where
+  pub given_first : (d : Duty) (p : Option Packet) → slice_get k.owed.list 0 ≡ Some d → p ≡ given_packet d.with → p ≡ given_packet (with_of (owed w h c))
+  given_first d p is same = same ∙ ap given_packet (sym (with_first k.owed.list d is) ∙ ap with_of kept.owes)
 
-  pub given_none : slice_get k.owed.list 0 ≡ None → None ≡ packet_in (with_of (owed w h c))
-  given_none is = ap packet_in (sym (with_none k.owed.list is) ∙ ap with_of kept.owes)
+  pub given_none : slice_get k.owed.list 0 ≡ None → None ≡ given_packet (with_of (owed w h c))
+  given_none is = ap given_packet (sym (with_none k.owed.list is) ∙ ap with_of kept.owes)

@@ -18,8 +18,8 @@ use Rattle.net_base.specs.Legal.{Follows, MayFollow}
 use Rattle.net_base.specs.Medium.{Medium, datagram_length}
 use Rattle.net_base.specs.Net.{Net, after, owed, with_of}
 use Rattle.net_base.specs.World.{IsWorld, all_apart, are_media, is_medium, is_name, is_range, is_within, overlap}
-use Rattle.net_capture.specs.Capture.{frame_of, is_shown, medium_of, packet_in}
-use Rattle.net_capture.specs.Following.{is_on}
+use Rattle.net_capture.specs.Capture.{frame_of, is_shown, medium_of, given_packet}
+use Rattle.net_capture.specs.Following.{is_medium_shown}
 use Rattle.table_laws.specs.ActorRows.{ActorRow, AtClock, AtConv, AtDesk, AtDir, AtMedium, Lays, MediumRow}
 use Rattle.table_laws.proofs.Shared.{shown_reply}
 
@@ -31,7 +31,7 @@ none_some x is = cc
 -- what was given is a packet of at most so many bytes
 pub record Gives (g : With) (most : ℕ) : Type 0 where
   pub packet : Packet
-  pub is : packet_in g ≡ Some packet
+  pub is : given_packet g ≡ Some packet
   pub within : datagram_length packet.body ≤ most
 
 row_gives : (spec : MediumSpec) (seed : ℕ) (st : Medium) (e : Event) (g : With) (t : Step Medium) (n m : ℕ) → MediumRow spec seed st e g t
@@ -73,7 +73,7 @@ laid_gives w past net x m world may on =
 
 -- so it fits a datagram
 pub laid_fits : (w : World) (h : List Entry) (x : Entry) (m : ℕ) (p : Packet) → IsWorld w → MayFollow w h x → medium_of x.actor x.reply ≡ Some m
-    → packet_in (with_of (owed w h x.caller)) ≡ Some p → datagram_length p.body < 2 ^ 16
+    → given_packet (with_of (owed w h x.caller)) ≡ Some p → datagram_length p.body < 2 ^ 16
 laid_fits w h x m p world may on is =
     let gives = laid_gives w h (after w h) x m world may on in
     let same : gives.packet ≡ p = same_Some gives.packet p (sym gives.is ∙ is) in
@@ -82,7 +82,7 @@ laid_fits w h x m p world may on is =
 
 -- The frame.
 
-pub unshown : (shown on : Option ℕ) (moment : ℕ) (p : Option Packet) → is_on shown on ≡ false → filter (is_shown shown) (frame_of on moment p) ≡ []
+pub unshown : (shown on : Option ℕ) (moment : ℕ) (p : Option Packet) → is_medium_shown shown on ≡ false → filter (is_shown shown) (frame_of on moment p) ≡ []
 unshown shown None moment p off = refl
 unshown None (Some m) moment p off = absurd (false≢true (sym off))
 unshown (Some wanted) (Some m) moment None off = refl
@@ -93,11 +93,11 @@ nothing_given shown None moment = refl
 nothing_given shown (Some m) moment = refl
 
 -- a medium that is shown
-pub shown_on : (shown on : Option ℕ) → is_on shown on ≡ true → (m : ℕ) × (on ≡ Some m)
+pub shown_on : (shown on : Option ℕ) → is_medium_shown shown on ≡ true → (m : ℕ) × (on ≡ Some m)
 shown_on shown None is = absurd (false≢true is)
 shown_on shown (Some m) is = (m, refl)
 
-pub shown_one : (shown : Option ℕ) (m moment : ℕ) (p : Packet) → is_on shown (Some m) ≡ true
+pub shown_one : (shown : Option ℕ) (m moment : ℕ) (p : Packet) → is_medium_shown shown (Some m) ≡ true
     → filter (is_shown shown) (frame_of (Some m) moment (Some p)) ≡ record { moment = moment; medium = m; packet = p } ∷ []
 shown_one None m moment p is = refl
 shown_one (Some wanted) m moment p is = rw is refl

@@ -11,29 +11,29 @@ use Rattle.net_base.specs.Legal.{IsLegal, MayFollow}
 use Rattle.net_base.specs.Net.{after, opening_net, with_of}
 use Rattle.net_base.specs.World.{IsWorld}
 use Rattle.history_laws.proofs.Shared.{by_entries}
-use Rattle.net_capture.specs.Capture.{Place, frame_of, frames, laid_at, laid_by, medium_of, packet_in, place, place_of}
+use Rattle.net_capture.specs.Capture.{Place, frame_of, frames, laid_at, frames_laid, medium_of, given_packet, capture_place, frame_place}
 use Rattle.net_capture.proofs.Following.{laid_more}
 use Rattle.net_capture.proofs.Laying.{laid_gives}
 
 -- the frame of one entry
-laid_one : (w : World) (h : List Entry) (x : Entry) → IsWorld w → MayFollow w h x → map place_of (laid_by (after w h) x) ≡ filter_map laid_at (x ∷ [])
+laid_one : (w : World) (h : List Entry) (x : Entry) → IsWorld w → MayFollow w h x → map frame_place (frames_laid (after w h) x) ≡ filter_map laid_at (x ∷ [])
 laid_one w h x world may = by (medium_of x.actor x.reply) refl
   where
     by : (on : Option ℕ) → medium_of x.actor x.reply ≡ on
-        → map place_of (frame_of on x.moment (packet_in (with_of ((after w h).owed x.caller)))) ≡ cons_option (option_map (place x.moment) on) []
+        → map frame_place (frame_of on x.moment (given_packet (with_of ((after w h).owed x.caller)))) ≡ cons_option (option_map (capture_place x.moment) on) []
     by None is = refl
     by (Some m) is =
         let gives = laid_gives w h (after w h) x m world may is in
-        ap (λ (p : Option Packet). map place_of (frame_of (Some m) x.moment p)) gives.is
+        ap (λ (p : Option Packet). map frame_place (frame_of (Some m) x.moment p)) gives.is
 
-pub all_laid : (w : World) (h : List Entry) → IsWorld w → IsLegal w h → map place_of (frames w h) ≡ filter_map laid_at h
-all_laid w h world legal = by_entries w (λ (k : List Entry). map place_of (frames w k) ≡ filter_map laid_at k) refl more h legal
+pub all_laid : (w : World) (h : List Entry) → IsWorld w → IsLegal w h → map frame_place (frames w h) ≡ filter_map laid_at h
+all_laid w h world legal = by_entries w (λ (k : List Entry). map frame_place (frames w k) ≡ filter_map laid_at k) refl more h legal
   where
-    more : (k : List Entry) (x : Entry) → IsLegal w k → MayFollow w k x → map place_of (frames w k) ≡ filter_map laid_at k
-        → map place_of (frames w (k ++ x ∷ [])) ≡ filter_map laid_at (k ++ x ∷ [])
+    more : (k : List Entry) (x : Entry) → IsLegal w k → MayFollow w k x → map frame_place (frames w k) ≡ filter_map laid_at k
+        → map frame_place (frames w (k ++ x ∷ [])) ≡ filter_map laid_at (k ++ x ∷ [])
     more k x before may is =
-        ap (map place_of) (laid_more w (opening_net w) k x)
-        ∙ (map-append place_of (frames w k) (laid_by (after w k) x)
-        ∙ (ap (λ (ps : List Place). ps ++ map place_of (laid_by (after w k) x)) is
+        ap (map frame_place) (laid_more w (opening_net w) k x)
+        ∙ (map-append frame_place (frames w k) (frames_laid (after w k) x)
+        ∙ (ap (λ (ps : List Place). ps ++ map frame_place (frames_laid (after w k) x)) is
         ∙ (ap (λ (ps : List Place). filter_map laid_at k ++ ps) (laid_one w k x world may)
         ∙ sym (filter_map-append laid_at k (x ∷ [])))))

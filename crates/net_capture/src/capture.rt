@@ -7,11 +7,11 @@ ghost use Rattle.net_base.specs.Legal.{IsLegal, IsTimed};
 ghost use Rattle.net_base.specs.Medium.{datagram_length};
 ghost use Rattle.net_base.specs.Net.{owed, with_of};
 ghost use Rattle.net_base.specs.World.{IsWorld};
-ghost use Rattle.plain_runner.specs.Callers.{IsCaller};
-ghost use Rattle.wire_text.specs.Datagram.{IsPacket, packet_of, spelling};
-ghost use Rattle.net_capture.specs.Capture.{IsReadBack, capture, medium_of, packet_in, shown_frames};
-ghost use Rattle.net_capture.specs.Following.{Adds, CanFollow, is_on};
-ghost use Rattle.net_capture.specs.Savefile.{packet_record, seen_at};
+ghost use Rattle.plain_runner.specs.Callers.{IsCallerKept};
+ghost use Rattle.wire_text.specs.Datagram.{IsPacket, datagram_packet, packet_spelling};
+ghost use Rattle.net_capture.specs.Capture.{IsReadBack, capture, medium_of, given_packet, shown_frames};
+ghost use Rattle.net_capture.specs.Following.{AddsFrame, CanFollow, is_medium_shown};
+ghost use Rattle.net_capture.specs.Savefile.{packet_record, seen_at_moment};
 
 use crate::savefile::{file_header, put_packet};
 use medium::datagram_of;
@@ -52,7 +52,7 @@ fn put_frame(
     medium: Option<u32>,
 ) -> Result<(), AllocError>
     requires { CanFollow runner.now entry.now }
-    ensures { OnOk result (Adds runner.now entry.now medium out.old out.new) }
+    ensures { OnOk result (AddsFrame runner.now entry.now medium out.old out.new) }
 {
     if !is_on(medium, medium_of(entry)) {
         return Ok(());
@@ -73,8 +73,8 @@ fn put_given(
 ) -> Result<(), AllocError>
     requires follow { CanFollow runner.now entry.now }
     requires caller { slice_get runner.now.callers.items entry.now.caller ≡ Some caller.now }
-    requires on { is_on medium (medium_of entry.now.actor entry.now.reply) ≡ true }
-    ensures { OnOk result (Adds runner.now entry.now medium out.old out.new) }
+    requires on { is_medium_shown medium (medium_of entry.now.actor entry.now.reply) ≡ true }
+    ensures { OnOk result (AddsFrame runner.now entry.now medium out.old out.new) }
 {
     let Some(packet) = packet_given(caller) else {
         return Ok(());
@@ -95,7 +95,7 @@ fn medium_of(entry: &Entry) -> Option<u32>
 
 // Whether there is such a medium, and it is shown.
 fn is_on(shown: Option<u32>, medium: Option<u32>) -> bool
-    ensures { result ≡ is_on shown medium }
+    ensures { result ≡ is_medium_shown shown medium }
 {
     match (shown, medium) {
         (_, None) => false,
@@ -106,7 +106,7 @@ fn is_on(shown: Option<u32>, medium: Option<u32>) -> bool
 
 // The packet that a caller's first duty gives.
 fn packet_given<'a>(caller: &'a Caller<'_>) -> Option<&'a Packet>
-    ensures { (w : AnyWorld) (h : List AnyEntry) (c : ℕ) → IsCaller w h c caller.now → option_copied result ≡ packet_in (with_of (owed w h c)) }
+    ensures { (w : AnyWorld) (h : List AnyEntry) (c : ℕ) → IsCallerKept w h c caller.now → option_copied result ≡ given_packet (with_of (owed w h c)) }
 {
     match caller.owed.first() {
         Some(duty) => packet_in(&duty.work.with),
@@ -116,7 +116,7 @@ fn packet_given<'a>(caller: &'a Caller<'_>) -> Option<&'a Packet>
 
 // The packet that is given.
 fn packet_in(with: &With) -> Option<&Packet>
-    ensures { option_copied result ≡ packet_in with.now }
+    ensures { option_copied result ≡ given_packet with.now }
 {
     match with {
         With::Packet(packet) => Some(packet),
@@ -133,9 +133,9 @@ fn put_spelled(
 ) -> Result<(), AllocError>
     requires early { moment ≤ 1000000000 }
     requires fits { datagram_length packet.now.body < 2 ^ 16 }
-    ensures record { OnOk result (out.new ≡ out.old ++ packet_record (seen_at moment (spelling packet.now))) }
+    ensures record { OnOk result (out.new ≡ out.old ++ packet_record (seen_at_moment moment (packet_spelling packet.now))) }
     ensures fits { OnOk result (IsPacket packet.now) }
-    ensures read { OnOk result (packet_of (spelling packet.now) ≡ packet.now) }
+    ensures read { OnOk result (datagram_packet (packet_spelling packet.now) ≡ packet.now) }
 {
     packets_are_read();
     let bytes = datagram_of(alloc, packet)?;

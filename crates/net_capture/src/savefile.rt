@@ -42,7 +42,7 @@ pub fn file_header() -> [u8; 24]
 pub fn put_packet(out: &mut Octets, moment: u64, packet: &[u8]) -> Result<(), AllocError>
     requires early { moment ≤ 1000000000 }
     requires fits { length packet.now < 2 ^ 16 }
-    ensures { OnOk result (out.new ≡ out.old ++ spec.packet_record (spec.seen_at moment packet.now)) }
+    ensures { OnOk result (out.new ≡ out.old ++ spec.packet_record (spec.seen_at_moment moment packet.now)) }
 {
     let seconds = (moment / 1000) as u32;
     let microseconds = (moment % 1000) as u32 * 1000;

@@ -12,12 +12,12 @@ use Rattle.net_base.specs.declared.history.Entry.{Entry}
 use Rattle.net_base.specs.Stamped.{same_actor, same_proto}
 use Rattle.net_chart.specs.Frames.{owner_of}
 use Rattle.net_chart.specs.TalkLaws.{EndsThere, brought_from, is_taken_at}
-use Rattle.net_chart.specs.Talks.{Talks, cited_by, column_number, column_of, columns_by, columns_with, end_at, ends_at, entered, is_conversation, no_talks, started, talks_by, talks_from, talks_with}
+use Rattle.net_chart.specs.Talks.{Talks, cited_by, column_number, column_of, columns_by, columns_with, end_at, talk_ends_at, entered, is_talk, no_talks, talks_started, talks_by, talks_from, talks_with}
 use Rattle.net_base.proofs.Shared.{number_itself, same_proto_itself}
 
 -- Names.
 
-itself : (a : ActorName) → is_conversation a ≡ true → same_actor a a ≡ true
+itself : (a : ActorName) → is_talk a ≡ true → same_actor a a ≡ true
 itself (name.Conv h p n) is = and_from ((h == h) && same_proto p p) (n == n) (and_from (h == h) (same_proto p p) (number_itself h) (same_proto_itself p)) (number_itself n)
 itself (name.Desk h) is = absurd (true≢false (sym is))
 itself (name.Dir h p) is = absurd (true≢false (sym is))
@@ -115,7 +115,7 @@ abbrev Ends : Talks → ℕ → Option ActorName → Type 0
 Ends t stamp None = end_at t.ends stamp ≡ None
 Ends t stamp (Some b) = Stands t.columns b × (end_at t.ends stamp ≡ column_of t.columns b)
 
-ends_started : (t : Talks) (stamp : ℕ) (y : Option Entry) (x : Entry) (o : Option ActorName) → Ends t stamp o → Ends (started t y x) stamp o
+ends_started : (t : Talks) (stamp : ℕ) (y : Option Entry) (x : Entry) (o : Option ActorName) → Ends t stamp o → Ends (talks_started t y x) stamp o
 ends_started t stamp y x None ends = ends
 ends_started t stamp y x (Some b) ends = ends
 
@@ -145,7 +145,7 @@ ends_entered : (t : Talks) (stamp : ℕ) (a : ActorName) (o : Option ActorName) 
     → Ends (entered t taken a) stamp (cond (is_taken_at stamp taken) (Some a) o)
 ends_entered t stamp a o None is ends = ends_still t stamp a o ends
 ends_entered t stamp a o (Some k) is ends =
-    subst (λ (c : Option ℕ). Ends (record t { columns = columns_with t.columns a; ends = ends_at t.ends (Some k) c }) stamp (cond (nat_eq stamp k) (Some a) o))
+    subst (λ (c : Option ℕ). Ends (record t { columns = columns_with t.columns a; ends = talk_ends_at t.ends (Some k) c }) stamp (cond (nat_eq stamp k) (Some a) o))
     (sym column) (by (nat_eq stamp k) refl)
   where
     stands : Stands (columns_with t.columns a) a
@@ -161,19 +161,19 @@ ends_entered t stamp a o (Some k) is ends =
     by false apart = ends_beside t stamp k (own_column t a) a o apart ends
 
 ends_by : (t : Talks) (stamp : ℕ) (y : Option Entry) (x : Entry) (o : Option ActorName) → Ends t stamp o
-    → Ends (talks_by t y x) stamp (cond (is_conversation x.actor && is_taken_at stamp (cited_by y)) (Some x.actor) o)
-ends_by t stamp y x o ends = by (is_conversation x.actor) refl
+    → Ends (talks_by t y x) stamp (cond (is_talk x.actor && is_taken_at stamp (cited_by y)) (Some x.actor) o)
+ends_by t stamp y x o ends = by (is_talk x.actor) refl
   where
-    by : (b : Bool) → is_conversation x.actor ≡ b
-        → Ends (cond b (entered (started t y x) (cited_by y) x.actor) (started t y x)) stamp (cond (b && is_taken_at stamp (cited_by y)) (Some x.actor) o)
-    by true is = ends_entered (started t y x) stamp x.actor o (cited_by y) (itself x.actor is) (ends_started t stamp y x o ends)
+    by : (b : Bool) → is_talk x.actor ≡ b
+        → Ends (cond b (entered (talks_started t y x) (cited_by y) x.actor) (talks_started t y x)) stamp (cond (b && is_taken_at stamp (cited_by y)) (Some x.actor) o)
+    by true is = ends_entered (talks_started t y x) stamp x.actor o (cited_by y) (itself x.actor is) (ends_started t stamp y x o ends)
     by false is = ends_started t stamp y x o ends
 
 all_ends : (h : List Entry) (t : Talks) (stamp : ℕ) (o : Option ActorName) (xs : List Entry) → Ends t stamp o
     → Ends (talks_from h t xs) stamp (brought_from h stamp o xs)
 all_ends h t stamp o [] ends = ends
 all_ends h t stamp o (x ∷ xs) ends =
-    all_ends h (talks_with h t x) stamp (cond (is_conversation x.actor && is_taken_at stamp (cited_by (owner_of h x.cites))) (Some x.actor) o) xs
+    all_ends h (talks_with h t x) stamp (cond (is_talk x.actor && is_taken_at stamp (cited_by (owner_of h x.cites))) (Some x.actor) o) xs
     (ends_by t stamp (owner_of h x.cites) x o ends)
 
 told : (t : Talks) (stamp : ℕ) (o : Option ActorName) → Ends t stamp o → end_at t.ends stamp ≡ option_and_then (column_of t.columns) o

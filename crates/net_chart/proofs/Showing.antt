@@ -11,7 +11,7 @@ use Rattle.net_chart.specs.declared.sight.Sight.{Sight}
 use Rattle.net_chart.specs.declared.sight.Sight.TheVariants.{Laid, Came, Did, Nothing}
 use Rattle.net_chart.specs.declared.thing.Thing.TheVariants.{Cross}
 use Rattle.net_chart.specs.Frames.{Laid_frames, frame_at, same_frame}
-use Rattle.net_chart.specs.Laws.{lays}
+use Rattle.net_chart.specs.Laws.{lays_sight}
 use Rattle.net_chart.specs.Places.{above_all, place_after}
 use Rattle.net_chart.specs.Sights.{sight_of}
 use Rattle.net_chart.specs.Things.{Drawn, Past, arrives_in, arrow_to, came_by, drawn_of, laid_by, no_past, past_after, past_at, past_by, thing_by, things_from, things_of}
@@ -66,7 +66,7 @@ abbrev Knows : List Standing → Laid_frames → Type 0
 Knows past frames = (key : ℕ × ℕ) → option_map laying_in (frame_at frames key) ≡ laid_in past key
 
 knows_by : (h : List Entry) (past : List Standing) (p : Past) (x : Entry) (s : Sight) → Knows past p.frames
-    → (key : ℕ × ℕ) → option_map laying_in (frame_at (past_by h p x s).frames key) ≡ cond (lays key s) (laying_of s p.place) (laid_in past key)
+    → (key : ℕ × ℕ) → option_map laying_in (frame_at (past_by h p x s).frames key) ≡ cond (lays_sight key s) (laying_of s p.place) (laid_in past key)
 knows_by h past p x (Laid m k to) knows key =
     ap (λ (o : Option Frame). option_map laying_in o) (at_more p.frames (m, k) key (laid_by h p.frames x k to p.place)) ∙ by (same_frame key (m, k))
   where

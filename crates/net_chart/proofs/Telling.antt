@@ -9,7 +9,7 @@ use Rattle.net_chart.specs.declared.sight.Sight.{Sight}
 use Rattle.net_chart.specs.declared.sight.Sight.TheVariants.{Laid, Came, Did, Nothing}
 use Rattle.net_chart.specs.declared.thing.Thing.TheVariants.{Cross}
 use Rattle.net_chart.specs.Frames.{Laid_frames, frame_at, same_frame}
-use Rattle.net_chart.specs.Laws.{copies_from, drawn_at, is_arrow, is_copy_of, is_cross, is_lost, lays, lost_in, was_laid}
+use Rattle.net_chart.specs.Laws.{copies_from, drawn_at, is_arrow, is_copy_of, is_cross, is_lost, lays_sight, lost_in, was_laid}
 use Rattle.net_chart.specs.Sights.{sight_of}
 use Rattle.net_chart.specs.Things.{Drawn, Past, arrives_in, arrow_to, came_by, drawn_of, laid_by, no_past, past_after, past_at, past_by, thing_by, things_from, things_of}
 
@@ -90,16 +90,16 @@ found_more (e ∷ es) k q f = by (same_frame k e.0) refl (found_more es k q f)
 abbrev pub Knows : List Entry → Laid_frames → Type 0
 Knows past frames = (key : ℕ × ℕ) → found frames key ≡ was_laid past key
 
-pub laid_last : (past : List Entry) (x : Entry) (key : ℕ × ℕ) → was_laid (past ++ x ∷ []) key ≡ (was_laid past key || lays key (sight_of x))
-laid_last [] x key = by (lays key (sight_of x))
+pub laid_last : (past : List Entry) (x : Entry) (key : ℕ × ℕ) → was_laid (past ++ x ∷ []) key ≡ (was_laid past key || lays_sight key (sight_of x))
+laid_last [] x key = by (lays_sight key (sight_of x))
   where
     by : (b : Bool) → (b || false) ≡ b
     by true = refl
     by false = refl
-laid_last (y ∷ ys) x key = by (lays key (sight_of y)) (laid_last ys x key)
+laid_last (y ∷ ys) x key = by (lays_sight key (sight_of y)) (laid_last ys x key)
   where
-    by : (b : Bool) → was_laid (ys ++ x ∷ []) key ≡ (was_laid ys key || lays key (sight_of x))
-        → (b || was_laid (ys ++ x ∷ []) key) ≡ ((b || was_laid ys key) || lays key (sight_of x))
+    by : (b : Bool) → was_laid (ys ++ x ∷ []) key ≡ (was_laid ys key || lays_sight key (sight_of x))
+        → (b || was_laid (ys ++ x ∷ []) key) ≡ ((b || was_laid ys key) || lays_sight key (sight_of x))
     by true e = refl
     by false e = e
 
@@ -114,7 +114,7 @@ unchanged true = refl
 unchanged false = refl
 
 pub knows_by : (h past : List Entry) (p : Past) (x : Entry) (s : Sight) → Knows past p.frames
-    → (key : ℕ × ℕ) → found (past_by h p x s).frames key ≡ (was_laid past key || lays key s)
+    → (key : ℕ × ℕ) → found (past_by h p x s).frames key ≡ (was_laid past key || lays_sight key s)
 knows_by h past p x (Laid m k to) knows key =
     found_more p.frames (m, k) key (laid_by h p.frames x k to p.place)
     ∙ ap (λ b. same_frame key (m, k) || b) (knows key)

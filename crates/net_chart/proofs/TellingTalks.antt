@@ -10,7 +10,7 @@ use Rattle.net_chart.specs.Frames.{frame_at}
 use Rattle.net_chart.specs.Laws.{drawn_at, is_arrow, is_cross}
 use Rattle.net_chart.specs.Sights.{sight_of}
 use Rattle.net_chart.specs.TalkLaws.{between_from, is_between, is_lost_talk, lost_talks}
-use Rattle.net_chart.specs.Talks.{Talks, arrow_between, column_of, cross_from, end_at, operation_in, start_at, talked_by, talks_drawn, talks_drawn_from, talks_of}
+use Rattle.net_chart.specs.Talks.{Talks, arrow_between, column_of, cross_from, end_at, operation_in, talk_start, talked_by, talks_drawn, talks_drawn_from, talks_of}
 use Rattle.net_chart.specs.Things.{Drawn, Past, arrives_in, arrow_to, drawn_of, laid_by, no_past, past_after, past_at, thing_by}
 use Rattle.net_chart.proofs.Telling.{Knows, knows_by, laid_last}
 
@@ -29,9 +29,9 @@ cross_one h t i p x (Laid m k to) rest more e = by (arrives_in h (m, k))
     started (Some c) = ap (λ es. x ∷ es) e
 
     by : (b : Bool) → drawn_at is_cross (drawn_of x (talked_by t i x (Laid m k to) (cond b None (Some (Cross (laid_by h p.frames x k to p.place))))) ++ rest)
-        ≡ cond (not b && is_some (start_at t.starts (m, k))) (x ∷ more) more
+        ≡ cond (not b && is_some (talk_start t.starts (m, k))) (x ∷ more) more
     by true = e
-    by false = started (start_at t.starts (m, k))
+    by false = started (talk_start t.starts (m, k))
 cross_one h t i p x (Came m k) rest more e = by (frame_at p.frames (m, k))
   where
     between : (f : Frame) (from to : Option ℕ) → drawn_at is_cross (drawn_of x (arrow_between f p.place from to) ++ rest) ≡ more
@@ -41,7 +41,7 @@ cross_one h t i p x (Came m k) rest more e = by (frame_at p.frames (m, k))
 
     by : (o : Option Frame) → drawn_at is_cross (drawn_of x (talked_by t i x (Came m k) (arrow_to p.place o)) ++ rest) ≡ more
     by None = e
-    by (Some f) = between f (start_at t.starts (m, k)) (end_at t.ends i)
+    by (Some f) = between f (talk_start t.starts (m, k)) (end_at t.ends i)
 cross_one h t i p x (Did host) rest more e = no_cross x p.place (column_of t.columns x.actor) rest ∙ e
 cross_one h t i p x Nothing rest more e = e
 
@@ -72,10 +72,10 @@ arrow_one h past t i p x (Laid m k to) rest more knows e = by (arrives_in h (m, 
 
     by : (b : Bool) → drawn_at is_arrow (drawn_of x (talked_by t i x (Laid m k to) (cond b None (Some (Cross (laid_by h p.frames x k to p.place))))) ++ rest) ≡ more
     by true = e
-    by false = started (start_at t.starts (m, k))
+    by false = started (talk_start t.starts (m, k))
 arrow_one h past t i p x (Came m k) rest more knows e =
     by (frame_at p.frames (m, k))
-    ∙ ap (λ b. cond (b && (is_some (start_at t.starts (m, k)) && is_some (end_at t.ends i))) (x ∷ more) more) (knows (m, k))
+    ∙ ap (λ b. cond (b && (is_some (talk_start t.starts (m, k)) && is_some (end_at t.ends i))) (x ∷ more) more) (knows (m, k))
   where
     between : (f : Frame) (from to : Option ℕ)
         → drawn_at is_arrow (drawn_of x (arrow_between f p.place from to) ++ rest) ≡ cond (is_some from && is_some to) (x ∷ more) more
@@ -84,9 +84,9 @@ arrow_one h past t i p x (Came m k) rest more knows e =
     between f None to = e
 
     by : (o : Option Frame) → drawn_at is_arrow (drawn_of x (talked_by t i x (Came m k) (arrow_to p.place o)) ++ rest)
-        ≡ cond (is_some o && (is_some (start_at t.starts (m, k)) && is_some (end_at t.ends i))) (x ∷ more) more
+        ≡ cond (is_some o && (is_some (talk_start t.starts (m, k)) && is_some (end_at t.ends i))) (x ∷ more) more
     by None = e
-    by (Some f) = between f (start_at t.starts (m, k)) (end_at t.ends i)
+    by (Some f) = between f (talk_start t.starts (m, k)) (end_at t.ends i)
 arrow_one h past t i p x (Did host) rest more knows e = no_arrow x p.place (column_of t.columns x.actor) rest ∙ e
 arrow_one h past t i p x Nothing rest more knows e = e
 

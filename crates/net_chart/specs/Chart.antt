@@ -8,18 +8,18 @@ use Rattle.net_chart.specs.declared.place.Page.{Page}
 use Rattle.net_chart.specs.declared.chart.TheConstants.{STYLE}
 use Rattle.net_chart.specs.Drawing.{band_text, column_text, drawing_of}
 use Rattle.net_chart.specs.Places.{bottom_of, bounded, page_of}
-use Rattle.net_chart.specs.Svg.{attribute, newline}
+use Rattle.net_chart.specs.Svg.{attribute, svg_newline}
 use Rattle.net_chart.specs.Things.{things_of}
 
-abbrev pub width_of : World → ℕ
-width_of w = 200 + 320 * bounded (length w.hosts)
+abbrev pub chart_width : World → ℕ
+chart_width w = 200 + 320 * bounded (length w.hosts)
 
 -- two numbers behind the beginning of an attribute
-unfoldable pub pair_text : List ℕ → ℕ → ℕ → List ℕ
-pair_text name a b = name ++ numeral a ++ codes " " ++ numeral b
+unfoldable pub svg_pair_text : List ℕ → ℕ → ℕ → List ℕ
+svg_pair_text name a b = name ++ numeral a ++ codes " " ++ numeral b
 
 unfoldable pub opening_end : List ℕ
-opening_end = codes "'>" ++ newline
+opening_end = codes "'>" ++ svg_newline
 
 -- how large a page is
 unfoldable pub size_text : ℕ → ℕ → List ℕ
@@ -30,26 +30,26 @@ view_name = codes " viewBox='0 0 "
 
 -- all of it is shown
 unfoldable pub view_text : ℕ → ℕ → List ℕ
-view_text width bottom = pair_text view_name width bottom ++ opening_end
+view_text width bottom = svg_pair_text view_name width bottom ++ opening_end
 
 unfoldable pub opening_text : List ℕ
 opening_text = codes "<svg xmlns='http://www.w3.org/2000/svg'"
 
 unfoldable pub style_text : List ℕ
-style_text = STYLE.now ++ newline
+style_text = STYLE.now ++ svg_newline
 
 unfoldable pub page_start : ℕ → ℕ → List ℕ
 page_start width bottom = opening_text ++ size_text width bottom ++ view_text width bottom ++ style_text
 
 abbrev pub page_end : List ℕ
-page_end = codes "</svg>" ++ newline
+page_end = codes "</svg>" ++ svg_newline
 
 -- the chart on a page
 abbrev pub charted : World → List Entry → Page → List ℕ
 charted w h page =
-    page_start (width_of w) (bottom_of page)
+    page_start (chart_width w) (bottom_of page)
     ++ flat_map (column_text (bottom_of page)) (enumerate_from 0 w.hosts)
-    ++ flat_map (band_text page (width_of w)) page.places
+    ++ flat_map (band_text page (chart_width w)) page.places
     ++ drawing_of page (things_of page.brief h)
     ++ page_end
 

@@ -18,8 +18,8 @@ use Rattle.net_chart.specs.declared.place.Page.{Page}
 use Rattle.net_chart.specs.declared.place.Place.{Place}
 use Rattle.net_chart.specs.declared.thing.Thing.{Thing}
 use Rattle.net_chart.specs.declared.thing.Thing.TheVariants.{Arrow, Cross, Operation}
-use Rattle.net_chart.specs.Places.{bounded, height_of, hides, is_drawn, is_first}
-use Rattle.net_chart.specs.Svg.{escaped, line_text, path_end, path_start, path_text, quoted, text_end, text_start}
+use Rattle.net_chart.specs.Places.{bounded, height_of, hides, is_drawn, is_first_row}
+use Rattle.net_chart.specs.Svg.{svg_escaped, svg_line_text, path_end, path_start, path_text, svg_quoted, svg_text_end, text_start}
 use Rattle.net_chart.specs.Things.{Drawn}
 
 -- Columns.
@@ -35,9 +35,9 @@ middle_of a b = 260 + 160 * (bounded a + bounded b)
 unfoldable pub column_text : ℕ → ℕ × HostSpec → List ℕ
 column_text bottom host =
     text_start (codes "host") [] (column_at host.0) 30
-    ++ escaped host.1.name
-    ++ text_end
-    ++ line_text (codes "life") (column_at host.0) 40 (column_at host.0) bottom
+    ++ svg_escaped host.1.name
+    ++ svg_text_end
+    ++ svg_line_text (codes "life") (column_at host.0) 40 (column_at host.0) bottom
 
 -- Labels.
 
@@ -64,12 +64,12 @@ frame_label f = numeral f.number ++ codes ": " ++ source_label f.source
 
 -- the text that a write has
 abbrev pub written_text : Event → List ℕ
-written_text (event.Write g text) = quoted text
+written_text (event.Write g text) = svg_quoted text
 written_text _ = []
 
 -- the text that a read gives
 abbrev pub read_text : Reply → List ℕ
-read_text (reply.Bytes bytes) = quoted bytes
+read_text (reply.Bytes bytes) = svg_quoted bytes
 read_text _ = []
 
 abbrev pub operation_label : Entry → List ℕ
@@ -78,26 +78,26 @@ operation_label x = event_label x.event ++ written_text x.event ++ codes " = " +
 -- Arrows.
 
 -- the host from which a frame comes; where none is known, the one that it goes to
-abbrev pub start_by : Option Source → ℕ → ℕ
-start_by None to = to
-start_by (Some s) to = s.host
+abbrev pub drawn_start : Option Source → ℕ → ℕ
+drawn_start None to = to
+drawn_start (Some s) to = s.host
 
-abbrev pub start_of : Frame → ℕ
-start_of f = start_by f.source f.to
+abbrev pub frame_start : Frame → ℕ
+frame_start f = drawn_start f.source f.to
 
 -- a text at the side to which an arrow goes
 abbrev pub label_start : Frame → ℕ → List ℕ
 label_start f y =
-    if nat_le (start_of f) f.to
-    then text_start (codes "right") (codes " dx='10' dy='-3'") (column_at (start_of f)) y
-    else text_start (codes "left") (codes " dx='-10' dy='-3'") (column_at (start_of f)) y
+    if nat_le (frame_start f) f.to
+    then text_start (codes "right") (codes " dx='10' dy='-3'") (column_at (frame_start f)) y
+    else text_start (codes "left") (codes " dx='-10' dy='-3'") (column_at (frame_start f)) y
 
 unfoldable pub label_text : Page → Frame → List ℕ
-label_text page f = label_start f (height_of page f.at) ++ frame_label f ++ text_end
+label_text page f = label_start f (height_of page f.at) ++ frame_label f ++ svg_text_end
 
 -- the head of an arrow that comes from the left, or from the right
 abbrev pub head_strokes : Frame → List ℕ
-head_strokes f = if nat_lt (start_of f) f.to then codes "m-8-4l8 4l-8 4" else codes "m8-4l-8 4l8 4"
+head_strokes f = if nat_lt (frame_start f) f.to then codes "m-8-4l8 4l-8 4" else codes "m8-4l-8 4l8 4"
 
 abbrev pub head_text : List ℕ → Frame → ℕ → List ℕ
 head_text class f y = path_text class (column_at f.to) y (head_strokes f)
@@ -109,9 +109,9 @@ round_text class x y to_y = path_start class x y ++ codes "h30V" ++ numeral to_y
 -- its shaft; a host's frame to itself goes round
 abbrev pub shaft_text : List ℕ → Frame → ℕ → ℕ → List ℕ
 shaft_text class f y to_y =
-    if start_of f == f.to
+    if frame_start f == f.to
     then round_text class (column_at f.to) y to_y
-    else line_text class (column_at (start_of f)) y (column_at f.to) to_y
+    else svg_line_text class (column_at (frame_start f)) y (column_at f.to) to_y
 
 -- an arrow of this look from the place where the frame was laid down to this height
 abbrev pub drawn_arrow : Page → List ℕ → Frame → ℕ → List ℕ
@@ -135,10 +135,10 @@ arrow_text page f at =
 -- half an arrow from a column on, with a cross at its end
 unfoldable pub half_text : ℕ → ℕ → ℕ → List ℕ
 half_text x y to_x =
-    line_text (codes "lost") x y to_x (y + 8) ++ path_text (codes "lost") to_x (y + 8) (codes "m-5-5l10 10m0-10l-10 10")
+    svg_line_text (codes "lost") x y to_x (y + 8) ++ path_text (codes "lost") to_x (y + 8) (codes "m-5-5l10 10m0-10l-10 10")
 
 abbrev pub cross_text : Page → Frame → List ℕ
-cross_text page f = half_text (column_at (start_of f)) (height_of page f.at) (middle_of (start_of f) f.to) ++ label_text page f
+cross_text page f = half_text (column_at (frame_start f)) (height_of page f.at) (middle_of (frame_start f) f.to) ++ label_text page f
 
 -- Operations.
 
@@ -150,7 +150,7 @@ operation_start host y =
     else text_start (codes "right op") (codes " dx='6' dy='3'") (column_at host) y
 
 abbrev pub operation_text : Page → Entry → ℕ → Place → List ℕ
-operation_text page x host at = operation_start host (height_of page at) ++ operation_label x ++ text_end
+operation_text page x host at = operation_start host (height_of page at) ++ operation_label x ++ svg_text_end
 
 -- Things.
 
@@ -171,12 +171,12 @@ drawing_of page things = flat_map (drawn_text page) things
 -- a line across the page, and the moment below it
 unfoldable pub when_text : ℕ → ℕ → ℕ → List ℕ
 when_text width y moment =
-    line_text (codes "moment") 0 (y - 16) width (y - 16) ++ text_start (codes "when") [] 4 (y - 5) ++ numeral moment ++ codes " ms" ++ text_end
+    svg_line_text (codes "moment") 0 (y - 16) width (y - 16) ++ text_start (codes "when") [] 4 (y - 5) ++ numeral moment ++ codes " ms" ++ svg_text_end
 
 -- the moment of a band, above its first row
 abbrev pub moment_text : Page → ℕ → Place → List ℕ
 moment_text page width p =
-    if is_first p
+    if is_first_row p
     then when_text width (height_of page p) p.moment
     else []
 
@@ -184,7 +184,7 @@ moment_text page width p =
 unfoldable pub count_text : Page → Place → List ℕ
 count_text page p =
     if hides page p
-    then text_start (codes "when") [] 4 (height_of page p - 16) ++ numeral (p.row - p.first - 1) ++ codes " between" ++ text_end
+    then text_start (codes "when") [] 4 (height_of page p - 16) ++ numeral (p.row - p.first - 1) ++ codes " between" ++ svg_text_end
     else []
 
 abbrev pub band_text : Page → ℕ → Place → List ℕ

@@ -34,15 +34,15 @@ is_lost h Nothing = false
 abbrev pub lost_in : List Entry → List Entry → List Entry
 lost_in h xs = filter (λ (x : Entry). is_lost h (sight_of x)) xs
 
-abbrev pub lays : ℕ × ℕ → Sight → Bool
-lays key (Laid m k to) = same_frame key (m, k)
-lays key (Came m k) = false
-lays key (Did host) = false
-lays key Nothing = false
+abbrev pub lays_sight : ℕ × ℕ → Sight → Bool
+lays_sight key (Laid m k to) = same_frame key (m, k)
+lays_sight key (Came m k) = false
+lays_sight key (Did host) = false
+lays_sight key Nothing = false
 
 -- these entries laid the frame
 abbrev pub was_laid : List Entry → ℕ × ℕ → Bool
-was_laid past key = list_any (λ (x : Entry). lays key (sight_of x)) past
+was_laid past key = list_any (λ (x : Entry). lays_sight key (sight_of x)) past
 
 -- a copy comes of a frame that these entries laid
 abbrev pub is_copy_of : List Entry → Sight → Bool

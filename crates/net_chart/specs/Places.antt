@@ -6,8 +6,8 @@ use Rattle.net_chart.specs.declared.place.Page.{Page}
 use Rattle.net_chart.specs.Sights.{has_row, sight_of}
 
 -- a number and the next one, but for the last number
-abbrev pub next_number : ℕ → ℕ
-next_number n = min (n + 1) 18446744073709551615
+abbrev pub next_row_number : ℕ → ℕ
+next_row_number n = min (n + 1) 18446744073709551615
 
 -- before the first row
 abbrev pub above_all : Place
@@ -20,8 +20,8 @@ begins_band p moment = (p.row == 0) || not (p.moment == moment)
 abbrev pub next_place : Place → ℕ → Place
 next_place p moment =
     if begins_band p moment
-    then record { moment = moment; row = next_number p.row; band = next_number p.band; first = next_number p.row }
-    else record { moment = moment; row = next_number p.row; band = p.band; first = p.first }
+    then record { moment = moment; row = next_row_number p.row; band = next_row_number p.band; first = next_row_number p.row }
+    else record { moment = moment; row = next_row_number p.row; band = p.band; first = p.first }
 
 -- the place after an entry
 abbrev pub place_after : Bool → Place → Entry → Place
@@ -36,8 +36,8 @@ places_from brief p [] = []
 places_from brief p (x ∷ xs) = rows_of brief p x ++ places_from brief (place_after brief p x) xs
 
 -- the rows of a history
-abbrev pub places_of : Bool → List Entry → List Place
-places_of brief h = places_from brief above_all h
+abbrev pub chart_places : Bool → List Entry → List Place
+chart_places brief h = places_from brief above_all h
 
 -- rows beyond these aren't drawn one by one
 abbrev pub most_rows : ℕ
@@ -46,12 +46,12 @@ most_rows = 400
 -- a page of all sights, or of frames alone, of which the first and the last of each moment are drawn
 abbrev pub page_of : List Entry → Page
 page_of h =
-    if nat_le (length (places_of false h)) most_rows
-    then record { brief = false; places = places_of false h }
-    else record { brief = true; places = places_of true h }
+    if nat_le (length (chart_places false h)) most_rows
+    then record { brief = false; places = chart_places false h }
+    else record { brief = true; places = chart_places true h }
 
-abbrev pub is_first : Place → Bool
-is_first p = p.row == p.first
+abbrev pub is_first_row : Place → Bool
+is_first_row p = p.row == p.first
 
 -- the row behind this one is in another band, if there is one
 abbrev pub differs : Option Place → Place → Bool
@@ -62,21 +62,21 @@ abbrev pub is_last : Page → Place → Bool
 is_last page p = differs (slice_get page.places p.row) p
 
 abbrev pub is_drawn : Page → Place → Bool
-is_drawn page p = not page.brief || (is_first p || is_last page p)
+is_drawn page p = not page.brief || (is_first_row p || is_last page p)
 
 -- a number on the page
 abbrev pub bounded : ℕ → ℕ
 bounded n = min n 4294967296
 
 -- on a brief page a band has four rows: its first frame, the count, its last frame, and an empty one
-abbrev pub slot_of : Place → ℕ
-slot_of p = if is_first p then 0 else 2
+abbrev pub place_slot : Place → ℕ
+place_slot p = if is_first_row p then 0 else 2
 
 -- how many rows stand above it
 abbrev pub rows_above : Page → Place → ℕ
 rows_above page p =
     if page.brief
-    then 4 * bounded p.band + slot_of p
+    then 4 * bounded p.band + place_slot p
     else bounded p.row + bounded p.band
 
 -- the distance from the top of the page, in pixels

@@ -16,34 +16,34 @@ laid_on m to (reply.Laid k) = Laid m k to
 laid_on m to _ = Nothing
 
 -- a courier takes a copy of it
-abbrev pub taken_of : ℕ → Reply → Sight
-taken_of m (reply.Copy k) = Came m k
-taken_of m _ = Nothing
+abbrev pub sight_taken : ℕ → Reply → Sight
+sight_taken m (reply.Copy k) = Came m k
+sight_taken m _ = Nothing
 
 -- without a station nothing is laid
 abbrev pub put_on : ℕ → Option ℕ → Reply → Sight
 put_on m None r = Nothing
 put_on m (Some to) r = laid_on m to r
 
-abbrev pub on_medium : ℕ → Event → Reply → Sight
-on_medium m (event.Put to) r = put_on m to r
-on_medium m event.Take r = taken_of m r
-on_medium m _ r = Nothing
+abbrev pub sight_on_medium : ℕ → Event → Reply → Sight
+sight_on_medium m (event.Put to) r = put_on m to r
+sight_on_medium m event.Take r = sight_taken m r
+sight_on_medium m _ r = Nothing
 
 -- what nothing owed is an operation
 abbrev pub on_host : ℕ → Option ℕ → Sight
 on_host h None = Did h
 on_host h (Some s) = Nothing
 
-abbrev pub seen_at : ActorName → Event → Reply → Option ℕ → Sight
-seen_at (name.Desk h) e r cites = on_host h cites
-seen_at (name.Dir h p) e r cites = on_host h cites
-seen_at (name.Conv h p n) e r cites = on_host h cites
-seen_at (name.Medium m) e r cites = on_medium m e r
-seen_at name.Clock e r cites = Nothing
+abbrev pub sight_seen : ActorName → Event → Reply → Option ℕ → Sight
+sight_seen (name.Desk h) e r cites = on_host h cites
+sight_seen (name.Dir h p) e r cites = on_host h cites
+sight_seen (name.Conv h p n) e r cites = on_host h cites
+sight_seen (name.Medium m) e r cites = sight_on_medium m e r
+sight_seen name.Clock e r cites = Nothing
 
 abbrev pub sight_of : Entry → Sight
-sight_of x = seen_at x.actor x.event x.reply x.cites
+sight_of x = sight_seen x.actor x.event x.reply x.cites
 
 -- it has a row of its own: on a brief page only a frame that is laid
 abbrev pub has_row : Bool → Sight → Bool

@@ -13,7 +13,7 @@ use Rattle.net_chart.specs.declared.place.Page.{Page}
 use Rattle.net_chart.specs.Chart.{page_end, page_start}
 use Rattle.net_chart.specs.Drawing.{band_text, column_at, drawing_of}
 use Rattle.net_chart.specs.Places.{bottom_of, bounded, page_of}
-use Rattle.net_chart.specs.Svg.{escaped, line_text, text_end, text_start}
+use Rattle.net_chart.specs.Svg.{svg_escaped, svg_line_text, svg_text_end, text_start}
 use Rattle.net_chart.specs.Talks.{Talks, talks_drawn, talks_of}
 
 abbrev pub talk_width : Talks → ℕ
@@ -21,7 +21,7 @@ talk_width t = 200 + 320 * bounded (length t.columns)
 
 abbrev pub host_text : Option HostSpec → List ℕ
 host_text None = codes "?"
-host_text (Some host) = escaped host.name
+host_text (Some host) = svg_escaped host.name
 
 unfoldable pub slot_text : Proto → ℕ → List ℕ
 slot_text p n = codes " " ++ proto_name p ++ codes "/" ++ numeral n
@@ -35,8 +35,8 @@ unfoldable pub talk_column : World → ℕ → ℕ × ActorName → List ℕ
 talk_column w bottom talk =
     text_start (codes "host") [] (column_at talk.0) 30
     ++ talk_name w talk.1
-    ++ text_end
-    ++ line_text (codes "life") (column_at talk.0) 40 (column_at talk.0) bottom
+    ++ svg_text_end
+    ++ svg_line_text (codes "life") (column_at talk.0) 40 (column_at talk.0) bottom
 
 abbrev pub talks_charted : World → List Entry → Page → Talks → List ℕ
 talks_charted w h page t =

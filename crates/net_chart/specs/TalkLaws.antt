@@ -9,12 +9,12 @@ use Rattle.net_chart.specs.declared.sight.Sight.TheVariants.{Laid, Came, Did, No
 use Rattle.net_chart.specs.Frames.{owner_of}
 use Rattle.net_chart.specs.Laws.{drawn_at, is_arrow, is_cross, was_laid}
 use Rattle.net_chart.specs.Sights.{sight_of}
-use Rattle.net_chart.specs.Talks.{Talks, cited_by, column_of, end_at, is_conversation, start_at, talks_drawn, talks_of}
+use Rattle.net_chart.specs.Talks.{Talks, cited_by, column_of, end_at, is_talk, talk_start, talks_drawn, talks_of}
 use Rattle.net_chart.specs.Things.{arrives_in}
 
 -- a frame is laid that starts in a column, and of which no copy arrives
 abbrev pub is_lost_talk : List Entry → Talks → Sight → Bool
-is_lost_talk h t (Laid m k to) = not (arrives_in h (m, k)) && is_some (start_at t.starts (m, k))
+is_lost_talk h t (Laid m k to) = not (arrives_in h (m, k)) && is_some (talk_start t.starts (m, k))
 is_lost_talk h t (Came m k) = false
 is_lost_talk h t (Did host) = false
 is_lost_talk h t Nothing = false
@@ -25,7 +25,7 @@ lost_talks h t xs = filter (λ (x : Entry). is_lost_talk h t (sight_of x)) xs
 -- a copy comes of a frame that these entries laid, from a column to a column
 abbrev pub is_between : List Entry → Talks → ℕ → Sight → Bool
 is_between past t stamp (Laid m k to) = false
-is_between past t stamp (Came m k) = was_laid past (m, k) && (is_some (start_at t.starts (m, k)) && is_some (end_at t.ends stamp))
+is_between past t stamp (Came m k) = was_laid past (m, k) && (is_some (talk_start t.starts (m, k)) && is_some (end_at t.ends stamp))
 is_between past t stamp (Did host) = false
 is_between past t stamp Nothing = false
 
@@ -50,7 +50,7 @@ is_taken_at stamp (Some taken) = nat_eq stamp taken
 
 -- the entry brings a copy to its conversation, which the entry of this stamp took
 abbrev pub brings : List Entry → ℕ → Entry → Bool
-brings h stamp x = is_conversation x.actor && is_taken_at stamp (cited_by (owner_of h x.cites))
+brings h stamp x = is_talk x.actor && is_taken_at stamp (cited_by (owner_of h x.cites))
 
 -- the conversation to which the copy is brought last, if these entries bring it to none
 abbrev pub brought_from : List Entry → ℕ → Option ActorName → List Entry → Option ActorName

@@ -32,9 +32,9 @@ no_talks = record { columns = []; starts = []; ends = [] }
 
 -- Columns.
 
-abbrev pub is_conversation : ActorName → Bool
-is_conversation (name.Conv h p n) = true
-is_conversation _ = false
+abbrev pub is_talk : ActorName → Bool
+is_talk (name.Conv h p n) = true
+is_talk _ = false
 
 -- no column has a greater number
 abbrev pub column_number : ℕ → ℕ
@@ -53,17 +53,17 @@ columns_with columns a = columns_by columns a (column_of columns a)
 
 -- Frames and copies.
 
-abbrev pub start_at : List ((ℕ × ℕ) × ℕ) → ℕ × ℕ → Option ℕ
-start_at starts key = lookup (same_frame key) starts
+abbrev pub talk_start : List ((ℕ × ℕ) × ℕ) → ℕ × ℕ → Option ℕ
+talk_start starts key = lookup (same_frame key) starts
 
 -- a packet starts in the column of the conversation that emitted it; one that came by an earlier frame and is sent on, where
 -- that one started; and one that a directory emitted in none
 abbrev pub start_by : Talks → ActorName → Sight → Option ℕ
-start_by t a (Came m k) = start_at t.starts (m, k)
+start_by t a (Came m k) = talk_start t.starts (m, k)
 start_by t a _ = column_of t.columns a
 
-abbrev pub start_of : Talks → Entry → Option ℕ
-start_of t y = start_by t y.actor (sight_of y)
+abbrev pub start_of_entry : Talks → Entry → Option ℕ
+start_of_entry t y = start_by t y.actor (sight_of y)
 
 abbrev pub starts_at : List ((ℕ × ℕ) × ℕ) → ℕ × ℕ → Option ℕ → List ((ℕ × ℕ) × ℕ)
 starts_at starts key None = starts
@@ -71,31 +71,31 @@ starts_at starts key (Some c) = insert_entry same_frame starts key c
 
 -- a frame that is laid starts where its packet does, by the entry that owed it
 abbrev pub starts_by : Talks → Option Entry → Sight → List ((ℕ × ℕ) × ℕ)
-starts_by t owner (Laid m k to) = starts_at t.starts (m, k) (option_and_then (start_of t) owner)
+starts_by t owner (Laid m k to) = starts_at t.starts (m, k) (option_and_then (start_of_entry t) owner)
 starts_by t owner _ = t.starts
 
 abbrev pub end_at : List (ℕ × ℕ) → ℕ → Option ℕ
 end_at ends stamp = lookup (nat_eq stamp) ends
 
-abbrev pub ends_at : List (ℕ × ℕ) → Option ℕ → Option ℕ → List (ℕ × ℕ)
-ends_at ends (Some stamp) (Some c) = insert_entry nat_eq ends stamp c
-ends_at ends (Some stamp) None = ends
-ends_at ends None column = ends
+abbrev pub talk_ends_at : List (ℕ × ℕ) → Option ℕ → Option ℕ → List (ℕ × ℕ)
+talk_ends_at ends (Some stamp) (Some c) = insert_entry nat_eq ends stamp c
+talk_ends_at ends (Some stamp) None = ends
+talk_ends_at ends None column = ends
 
 -- the entry that owed the owner of an entry, by its stamp
 abbrev pub cited_by : Option Entry → Option ℕ
 cited_by owner = option_and_then (λ (y : Entry). y.cites) owner
 
 -- with the column of a frame that is laid
-abbrev pub started : Talks → Option Entry → Entry → Talks
-started t owner x = record t { starts = starts_by t owner (sight_of x) }
+abbrev pub talks_started : Talks → Option Entry → Entry → Talks
+talks_started t owner x = record t { starts = starts_by t owner (sight_of x) }
 
 -- at an entry of this conversation: the entry of this stamp took a copy, which owed one at a directory, which owed this one
 abbrev pub entered : Talks → Option ℕ → ActorName → Talks
-entered t stamp a = record t { columns = columns_with t.columns a; ends = ends_at t.ends stamp (column_of (columns_with t.columns a) a) }
+entered t stamp a = record t { columns = columns_with t.columns a; ends = talk_ends_at t.ends stamp (column_of (columns_with t.columns a) a) }
 
 abbrev pub talks_by : Talks → Option Entry → Entry → Talks
-talks_by t owner x = if is_conversation x.actor then entered (started t owner x) (cited_by owner) x.actor else started t owner x
+talks_by t owner x = if is_talk x.actor then entered (talks_started t owner x) (cited_by owner) x.actor else talks_started t owner x
 
 abbrev pub talks_with : List Entry → Talks → Entry → Talks
 talks_with h t x = talks_by t (owner_of h x.cites) x
@@ -115,31 +115,31 @@ source_in column None = None
 source_in column (Some s) = Some (record s { host = column })
 
 -- a frame from one column to another
-abbrev pub moved : ℕ → ℕ → Frame → Frame
-moved from to f = record f { source = source_in from f.source; to = to }
+abbrev pub talks_moved : ℕ → ℕ → Frame → Frame
+talks_moved from to f = record f { source = source_in from f.source; to = to }
 
 abbrev pub arrow_between : Frame → Place → Option ℕ → Option ℕ → Option Thing
-arrow_between f at (Some from) (Some to) = Some (Arrow (moved from to f) at)
+arrow_between f at (Some from) (Some to) = Some (Arrow (talks_moved from to f) at)
 arrow_between f at (Some from) None = None
 arrow_between f at None to = None
 
 -- a copy has an arrow where it was brought to a conversation and its packet started in one: a stray has none, nor has a copy
 -- that is sent on
 abbrev pub arrow_by : Talks → ℕ → Frame → Place → Sight → Option Thing
-arrow_by t stamp f at (Came m k) = arrow_between f at (start_at t.starts (m, k)) (end_at t.ends stamp)
+arrow_by t stamp f at (Came m k) = arrow_between f at (talk_start t.starts (m, k)) (end_at t.ends stamp)
 arrow_by t stamp f at _ = None
 
 -- the column beside one, to which half an arrow goes: the one on its left, but for the first
-abbrev pub beside : ℕ → ℕ
-beside column = if column == 0 then 1 else column - 1
+abbrev pub column_beside : ℕ → ℕ
+column_beside column = if column == 0 then 1 else column - 1
 
 abbrev pub cross_from : Frame → Option ℕ → Option Thing
 cross_from f None = None
-cross_from f (Some from) = Some (Cross (moved from (beside from) f))
+cross_from f (Some from) = Some (Cross (talks_moved from (column_beside from) f))
 
 -- a lost frame has a cross where its packet started in a column
 abbrev pub cross_by : Talks → Frame → Sight → Option Thing
-cross_by t f (Laid m k to) = cross_from f (start_at t.starts (m, k))
+cross_by t f (Laid m k to) = cross_from f (talk_start t.starts (m, k))
 cross_by t f _ = None
 
 -- an operation of a desk or a directory stands in no column, and its row is empty

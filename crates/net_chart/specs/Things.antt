@@ -25,8 +25,8 @@ abbrev pub arrives_in : List Entry → ℕ × ℕ → Bool
 arrives_in h key = list_any (λ (x : Entry). is_copy key (sight_of x)) h
 
 -- these are the frames of which a copy arrives
-abbrev pub Knows : List Entry → List (ℕ × ℕ) → Type 0
-Knows h keys = (key : ℕ × ℕ) → list_any (same_frame key) keys ≡ arrives_in h key
+abbrev pub KnowsFrames : List Entry → List (ℕ × ℕ) → Type 0
+KnowsFrames h keys = (key : ℕ × ℕ) → list_any (same_frame key) keys ≡ arrives_in h key
 
 -- the frames so far, and the last row
 pub record Past : Type 0 where

@@ -6,7 +6,7 @@ use Rattle.net_chart.specs.declared.sight.Sight.{Sight}
 use Rattle.net_chart.specs.declared.sight.Sight.TheVariants.{Laid, Came, Did, Nothing}
 use Rattle.net_chart.specs.declared.thing.Thing.{Thing}
 use Rattle.net_chart.specs.declared.thing.Thing.TheVariants.{Arrow, Cross, Operation}
-use Rattle.net_chart.specs.Laws.{lays}
+use Rattle.net_chart.specs.Laws.{lays_sight}
 use Rattle.net_chart.specs.Places.{above_all, place_after}
 use Rattle.net_chart.specs.Sights.{sight_of}
 use Rattle.net_chart.specs.Things.{Drawn, arrives_in, things_of}
@@ -38,7 +38,7 @@ laying_of Nothing at = None
 -- where the frame was laid last, by entries that come newest first
 abbrev pub laid_in : List Standing → ℕ × ℕ → Option Laying
 laid_in [] key = None
-laid_in (s ∷ past) key = if lays key (sight_of s.entry) then laying_of (sight_of s.entry) s.place else laid_in past key
+laid_in (s ∷ past) key = if lays_sight key (sight_of s.entry) then laying_of (sight_of s.entry) s.place else laid_in past key
 
 abbrev pub flight_to : Place → Option Laying → List Flight
 flight_to at None = []

@@ -60,7 +60,7 @@ fn charted(
 }
 
 fn width_of(world: &World) -> u64
-    ensures { result ≡ spec.width_of world.now }
+    ensures { result ≡ spec.chart_width world.now }
 {
     200 + 320 * bounded(world.hosts.len() as u64)
 }
@@ -104,9 +104,9 @@ fn put_opening_end(out: &mut Octets) -> Result<(), AllocError>
 }
 
 // Two numbers behind the beginning of an attribute.
-#[tactic(auto, unfolding(crate::specs::Chart::pair_text))]
+#[tactic(auto, unfolding(crate::specs::Chart::svg_pair_text))]
 fn put_pair(out: &mut Octets, name: &[u8], a: u64, b: u64) -> Result<(), AllocError>
-    ensures { OnOk result (out.new ≡ out.old ++ spec.pair_text name.now a b) }
+    ensures { OnOk result (out.new ≡ out.old ++ spec.svg_pair_text name.now a b) }
 {
     out.append(name)?;
     put_decimal(out, a)?;

@@ -31,7 +31,7 @@ pub struct Frame {
 impl Frame {
     /// The host from which it comes; where none is known, the one that it goes to.
     pub fn start(&self) -> u32
-        ensures { result ≡ drawing.start_of self.now }
+        ensures { result ≡ drawing.frame_start self.now }
     {
         match self.source {
             Some(source) => source.host,

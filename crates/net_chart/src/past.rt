@@ -6,7 +6,7 @@ ghost use Rattle.net_base.specs.declared.history.Entry.{Entry as AnyEntry};
 ghost use Rattle.net_chart.specs.Frames as frames;
 ghost use Rattle.net_chart.specs.Frames.{same_frame};
 ghost use Rattle.net_chart.specs.Things as spec;
-ghost use Rattle.net_chart.specs.Things.{Knows, no_past, past_after, thing_at};
+ghost use Rattle.net_chart.specs.Things.{KnowsFrames, no_past, past_after, thing_at};
 
 use crate::frame::{Frame, Key, Source, frame_at, source_of};
 use crate::place::{ABOVE_ALL, Place, place_after};
@@ -19,7 +19,7 @@ use std::marker::Model;
 
 /// The frames of which a copy arrives, by medium and number.
 pub fn arrivals_in(alloc: Global, entries: &[Entry]) -> Result<IndexSet<Key>, AllocError>
-    ensures { IfOk result (λ came. Knows entries.now came.keys) }
+    ensures { IfOk result (λ came. KnowsFrames entries.now came.keys) }
 {
     let mut came = IndexSet::new(alloc);
     for entry in entries {
@@ -76,7 +76,7 @@ impl Past {
         came: &IndexSet<Key>,
         entry: &Entry,
     ) -> Result<Option<Thing>, AllocError>
-        requires { Knows history.now came.now.keys }
+        requires { KnowsFrames history.now came.now.keys }
         ensures thing { IfOk result (λ thing. thing ≡ thing_at brief history.now self.old entry.now) }
         ensures past { OnOk result (self.new ≡ past_after brief history.now self.old entry.now) }
     {
@@ -103,7 +103,7 @@ impl Past {
         key: Key,
         to: u32,
     ) -> Result<Option<Thing>, AllocError>
-        requires { Knows history.now came.now.keys }
+        requires { KnowsFrames history.now came.now.keys }
         ensures thing { IfOk result (λ thing. thing
             ≡ spec.laid_thing history.now key (spec.laid_by history.now self.old.frames entry.now key.1 to self.old.place)) }
         ensures past { OnOk result (self.new
@@ -153,7 +153,7 @@ impl Past {
 
 // Whether some copy of a frame arrives.
 fn arrives(history: &[Entry], came: &IndexSet<Key>, key: Key) -> bool
-    requires { Knows history.now came.now.keys }
+    requires { KnowsFrames history.now came.now.keys }
     ensures { result ≡ spec.arrives_in history.now key }
 {
     let _ = history;

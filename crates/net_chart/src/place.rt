@@ -93,7 +93,7 @@ fn add_row(
 
 // The rows of a history.
 fn places_of(alloc: Global, brief: bool, entries: &[Entry]) -> Result<Sequence<Place>, AllocError>
-    ensures { IfOk result (λ places. places ≡ spec.places_of brief entries.now) }
+    ensures { IfOk result (λ places. places ≡ spec.chart_places brief entries.now) }
 {
     let mut places = Sequence::new(alloc);
     let mut place = ABOVE_ALL;
@@ -123,7 +123,7 @@ pub fn page_of(alloc: Global, entries: &[Entry]) -> Result<Page, AllocError>
 
 /// Whether it begins a band.
 pub fn is_first(place: Place) -> bool
-    ensures { result ≡ spec.is_first place }
+    ensures { result ≡ spec.is_first_row place }
 {
     place.row == place.first
 }
@@ -138,7 +138,7 @@ pub fn bounded(n: u64) -> u64
 
 // The row of a band's four: the first frame's, or the last one's.
 fn slot_of(place: Place) -> u64
-    ensures value { result ≡ spec.slot_of place }
+    ensures value { result ≡ spec.place_slot place }
     ensures within { result ≤ 2 }
 {
     if is_first(place) { 0 } else { 2 }

@@ -37,7 +37,7 @@ fn on_host(host: u32, cites: Option<u64>) -> Sight
 }
 
 fn on_medium(medium: u32, event: &Event, reply: &Reply) -> Sight
-    ensures { result ≡ spec.on_medium medium event.now reply.now }
+    ensures { result ≡ spec.sight_on_medium medium event.now reply.now }
 {
     match event {
         Event::Put { to } => put(medium, *to, reply),
@@ -69,7 +69,7 @@ fn laid(medium: u32, to: u32, reply: &Reply) -> Sight
 }
 
 fn taken(medium: u32, reply: &Reply) -> Sight
-    ensures { result ≡ spec.taken_of medium reply.now }
+    ensures { result ≡ spec.sight_taken medium reply.now }
 {
     match reply {
         Reply::Copy { frame } => Sight::Came {

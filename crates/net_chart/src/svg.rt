@@ -27,7 +27,7 @@ fn put_class(out: &mut Octets, class: &[u8]) -> Result<(), AllocError>
 }
 
 /// Adds a line between two points.
-#[tactic(auto, unfolding(crate::specs::Svg::line_text))]
+#[tactic(auto, unfolding(crate::specs::Svg::svg_line_text))]
 pub fn put_line(
     out: &mut Octets,
     class: &[u8],
@@ -36,7 +36,7 @@ pub fn put_line(
     to_x: u64,
     to_y: u64,
 ) -> Result<(), AllocError>
-    ensures { OnOk result (out.new ≡ out.old ++ spec.line_text class.now x y to_x to_y) }
+    ensures { OnOk result (out.new ≡ out.old ++ spec.svg_line_text class.now x y to_x to_y) }
 {
     out.append(b"<line")?;
     put_class(out, class)?;
@@ -90,9 +90,9 @@ pub fn start_text(
 }
 
 /// Ends a text.
-#[tactic(auto, unfolding(crate::specs::Svg::text_end))]
+#[tactic(auto, unfolding(crate::specs::Svg::svg_text_end))]
 pub fn end_text(out: &mut Octets) -> Result<(), AllocError>
-    ensures { OnOk result (out.new ≡ out.old ++ spec.text_end) }
+    ensures { OnOk result (out.new ≡ out.old ++ spec.svg_text_end) }
 {
     out.append(b"</text>")?;
     out.append(b"\n")
@@ -112,7 +112,7 @@ fn put_escaped_byte(out: &mut Octets, byte: u8) -> Result<(), AllocError>
 
 /// Adds a text between tags. What isn't printed there is a dot.
 pub fn put_escaped(out: &mut Octets, text: &[u8]) -> Result<(), AllocError>
-    ensures { OnOk result (out.new ≡ out.old ++ spec.escaped text.now) }
+    ensures { OnOk result (out.new ≡ out.old ++ spec.svg_escaped text.now) }
 {
     for byte in text {
         put_escaped_byte(out, *byte)?;
@@ -127,9 +127,9 @@ fn beginning(text: &[u8]) -> &[u8]
 }
 
 /// Adds the beginning of a text in quotes.
-#[tactic(auto, unfolding(crate::specs::Svg::quoted))]
+#[tactic(auto, unfolding(crate::specs::Svg::svg_quoted))]
 pub fn put_quoted(out: &mut Octets, text: &[u8]) -> Result<(), AllocError>
-    ensures { OnOk result (out.new ≡ out.old ++ spec.quoted text.now) }
+    ensures { OnOk result (out.new ≡ out.old ++ spec.svg_quoted text.now) }
 {
     out.append(b" '")?;
     put_escaped(out, beginning(text))?;

@@ -48,7 +48,7 @@ pub fn talks_of(alloc: Global, entries: &[Entry]) -> Result<Talks, AllocError>
 }
 
 fn is_conversation(actor: ActorName) -> bool
-    ensures { result ≡ spec.is_conversation actor }
+    ensures { result ≡ spec.is_talk actor }
 {
     match actor {
         ActorName::Conv(_, _, _) => true,
@@ -109,7 +109,7 @@ fn note_end(
     stamp: Option<u64>,
     column: Option<u32>,
 ) -> Result<(), AllocError>
-    ensures { OnOk result (ends.new.entries ≡ spec.ends_at ends.old.entries stamp column) }
+    ensures { OnOk result (ends.new.entries ≡ spec.talk_ends_at ends.old.entries stamp column) }
 {
     match stamp {
         Some(stamp) => match column {
@@ -124,7 +124,7 @@ fn note_end(
 }
 
 fn start_at(starts: &IndexMap<Key, u32>, key: Key) -> Option<u32>
-    ensures { result ≡ spec.start_at starts.now.entries key }
+    ensures { result ≡ spec.talk_start starts.now.entries key }
 {
     starts.get(&key).copied()
 }
@@ -200,7 +200,7 @@ impl Talks {
     }
 
     fn start_by(&self, owner: Option<&Entry>) -> Option<u32>
-        ensures { (owed : Option AnyEntry) → option_copied owner.entry ≡ owed → result ≡ option_and_then (spec.start_of self.now) owed }
+        ensures { (owed : Option AnyEntry) → option_copied owner.entry ≡ owed → result ≡ option_and_then (spec.start_of_entry self.now) owed }
     {
         match owner {
             Some(owner) => self.start_of(owner),
@@ -210,7 +210,7 @@ impl Talks {
 
     // Where a packet starts, by the entry that owes its put: where it was emitted, or where the earlier frame started by which it came.
     fn start_of(&self, owner: &Entry) -> Option<u32>
-        ensures { result ≡ spec.start_of self.now owner.now }
+        ensures { result ≡ spec.start_of_entry self.now owner.now }
     {
         match sight_of(owner) {
             Sight::Came { medium, number } => start_at(&self.starts, (medium, number)),
@@ -280,7 +280,7 @@ fn source_in(column: u32, source: Option<Source>) -> Option<Source>
 
 // A frame from one column to another.
 fn moved(from: u32, to: u32, frame: &Frame) -> Frame
-    ensures { result ≡ spec.moved from to frame.now }
+    ensures { result ≡ spec.talks_moved from to frame.now }
 {
     Frame {
         number: frame.number,
@@ -308,7 +308,7 @@ fn arrow_between(frame: &Frame, at: Place, from: Option<u32>, to: Option<u32>) -
 
 // The column beside one.
 fn beside(column: u32) -> u32
-    ensures { result ≡ spec.beside column }
+    ensures { result ≡ spec.column_beside column }
 {
     if column == 0 {
         1

@@ -18,7 +18,7 @@ use Rattle.net_base.specs.Next.{next_of, own_replies, zone_of}
 use Rattle.net_base.specs.Scripts.{at_first, position}
 use Rattle.net_base.specs.Steps.{Ask}
 use Rattle.history_laws.proofs.Shared.{after_push, by_entries, Each, each_append, IsNextEvent}
-use Rattle.net_export.specs.Counted.{brought, count_after, follow_ups, puts, releases}
+use Rattle.net_export.specs.Counted.{brought, count_after, follow_ups, counts_put, releases}
 use Rattle.net_export.proofs.FreeEvents.{IsFree, IsFreeDuty, duties_free, script_free}
 use Rattle.net_export.proofs.Lengths.{duties_length}
 use Rattle.net_base.proofs.Shared.{next_one, script_at}
@@ -69,7 +69,7 @@ by_itself w net x c (Some s) is own free shows ready =
     let new : List Duty = duties w net.actors x.actor (length net.past) (work_of net x) s in
     let brings : length new ≡ brought w x =
     duties_length w net.actors x.actor net.moment (length net.past) (work_of net x) s free is
-    ∙ sym (ap (λ (y : Shown). (puts w x.actor y.emits + follow_ups x.actor x.event y.reply) + releases x.actor y.ended) shows) in
+    ∙ sym (ap (λ (y : Shown). (counts_put w x.actor y.emits + follow_ups x.actor x.event y.reply) + releases x.actor y.ended) shows) in
     rw own (length-append (drop 1 (net.owed c)) new ∙ omega (arith, brings, length-drop 1 (net.owed c)))
 
 free_after : (w : World) (net : Net) (x : Entry) (c : ℕ) (o : Option (Step Actor)) → Each IsFreeDuty (net.owed c)

@@ -27,7 +27,7 @@ use Rattle.net_base.specs.Duties.{Duty, duties, put_by, emitted_put, close_calls
 use Rattle.net_base.specs.Headers.{header}
 use Rattle.net_base.specs.Medium.{Medium}
 use Rattle.net_base.specs.Routes.{Way, way}
-use Rattle.net_export.specs.Counted.{if_way, puts, at_directory, at_conversation, follow_ups, releases}
+use Rattle.net_export.specs.Counted.{if_way, counts_put, due_at_directory, at_conversation, follow_ups, releases}
 use Rattle.table_laws.specs.ActorRows.{ActorRow, AtDesk, AtDir, AtConv, AtMedium, AtClock, MediumRow, Takes, TakesHeld}
 use Rattle.table_laws.specs.DirRows.{DirRow, slot_in}
 use Rattle.table_laws.specs.DirRows as dir_row
@@ -40,7 +40,7 @@ put_length : (o : Option Way) (s : ℕ) (p : Packet) → length (put_by o s p) �
 put_length None s p = refl
 put_length (Some out) s p = refl
 
-emitted_length : (w : World) (a : ActorName) (s : ℕ) (o : Option Packet) → length (emitted_put w a s o) ≡ puts w a (option_map header o)
+emitted_length : (w : World) (a : ActorName) (s : ℕ) (o : Option Packet) → length (emitted_put w a s o) ≡ counts_put w a (option_map header o)
 emitted_length w (name.Dir h p) s (Some packet) = put_length (way w h packet.dst.ip) s packet
 emitted_length w (name.Conv h p n) s (Some packet) = put_length (way w h packet.dst.ip) s packet
 emitted_length w (name.Dir h p) s None = refl
@@ -62,7 +62,7 @@ closed h s p calls = length-map calls _
 
 module _ (h s : ℕ) (p : Proto) where
   abbrev Counts : Event → With → Reply → Type 0
-  Counts e gift r = length (follow_up (name.Dir h p) s e gift r) ≡ at_directory e r
+  Counts e gift r = length (follow_up (name.Dir h p) s e gift r) ≡ due_at_directory e r
 
   reserved : (gift : With) (r : Reply) → Counts event.Reserve gift r
   reserved gift (reply.Slot n g) = refl
@@ -206,7 +206,7 @@ in_all put follow courier ticked free x y z one two three four five =
 pub duties_length : (w : World) (actors : ActorName → Actor) (a : ActorName) (now stamp : ℕ) (work : Work) (s : Step Actor) → IsFree work.event
     → actor_step w a (actors a) now work ≡ Some s
     → length (duties w actors a stamp work s)
-    ≡ (puts w a (option_map header s.outcome.emit) + follow_ups a work.event s.outcome.reply) + releases a s.outcome.ended
+    ≡ (counts_put w a (option_map header s.outcome.emit) + follow_ups a work.event s.outcome.reply) + releases a s.outcome.ended
 duties_length w actors a now stamp work s free is =
     let part = is_part w a (actors a) now work s free is in
     in_all (emitted_put w a stamp s.outcome.emit) (follow_up a stamp work.event work.with s.outcome.reply) (courier_duty w a stamp s.outcome.taken)

@@ -17,7 +17,7 @@ use Rattle.sessions.specs.declared.world.Session.{Session}
 use Rattle.net_base.specs.SessionScript.{AreMessages}
 use Rattle.net_base.specs.Server.{answers_to}
 use Rattle.net_base.specs.Session.{first, session}
-use Rattle.sessions.specs.InHistory.{answers}
+use Rattle.sessions.specs.InHistory.{answers_in_history}
 use Rattle.net_export.specs.Answered.{AreAnswersOf, AreAnswersTo, ArePlayed, IsPlayed}
 use Rattle.net_export.proofs.Placing.{in_all}
 
@@ -27,7 +27,7 @@ AreBy host bytes owing h c lines = (ms : List Tmsg) → AreMessages bytes ms →
 
 -- .. and in the history
 abbrev pub AreIn : World → List ℕ → List Entry → ℕ → List (List ℕ) → Type 0
-AreIn w bytes h c lines = (ms : List Tmsg) (s : Script) → AreMessages bytes ms → slice_get w.scripts c ≡ Some s → lines ≡ answers w s.host ms c h
+AreIn w bytes h c lines = (ms : List Tmsg) (s : Script) → AreMessages bytes ms → slice_get w.scripts c ≡ Some s → lines ≡ answers_in_history w s.host ms c h
 
 are_in : (w : World) (h : List Entry) (bytes : List ℕ) (c host : ℕ) (owing : Bool) (lines : List (List ℕ)) → owing ≡ owes (after w h) c → AreTold (own_replies h c)
     → ((s : Script) → slice_get w.scripts c ≡ Some s → host ≡ s.host)
@@ -54,7 +54,7 @@ answers_one w h x bytes r same plays are =
     (λ lines given.
     let ms : List Tmsg = plays.plays.0 in
     let of_bytes : AreMessages bytes ms = subst (λ (b : List ℕ). AreMessages b ms) (sym same) plays.plays.1 in
-    (ms, plays.plays.1, given ms plays.as_script of_bytes plays.stands ∙ ap (λ (n : ℕ). answers w n ms x.place h) plays.host)) are
+    (ms, plays.plays.1, given ms plays.as_script of_bytes plays.stands ∙ ap (λ (n : ℕ). answers_in_history w n ms x.place h) plays.host)) are
 
 -- Sessions in turn.
 

@@ -17,7 +17,7 @@ use Rattle.net_base.specs.Steps.{Ask}
 use Rattle.history_laws.proofs.Shared.{Each, each_from_get, IsNextEvent}
 use Rattle.net_base.specs.SessionScript as streams
 use Rattle.sessions.specs.InHistory.{IsSessionOf}
-use Rattle.session_answers.specs.Told.{AreTold, is_told}
+use Rattle.session_answers.specs.Told.{AreTold, is_reply_told}
 use Rattle.net_export.proofs.SessionEvents.{IsSessionEvent, next_of_session}
 use Rattle.net_export.proofs.ToldReplies.{entry_told}
 use Rattle.net_base.proofs.Shared.{script_is}
@@ -37,7 +37,7 @@ asked_next w bytes [] k s h c x script is free asked =
     (subst (λ (l : Caller). IsAsked [] l (next_of w l h c) x) script asked)
 
 own_reply_told : (w : World) (bytes : List ℕ) (h : List Entry) (c : ℕ) (x : Entry) → IsSessionOf w c bytes → MayFollow w h x → (x.caller == c) ≡ true → is_none x.cites ≡ true
-    → is_told x.reply ≡ true
+    → is_reply_told x.reply ≡ true
 own_reply_told w bytes h c x session may own free =
     let same : x.caller ≡ c = eqb-true x.caller c own in
     let asked : IsAsked (owed w h c) (caller_of w c) (next_of w (caller_of w c) h c) x =
@@ -50,14 +50,14 @@ own_reply_told w bytes h c x session may own free =
 -- ---- all of them
 
 abbrev OwnTold : ℕ → Entry → Type 0
-OwnTold c x = (x.caller == c) ≡ true → is_none x.cites ≡ true → is_told x.reply ≡ true
+OwnTold c x = (x.caller == c) ≡ true → is_none x.cites ≡ true → is_reply_told x.reply ≡ true
 
 own_more : (c : ℕ) (x : Entry) (h : List Entry) → OwnTold c x → AreTold (own_replies h c) → AreTold (own_replies (x ∷ h) c)
 own_more c x h one rest = by_caller (x.caller == c) refl
   where
     by_cites : (b : Bool) → (x.caller == c) ≡ true → is_none x.cites ≡ b
         → AreTold (map (λ (y : Entry). y.reply) (cond b (x ∷ filter (λ (y : Entry). is_none y.cites) (by h c)) (filter (λ (y : Entry). is_none y.cites) (by h c))))
-    by_cites true own free = and_from (is_told x.reply) (list_all is_told (own_replies h c)) (one own free) rest
+    by_cites true own free = and_from (is_reply_told x.reply) (list_all is_reply_told (own_replies h c)) (one own free) rest
     by_cites false own owed = rest
 
     by_caller : (b : Bool) → (x.caller == c) ≡ b → AreTold (map (λ (y : Entry). y.reply) (filter (λ (y : Entry). is_none y.cites) (cond b (x ∷ by h c) (by h c))))

@@ -18,7 +18,7 @@ use Rattle.net_base.specs.Desk.{Desk}
 use Rattle.net_base.specs.Directory.{Dir}
 use Rattle.net_base.specs.Legal.{Shows}
 use Rattle.net_base.specs.Net.{Net, outcome_in, work_of}
-use Rattle.session_answers.specs.Told.{is_told}
+use Rattle.session_answers.specs.Told.{is_reply_told}
 use Rattle.table_laws.specs.ActorRows.{ActorRow, AtDesk, AtDir, AtConv, AtMedium, AtClock, DeskRow}
 use Rattle.table_laws.specs.ActorRows as desk_row
 use Rattle.table_laws.specs.ConvRows.{ConvRow}
@@ -30,9 +30,9 @@ use Rattle.net_export.proofs.SessionEvents.{IsSessionEvent}
 
 -- the step's reply is told
 abbrev pub IsTold : {S : Type 0} → Step S → Type 0
-IsTold s = is_told s.outcome.reply ≡ true
+IsTold s = is_reply_told s.outcome.reply ≡ true
 
-desk_told : (dbs : List Version) (host : HostSpec) (h now : ℕ) (d : Desk) (e : Event) (r : Reply) → IsSessionEvent (name.Desk h) e → DeskRow dbs host now d e r → is_told r ≡ true
+desk_told : (dbs : List Version) (host : HostSpec) (h now : ℕ) (d : Desk) (e : Event) (r : Reply) → IsSessionEvent (name.Desk h) e → DeskRow dbs host now d e r → is_reply_told r ≡ true
 desk_told dbs host h now d e r is desk_row.Lists = absurd is
 desk_told dbs host h now d e r is desk_row.Refreshes = absurd is
 desk_told dbs host h now d e r is _ = refl
@@ -65,7 +65,7 @@ row_told w now a s e gift t is (AtMedium there row) = absurd is
 row_told w now a s e gift t is AtClock = absurd is
 
 -- the reply of an entry with an event of a session, where it may follow
-pub entry_told : (w : World) (net : Net) (x : Entry) → IsSessionEvent x.actor x.event → IsSome (outcome_in w net x) → Shows (outcome_in w net x) x → is_told x.reply ≡ true
+pub entry_told : (w : World) (net : Net) (x : Entry) → IsSessionEvent x.actor x.event → IsSome (outcome_in w net x) → Shows (outcome_in w net x) x → is_reply_told x.reply ≡ true
 entry_told w net x is ready shows =
-    shown_reply w net x (λ (r : Reply). is_told r ≡ true) ready shows
+    shown_reply w net x (λ (r : Reply). is_reply_told r ≡ true) ready shows
     (λ t row. row_told w net.moment x.actor (net.actors x.actor) x.event (work_of net x).with t is row)

@@ -7,7 +7,7 @@ use Rattle.net_base.specs.Stamped.{In}
 use Rattle.net_base.specs.declared.ninep.Tmsg.{Tmsg}
 use Rattle.sessions.specs.declared.world.Session.{Session}
 use Rattle.net_base.specs.SessionScript.{AreMessages, IsScript}
-use Rattle.sessions.specs.InHistory.{answers}
+use Rattle.sessions.specs.InHistory.{answers_in_history}
 
 -- the session is a script of its host in the translated world
 pub record IsPlayed (w : World) (x : Session) : Type 0 where
@@ -21,7 +21,7 @@ ArePlayed w ss = (x : Session) → In x ss → IsPlayed w x
 
 -- these are the answers to the messages of the session, as far as the history has them
 abbrev pub AreAnswersTo : World → List Entry → Session → List (List ℕ) → Type 0
-AreAnswersTo w h x lines = (ms : List Tmsg) × AreMessages x.stream ms × (lines ≡ answers w x.host ms x.place h)
+AreAnswersTo w h x lines = (ms : List Tmsg) × AreMessages x.stream ms × (lines ≡ answers_in_history w x.host ms x.place h)
 
 -- these are the answers of each session in turn
 abbrev pub AreAnswersOf : World → List Entry → List Session → List (List (List ℕ)) → Type 0

@@ -17,7 +17,7 @@ use Rattle.net_base.specs.ControlWords as control
 use Rattle.net_base.specs.Exports.{is_dotted}
 use Rattle.net_base.specs.Paths.{mode_reads, walk, mode_writes}
 use Rattle.net_base.specs.Steps.{Asks, Bound, Ends, Fid, Names, Play, bind, conversation_of, controls, ends_with, fid_among, fid_of, if_accepted, is_accepted, is_bound, misuses, on_fid, openable, opened_fid, opens, puts_text, read_event, unbind, uses, without}
-use Rattle.net_export.specs.Serving.{IsDotted, goes_on}
+use Rattle.net_export.specs.Serving.{IsDotted, awaits_pair}
 use Rattle.net_base.specs.declared.request.Request.{Request}
 use Rattle.net_base.specs.declared.request.Request.TheVariants as request
 use Rattle.script_task.specs.Fitting.{fits_grant, fits_write, is_granted, is_unopened}
@@ -202,7 +202,7 @@ module _ (h : ℕ) (names : Names) (r : Reply) (called : List ℕ) where
 
 -- each request of a session goes on so
 pub goes : (h : ℕ) (names : Names) (q : Request) (r : Reply) → IsDotted q → fits_play (request_play h names q) r ≡ true
-    → Goes h names r (settled names q r) (goes_on (Some q) r) (request_play h names q)
+    → Goes h names r (settled names q r) (awaits_pair (Some q) r) (request_play h names q)
 goes h names (request.Open called path m) r dotted fit = open_goes h names r called path m
 goes h names (request.Read called count) r dotted fit = read_goes h names r called count
 goes h names (request.Write called text) r dotted fit = write_goes h names r called text fit

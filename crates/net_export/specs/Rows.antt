@@ -9,9 +9,9 @@ use Rattle.net_base.specs.declared.request.Request.TheVariants as request
 abbrev pub rising : OpenFids → List ℕ
 rising o = o.fids.items
 
-abbrev pub first_of : List ℕ → Option ℕ
-first_of [] = None
-first_of (n ∷ ns) = Some n
+abbrev pub first_number : List ℕ → Option ℕ
+first_number [] = None
+first_number (n ∷ ns) = Some n
 
 -- `.N` in place of `fN`
 abbrev pub dotted_request : Request → Request

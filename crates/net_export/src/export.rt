@@ -78,7 +78,7 @@ impl Export {
 
     // It takes the reply to an event of a request, or to the write of its answer.
     fn serve(&mut self, alloc: Global, reply: &Reply) -> Result<(), AllocError>
-        ensures ok { OnOk result (self.new ≡ spec.served self.old reply.now) }
+        ensures ok { OnOk result (self.new ≡ spec.served_reply self.old reply.now) }
         ensures err { OnErr result (self.new ≡ self.old) }
     {
         if self.serving.is_asking() {

@@ -23,7 +23,7 @@ impl OpenFids {
 
     /// The least of them.
     pub(crate) fn least(&self) -> Option<u32>
-        ensures { result ≡ spec.first_of (spec.rising self.now) }
+        ensures { result ≡ spec.first_number (spec.rising self.now) }
     {
         self.fids.first().copied()
     }

@@ -54,7 +54,7 @@ fn brought(ways: &WorldWays, entry: &Entry) -> u128
 }
 
 fn puts(ways: &WorldWays, entry: &Entry) -> u8
-    ensures { (w : AnyWorld) → AreWaysOfWorld w ways.now → result ≡ spec.puts w entry.now.actor entry.now.emits }
+    ensures { (w : AnyWorld) → AreWaysOfWorld w ways.now → result ≡ spec.counts_put w entry.now.actor entry.now.emits }
 {
     let Some(header) = entry.emits else {
         return 0;
@@ -86,7 +86,7 @@ fn follow_ups(entry: &Entry) -> usize
 }
 
 fn at_directory(event: &Event, reply: &Reply) -> usize
-    ensures { result ≡ spec.at_directory event.now reply.now }
+    ensures { result ≡ spec.due_at_directory event.now reply.now }
 {
     match (event, reply) {
         (Event::Reserve, Reply::Slot { .. }) => 1,

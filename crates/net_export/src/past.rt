@@ -1,7 +1,7 @@
 //! The messages that an exporting step answered, as what only clauses see. At run time they are nothing.
 ghost use Rattle.std.specs.Prelude.{◌≡◌, List, [], ◌∷◌, Some, None};
 ghost use Rattle.std.specs.Borrow.{ftrue};
-ghost use Rattle.net_export.specs.Serving.{Past as Answered};
+ghost use Rattle.net_export.specs.Serving.{PastMessage as Answered};
 
 use net_base::{Reply, Tmsg};
 use std::marker::{Model, PhantomData};

@@ -6,9 +6,9 @@ ghost use Rattle.net_base.specs.NinepMessages.{IsTmsg};
 ghost use Rattle.net_base.specs.SessionAnswers.{found_by};
 ghost use Rattle.net_export.specs.Rows.{rising};
 ghost use Rattle.net_export.specs.Serving as spec;
-ghost use Rattle.session_answers.specs.Found.{lines_by};
+ghost use Rattle.session_answers.specs.Found.{found_lines};
 ghost use Rattle.session_answers.specs.Served.{IsServed};
-ghost use Rattle.session_script.specs.Seen.{brings_fid, seen as known};
+ghost use Rattle.session_script.specs.Seen.{brings_fid, seen_table as known};
 
 use crate::dotted::{dotted_fid, dotted_request};
 use crate::open_fids::OpenFids;
@@ -45,8 +45,8 @@ pub struct Serving {
 impl Model for Serving {
     ghost use Rattle.net_export.specs.Rows.{rising};
     ghost use Rattle.net_export.specs.Serving as spec;
-    ghost use Rattle.session_answers.specs.Found.{lines_by};
-    ghost use Rattle.session_script.specs.Seen.{seen as known};
+    ghost use Rattle.session_answers.specs.Found.{found_lines};
+    ghost use Rattle.session_script.specs.Seen.{seen_table as known};
 
     ghost Value = { spec.Serving };
 
@@ -58,7 +58,7 @@ impl Model for Serving {
       answer = s.answer;
     } };
 
-    ghost invariant = { λ s. spec.IsServing s.past.messages s.message (known s.table) (lines_by s.found) };
+    ghost invariant = { λ s. spec.IsServing s.past.messages s.message (known s.table) (found_lines s.found) };
 }
 
 impl Serving {
@@ -86,7 +86,7 @@ impl Serving {
 
     /// Its request, or else the write of its answer to a name.
     pub(crate) fn next(&self, name: &Octets) -> Result<Request, AllocError>
-        ensures { IfOk result (λ q. q ≡ spec.next self.now name.now) }
+        ensures { IfOk result (λ q. q ≡ spec.request_next self.now name.now) }
     {
         match &self.request {
             Some(request) => request.clone(),
@@ -101,7 +101,7 @@ impl Serving {
 
     /// Begins to serve a text.
     pub(crate) fn hear(&mut self, alloc: Global, text: &[u8]) -> Result<(), AllocError>
-        ensures ok { OnOk result (self.new ≡ spec.hears self.old text.now) }
+        ensures ok { OnOk result (self.new ≡ spec.hears_text self.old text.now) }
         ensures err { OnErr result (self.new ≡ self.old) }
     {
         match request_in(alloc, text)? {
@@ -167,7 +167,7 @@ impl Serving {
 
     /// Takes the reply to the event of its request.
     pub(crate) fn told(&mut self, alloc: Global, reply: &Reply) -> Result<(), AllocError>
-        ensures ok { OnOk result (self.new ≡ spec.told self.old reply.now) }
+        ensures ok { OnOk result (self.new ≡ spec.told_serving self.old reply.now) }
         ensures err { OnErr result (self.new ≡ self.old) }
     {
         match next_request(&self.request, reply)? {
@@ -210,7 +210,7 @@ impl Serving {
 
     /// The file that is closed next, where the step ends.
     pub(crate) fn closes(&self, alloc: Global) -> Result<Option<Request>, AllocError>
-        ensures { IfOk result (λ q. q ≡ spec.closes self.now) }
+        ensures { IfOk result (λ q. q ≡ spec.closes_served self.now) }
     {
         match self.opened.least() {
             Some(fid) => Ok(Some(Request::Close {
@@ -222,7 +222,7 @@ impl Serving {
 
     /// Whether all files are closed.
     pub(crate) fn is_closed(&self) -> bool
-        ensures { result ≡ is_none (spec.closes self.now) }
+        ensures { result ≡ is_none (spec.closes_served self.now) }
     {
         self.opened.least().is_none()
     }
@@ -245,9 +245,9 @@ fn keep(
     reply: &Reply,
 ) -> Result<(), AllocError>
     ensures opened { OnOk result (rising opened.new ≡ open_by (rising opened.old) message.now reply.now) }
-    ensures found { OnOk result (lines_by found.new ≡ found_by (known table.now) (lines_by found.old) message.now reply.now) }
+    ensures found { OnOk result (found_lines found.new ≡ found_by (known table.now) (found_lines found.old) message.now reply.now) }
     ensures err_opened { OnErr result (rising opened.new ≡ rising opened.old) }
-    ensures err_found { OnErr result (lines_by found.new ≡ lines_by found.old) }
+    ensures err_found { OnErr result (found_lines found.new ≡ found_lines found.old) }
 {
     match message {
         Tmsg::Open { fid, .. } => keep_open(opened, *fid, reply),
@@ -288,7 +288,7 @@ fn bad_message(alloc: Global) -> Result<Octets, AllocError>
 
 // After a write that is granted a pair the conversation is awaited.
 fn next_request(request: &Option<Request>, reply: &Reply) -> Result<Option<Request>, AllocError>
-    ensures { IfOk result (λ q. q ≡ spec.goes_on request.now reply.now) }
+    ensures { IfOk result (λ q. q ≡ spec.awaits_pair request.now reply.now) }
 {
     match request {
         Some(Request::Write { name, .. }) if is_granted(reply) => Ok(Some(Request::Wait {

@@ -20,15 +20,15 @@ use Rattle.guest_laws.specs.Works.{noted_net}
 use Rattle.net_locks.specs.declared.clock.Advance.{Advance}
 use Rattle.net_locks.specs.declared.clock.Advance.TheVariants as advance
 use Rattle.net_locks.specs.declared.calendar.Calendar.{Calendar}
-use Rattle.net_guests.specs.Deciding.{Decided, Leaves, Moves, net_of}
+use Rattle.net_guests.specs.Deciding.{Decided, LeavesGuest, Moves, visit_net}
 use Rattle.net_locks.specs.declared.visitor.Bearer.{Bearer}
-use Rattle.net_locks.specs.Moving.{Keeps, LeavesMoved, MayGo, MayMove}
-use Rattle.net_locks.specs.Turns.{Stays}
+use Rattle.net_locks.specs.Moving.{KeepsMoving, LeavesMoved, MayGo, MayMove}
+use Rattle.net_locks.specs.Turns.{StaysOwn}
 use Rattle.net_guests.specs.Visits.{IsHosted, IsWith, Visit}
 use Rattle.net_guests.proofs.Operating.{visit}
 use Rattle.net_guests.proofs.Passes.{stays_on}
 
-pub keeps_decided : (ts : Tasks) (w : World) (old new : Visit) (answer : Advance) → Keeps ts w (net_of w old) answer → new ≡ old → Decided ts w old answer new
+pub keeps_decided : (ts : Tasks) (w : World) (old new : Visit) (answer : Advance) → KeepsMoving ts w (visit_net w old) answer → new ≡ old → Decided ts w old answer new
 keeps_decided ts w old new (advance.Moved m) keeps same = absurd keeps
 keeps_decided ts w old new advance.Done keeps same = (keeps, same)
 keeps_decided ts w old new advance.Stopped keeps same = (keeps, same)
@@ -65,7 +65,7 @@ module _ (ts : Tasks) (w : World) (old new : Visit) (clock : caller_of w old.cal
   timely_on advance.Memory d timely = timely_same d timely
 
   -- it stays as it was
-  pub leaves_same : (r : Roster) (answer : Advance) → Decided ts w old answer new → new ≡ old → Leaves ts w r old answer new
+  pub leaves_same : (r : Roster) (answer : Advance) → Decided ts w old answer new → new ≡ old → LeavesGuest ts w r old answer new
   leaves_same r answer d same =
       record {
         caller = ap (λ (v : Visit). v.caller) same;
@@ -79,7 +79,7 @@ module _ (ts : Tasks) (w : World) (old new : Visit) (clock : caller_of w old.cal
   -- or it moved
   pub leaves_moving : (r : Roster) (m : ℕ) → new.caller ≡ old.caller → new.names ≡ old.names
       → ((v : Visit) → IsWith w r v old.sight → (v.caller == old.caller) ≡ false → IsWith w r v new.sight) → Moves ts w old m new
-      → Leaves ts w r old (advance.Moved m) new
+      → LeavesGuest ts w r old (advance.Moved m) new
   leaves_moving r m caller names others moves =
       record {
         caller = caller;
@@ -91,7 +91,7 @@ module _ (ts : Tasks) (w : World) (old new : Visit) (clock : caller_of w old.cal
       }
 
 -- another guest is with the pass still
-still_with : (w : World) (r : Roster) (v : Visit) (p p' : Sight) → IsWith w r v p → IsGuest w r v.caller p' v.owed × Stays w v.caller p p' → IsWith w r v p'
+still_with : (w : World) (r : Roster) (v : Visit) (p p' : Sight) → IsWith w r v p → IsGuest w r v.caller p' v.owed × StaysOwn w v.caller p p' → IsWith w r v p'
 still_with w r v p p' is on = record { guest = on.0; stays = stays_on w r v.caller v.sight p p' is.stays on.1 }
 
 -- By its parts.
@@ -105,25 +105,25 @@ module _ (ts : Tasks) (w : World) (r : Roster) (c now : ℕ) (p q : Sight) (ds :
       ap (λ (s : Sight). visit c now s ds' names) sight ∙ ap (λ (l : List Duty). visit c now p l names) owed
 
   -- what keeps the clock
-  pub leaves_kept : (p' : Sight) → p' ≡ q → (answer : Advance) → Keeps ts w (noted_net w q.seen) answer → Leaves ts w r old answer (visit c now p' ds names)
+  pub leaves_kept : (p' : Sight) → p' ≡ q → (answer : Advance) → KeepsMoving ts w (noted_net w q.seen) answer → LeavesGuest ts w r old answer (visit c now p' ds names)
   leaves_kept p' same answer keeps =
       let still = same_visit p' ds (same ∙ seen) refl in
       leaves_same ts w old (visit c now p' ds names) clock r answer
-      (keeps_decided ts w old (visit c now p' ds names) answer (subst (λ (s : Sight). Keeps ts w (noted_net w s.seen) answer) seen keeps) still) still
+      (keeps_decided ts w old (visit c now p' ds names) answer (subst (λ (s : Sight). KeepsMoving ts w (noted_net w s.seen) answer) seen keeps) still) still
 
   -- no memory
-  pub leaves_none : (p' : Sight) (ds' : List Duty) → p' ≡ q → ds' ≡ ds → Leaves ts w r old advance.Memory (visit c now p' ds' names)
+  pub leaves_none : (p' : Sight) (ds' : List Duty) → p' ≡ q → ds' ≡ ds → LeavesGuest ts w r old advance.Memory (visit c now p' ds' names)
   leaves_none p' ds' same owed =
       let still = same_visit p' ds' (same ∙ seen) owed in
       leaves_same ts w old (visit c now p' ds' names) clock r advance.Memory still still
 
   -- its move
   pub leaves_gone : (p' : Sight) (ds' : List Duty) (m : ℕ) → MayMove ts w c q → LeavesMoved ts w r c now m q ds p' ds' → m ≡ target_by ts w (noted_net w q.seen)
-      → Leaves ts w r old (advance.Moved m) (visit c m p' ds' names)
+      → LeavesGuest ts w r old (advance.Moved m) (visit c m p' ds' names)
   leaves_gone p' ds' m may moved at = at_sight q seen may moved at
     where
       at_sight : (s : Sight) → s ≡ p → MayMove ts w c s → LeavesMoved ts w r c now m s ds p' ds' → m ≡ target_by ts w (noted_net w s.seen)
-          → Leaves ts w r old (advance.Moved m) (visit c m p' ds' names)
+          → LeavesGuest ts w r old (advance.Moved m) (visit c m p' ds' names)
       at_sight s same may_s moved_s at_s =
           let may_p = subst (λ (u : Sight). MayMove ts w c u) same may_s in
           let moved_p = subst (λ (u : Sight). LeavesMoved ts w r c now m u ds p' ds') same moved_s in
@@ -140,10 +140,10 @@ module _ (ts : Tasks) (w : World) (r : Roster) (c now : ℕ) (p q : Sight) (ds :
 
 -- By its bearer, which was looked at first.
 module _ {J : Type 0} (ts : Tasks) (w : World) (r : Roster) (b h : Bearer J) (ds : List Duty) (names : Names) (clock : caller_of w b.caller ≡ IsClock) (same : h ≡ b) where
-  pub halted : (answer : Advance) → Keeps ts w (noted_net w b.pass.seen) answer
-      → Leaves ts w r (visit b.caller b.now b.pass ds names) answer (visit h.caller h.now h.pass ds names)
+  pub halted : (answer : Advance) → KeepsMoving ts w (noted_net w b.pass.seen) answer
+      → LeavesGuest ts w r (visit b.caller b.now b.pass ds names) answer (visit h.caller h.now h.pass ds names)
   halted answer keeps =
-      subst (λ (x : Bearer J). Leaves ts w r (visit b.caller b.now b.pass ds names) answer (visit x.caller x.now x.pass ds names)) (sym same)
+      subst (λ (x : Bearer J). LeavesGuest ts w r (visit b.caller b.now b.pass ds names) answer (visit x.caller x.now x.pass ds names)) (sym same)
       (leaves_kept ts w r b.caller b.now b.pass b.pass ds names clock refl b.pass refl answer keeps)
 
   pub held : (host : ℕ) (t : Marks) (k : Calendar) → IsHosted w r b.caller b.now b.pass ds host t k → IsHosted w r h.caller h.now h.pass ds host t k
@@ -153,22 +153,22 @@ module _ {J : Type 0} (ts : Tasks) (w : World) (r : Roster) (b h : Bearer J) (ds
   held_may may = subst (λ (x : Bearer J). MayMove ts w x.caller x.pass) (sym same) may
 
   module _ (b' : Bearer J) (ds' : List Duty) (caller : b'.caller ≡ h.caller) where
-    by_caller : (answer : Advance) (n : ℕ) → b'.now ≡ n → Leaves ts w r (visit b.caller b.now b.pass ds names) answer (visit b.caller n b'.pass ds' names)
-        → Leaves ts w r (visit b.caller b.now b.pass ds names) answer (visit b'.caller b'.now b'.pass ds' names)
+    by_caller : (answer : Advance) (n : ℕ) → b'.now ≡ n → LeavesGuest ts w r (visit b.caller b.now b.pass ds names) answer (visit b.caller n b'.pass ds' names)
+        → LeavesGuest ts w r (visit b.caller b.now b.pass ds names) answer (visit b'.caller b'.now b'.pass ds' names)
     by_caller answer n at leaves =
-        subst (λ (c : ℕ). Leaves ts w r (visit b.caller b.now b.pass ds names) answer (visit c b'.now b'.pass ds' names))
+        subst (λ (c : ℕ). LeavesGuest ts w r (visit b.caller b.now b.pass ds names) answer (visit c b'.now b'.pass ds' names))
         (sym (caller ∙ ap (λ (x : Bearer J). x.caller) same))
-        (subst (λ (m : ℕ). Leaves ts w r (visit b.caller b.now b.pass ds names) answer (visit b.caller m b'.pass ds' names)) (sym at) leaves)
+        (subst (λ (m : ℕ). LeavesGuest ts w r (visit b.caller b.now b.pass ds names) answer (visit b.caller m b'.pass ds' names)) (sym at) leaves)
 
     pub unmoved : b'.now ≡ h.now → MayGo ts w r h.caller h.now h.pass ds None b'.pass ds'
-        → Leaves ts w r (visit b.caller b.now b.pass ds names) advance.Memory (visit b'.caller b'.now b'.pass ds' names)
+        → LeavesGuest ts w r (visit b.caller b.now b.pass ds names) advance.Memory (visit b'.caller b'.now b'.pass ds' names)
     unmoved now go =
         let still = subst (λ (x : Bearer J). MayGo ts w r x.caller x.now x.pass ds None b'.pass ds') same go in
         by_caller advance.Memory b.now (now ∙ ap (λ (x : Bearer J). x.now) same)
         (leaves_none ts w r b.caller b.now b.pass b.pass ds names clock refl b'.pass ds' still.0 still.1)
 
     pub gone : (m : ℕ) → b'.now ≡ m → MayMove ts w b.caller b.pass → MayGo ts w r h.caller h.now h.pass ds (Some m) b'.pass ds'
-        → Leaves ts w r (visit b.caller b.now b.pass ds names) (advance.Moved m) (visit b'.caller b'.now b'.pass ds' names)
+        → LeavesGuest ts w r (visit b.caller b.now b.pass ds names) (advance.Moved m) (visit b'.caller b'.now b'.pass ds' names)
     gone m now may go =
         let moved = subst (λ (x : Bearer J). MayGo ts w r x.caller x.now x.pass ds (Some m) b'.pass ds') same go in
         by_caller (advance.Moved m) m now (leaves_gone ts w r b.caller b.now b.pass b.pass ds names clock refl b'.pass ds' m may moved.0 moved.1)

@@ -9,7 +9,7 @@ use Rattle.journal.specs.declared.tokens.Sight.{Sight}
 use Rattle.net_base.specs.declared.request.Request.{Request}
 use Rattle.net_base.specs.declared.reply.Reply.{Reply}
 use Rattle.script_task.specs.Holdings.{Holdings}
-use Rattle.script_task.specs.Effects.{effect_of, opened, settles}
+use Rattle.script_task.specs.Effects.{effect_of, opened_file, settles_effect}
 use Rattle.net_base.specs.Requests.{planned, settled}
 use Rattle.net_locks.specs.declared.turn.Turn.{Turn}
 use Rattle.net_locks.specs.declared.turn.Turn.TheVariants as turn
@@ -58,7 +58,7 @@ operated ts w h q c now p p' ds ds' names names' ask turn.Memory free asks takes
     (free, takes.0, same_visit c now p p' ds ds' names names' takes.1 takes.2 called)
 
 -- the effect of a request settles the names of a turn as its reply does
-pub settles_names : ((b : Holdings) (q : Request) (r : Reply) → (settles (effect_of b.names q) (opened (effect_of b.names q) r) b).names ≡ settled b.names q r)
+pub settles_names : ((b : Holdings) (q : Request) (r : Reply) → (settles_effect (effect_of b.names q) (opened_file (effect_of b.names q) r) b).names ≡ settled b.names q r)
     → (b : Holdings) (q : Request) (t : Turn) → (settled_by (effect_of b.names q) t b).names ≡ names_after b.names q t
 settles_names law b q (turn.Recorded stamp answer) = law b q answer
 settles_names law b q turn.NotReady = refl

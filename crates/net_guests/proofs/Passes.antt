@@ -16,22 +16,22 @@ use Rattle.journal.specs.declared.tokens.Sight.{Sight}
 use Rattle.journal.specs.declared.tokens.Volume.{Volume}
 use Rattle.journal.specs.Closing.{IsWhole, plain}
 use Rattle.journal.specs.Rule.{Held}
-use Rattle.journal.specs.Tokens.{Holds, HoldsAll, Met}
+use Rattle.journal.specs.Tokens.{HoldsPass, HoldsAll, Met}
 use Rattle.journal.proofs.Shared.{prefix_trans}
 use Rattle.guest_laws.specs.Guests.{IsGuest, IsOfGuests, StaysGuest}
-use Rattle.guest_laws.specs.Own.{AreNext, AreTimely, AreTurns, IsLegalButScripts, StandsStill}
+use Rattle.guest_laws.specs.Own.{AreNext, AreTimely, AreTurns, IsLegalButScripts, OwnStandsStill}
 use Rattle.guest_laws.specs.Works.{entries, noted_net}
 use Rattle.net_base.specs.Callers.{caller_count}
 use Rattle.net_base.specs.Tasks.{Tasks}
 use Rattle.net_locks.specs.Rosters.{AreReplayed, IsReplayed}
-use Rattle.net_guests.specs.Visits.{Finished, Gathering, Gathers, HasBook, HasGuest, IsWith, Visit}
-use Rattle.net_locks.specs.Turns.{Stays, own}
+use Rattle.net_guests.specs.Visits.{Finished, Gathering, GathersPasses, HasBook, HasGuest, IsWith, Visit}
+use Rattle.net_locks.specs.Turns.{StaysOwn, own_seen}
 use Rattle.net_base.proofs.Shared.{in_front, in_back}
 
 -- Guests that stay.
 
 module _ (w : World) (r : Roster) where
-  stands_on : (c : ℕ) (a b d : List Noted) → StandsStill w c a b → StandsStill w c b d → StandsStill w c a d
+  stands_on : (c : ℕ) (a b d : List Noted) → OwnStandsStill w c a b → OwnStandsStill w c b d → OwnStandsStill w c a d
   stands_on c a b d one two =
       record {
         owes = two.owes ∙ one.owes;
@@ -41,7 +41,7 @@ module _ (w : World) (r : Roster) where
         timely = λ ts t. two.timely ts (one.timely ts t);
       }
 
-  pub stays_on : (c : ℕ) (p q s : Sight) → Stays w c p q → Stays w c q s → Stays w c p s
+  pub stays_on : (c : ℕ) (p q s : Sight) → StaysOwn w c p q → StaysOwn w c q s → StaysOwn w c p s
   stays_on c p q s one two =
       record {
         before = prefix_trans p.seen q.seen s.seen one.before two.before;
@@ -56,8 +56,8 @@ module _ (w : World) (r : Roster) where
         guest = guest;
         stays = record {
           before = subst (λ (q : Sight). IsPrefix v.sight.seen q.seen) (sym is) ([], append-nil v.sight.seen);
-          alone = ap (own v.caller) is;
-          stands = subst (λ (q : Sight). StandsStill w v.caller v.sight.seen q.seen) (sym is)
+          alone = ap (own_seen v.caller) is;
+          stands = subst (λ (q : Sight). OwnStandsStill w v.caller v.sight.seen q.seen) (sym is)
               (record { owes = refl; comes_next = λ ts. refl; turns = λ t. t; nexts = λ ts t. t; timely = λ ts t. t });
         };
       }
@@ -122,7 +122,7 @@ module _ (w : World) (r : Roster) (p : Sight) (vs : List Visit) where
 
 module _ (w : World) (r : Roster) (vs : List Visit) (p' : Sight) where
   -- the last guest's pass took the others in
-  pub all_with : (rest : List Visit) (last : Visit) (p : Sight) → vs ≡ rest ++ last ∷ [] → IsWith w r last p → Gathers w r p rest p' → (v : Visit)
+  pub all_with : (rest : List Visit) (last : Visit) (p : Sight) → vs ≡ rest ++ last ∷ [] → IsWith w r last p → GathersPasses w r p rest p' → (v : Visit)
       → In v vs → IsWith w r v p'
   all_with rest last p is mine g v i = place (last_or v rest last (subst (λ (l : List Visit). In v l) is i))
     where
@@ -134,7 +134,7 @@ module _ (w : World) (r : Roster) (vs : List Visit) (p' : Sight) where
   holds_all all here c lt =
       let v = all c lt in
       let with = here v.0 v.1 in
-      subst (λ (k : ℕ). (es : List (ℕ × Noted)) × Holds p' k es) v.2 (with.guest.list, with.guest.held)
+      subst (λ (k : ℕ). (es : List (ℕ × Noted)) × HoldsPass p' k es) v.2 (with.guest.list, with.guest.held)
 
 -- The end.
 
@@ -150,7 +150,7 @@ module _ (ts : Tasks) (w : World) (r : Roster) (actors : (a : ActorName) → In 
         turns = λ c lt. let v = all c lt in subst (λ (k : ℕ). AreTurns w k p.seen) v.2 (here v.0 v.1).guest.turns;
       }
 
-  lists : (v : Visit) → In v vs → of_caller v.caller h ≡ map plain (own v.caller v.sight)
+  lists : (v : Visit) → In v vs → of_caller v.caller h ≡ map plain (own_seen v.caller v.sight)
   lists v i =
       let with = here v i in
       whole.callers v.caller with.guest.list with.guest.held ∙ ap (map plain) (sym with.guest.all ∙ with.stays.alone)

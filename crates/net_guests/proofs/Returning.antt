@@ -13,7 +13,7 @@ use Rattle.due_moments.specs.Marks.{Covers, Marks}
 use Rattle.guest_laws.specs.Guests.{HandsOver, IsGuest, StaysGuest}
 use Rattle.net_locks.specs.declared.calendar.Calendar.{Calendar}
 use Rattle.net_locks.specs.Knowing.{IsKnown}
-use Rattle.net_locks.specs.Turns.{own}
+use Rattle.net_locks.specs.Turns.{own_seen}
 use Rattle.net_guests.proofs.Handing.{goes_over, moment_here, moment_over, moment_there, stays_here, stays_there}
 use Rattle.net_guests.proofs.Operating.{StaysKnown, visit}
 use Rattle.net_guests.proofs.Passes.{itself}
@@ -87,7 +87,7 @@ module _ (w : World) (r : Roster) (over : Overs w r) (here : Heres w r) (c : ℕ
   -- the guest itself, at the clock's moment
   pub me_visits : StaysKnown w → (v : Visit) → v.caller ≡ c → (ds : List Duty) → v.owed ≡ ds → IsWith w r v s → (now : ℕ) → now ≡ moment_noted s.seen
       → now < 2 ^ 63 → (host : ℕ) (touched forgotten : Marks) (k : Calendar) → ((z : Script) → caller_of w v.caller ≡ IsScript z → z.host ≡ host)
-      → Covers (own v.caller v.sight) touched → ((es : List (ℕ × Noted)) → Covers es touched → Covers es forgotten)
+      → Covers (own_seen v.caller v.sight) touched → ((es : List (ℕ × Noted)) → Covers es touched → Covers es forgotten)
       → IsKnown w v.sight.seen k → IsHosted w r c now p2 ds host forgotten k
   me_visits stays_known v at_c ds owes is now at early host touched forgotten k home covers forgets known =
       let back : IsWith w r v p2 = returned v at_c is in
@@ -97,7 +97,7 @@ module _ (w : World) (r : Roster) (over : Overs w r) (here : Heres w r) (c : ℕ
           guest = back.guest;
           here = at ∙ sym (moment_over w r c s p1 s2 p2 b v.owed (subst (λ (n : ℕ). IsGuest w r n s v.owed) at_c is.guest));
           early = early;
-          covers = forgets (own v.caller p2) (subst (λ (l : List (ℕ × Noted)). Covers l touched) (sym back.stays.alone) covers);
+          covers = forgets (own_seen v.caller p2) (subst (λ (l : List (ℕ × Noted)). Covers l touched) (sym back.stays.alone) covers);
           known = stays_known v.sight.seen p2.seen k back.stays.before known;
         };
         home = home;

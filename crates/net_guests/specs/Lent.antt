@@ -6,7 +6,7 @@ use Rattle.net_base.specs.Callers.{IsScript, caller_of}
 use Rattle.journal.specs.declared.tokens.Sight.{Sight}
 use Rattle.due_moments.specs.Marks.{Covers}
 use Rattle.net_locks.specs.Knowing.{IsKnown}
-use Rattle.net_locks.specs.Turns.{own}
+use Rattle.net_locks.specs.Turns.{own_seen}
 use Rattle.net_guests.specs.Visits.{Carried, Visit}
 
 abbrev pub with_sight : Visit → Sight → Visit
@@ -16,7 +16,7 @@ with_sight v p = record v { sight = p }
 pub record IsAway (w : World) (v : Visit) (b : Carried) : Type 0 where
   pub visit_is : b.visit ≡ with_sight v b.visit.sight
   pub home : (s : Script) → caller_of w v.caller ≡ IsScript s → s.host ≡ b.host
-  pub covers : Covers (own v.caller v.sight) b.touched
+  pub covers : Covers (own_seen v.caller v.sight) b.touched
   pub known : IsKnown w v.sight.seen b.calendar
 
 -- it has its number again, at this moment: the same but for what it has seen

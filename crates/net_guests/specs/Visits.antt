@@ -20,7 +20,7 @@ use Rattle.journal.specs.Closing.{plain}
 use Rattle.script_task.specs.Holdings.{Holdings}
 use Rattle.script_task.specs.declared.effect.Effect.{Effect}
 use Rattle.net_base.specs.declared.request.Request.{Request}
-use Rattle.script_task.specs.Effects.{opened, settles}
+use Rattle.script_task.specs.Effects.{opened_file, settles_effect}
 use Rattle.net_base.specs.Requests.{planned, settled}
 use Rattle.net_base.specs.Tasks.{Tasks}
 use Rattle.guest_laws.specs.Own.{AreNext, AreTimely, IsLegalButScripts}
@@ -32,7 +32,7 @@ use Rattle.net_locks.specs.declared.turn.Turn.TheVariants as turn
 use Rattle.net_locks.specs.Rosters.{IsReplayed}
 use Rattle.net_locks.specs.declared.visitor.Visitor.{Visitor}
 use Rattle.net_locks.specs.Visitors.{IsVisit}
-use Rattle.net_locks.specs.Turns.{HasRoom, IsFull, Stays, Turned, bare, own}
+use Rattle.net_locks.specs.Turns.{HasRoom, IsFull, StaysOwn, Turned, bare, own_seen}
 
 -- a caller, the moment, its pass, what it owes, and the names that it has bound
 pub record Visit : Type 0 where
@@ -68,8 +68,8 @@ IsComplete w r b = IsHosted w r b.visit.caller b.visit.now b.visit.sight b.visit
 -- Turns.
 
 -- a guest's turn with this work at this actor
-abbrev pub Takes : Tasks → World → ActorName → Work → Option ℕ → Visit → Turn → Visit → Type 0
-Takes ts w a work cites old answer new =
+abbrev pub TakesPasses : Tasks → World → ActorName → Work → Option ℕ → Visit → Turn → Visit → Type 0
+TakesPasses ts w a work cites old answer new =
     Turned ts w old.caller old.now a work cites old.sight old.owed answer new.sight new.owed
 
 -- the names after a turn with a request
@@ -79,7 +79,7 @@ names_after names q _ = names
 
 -- the holdings after a turn whose reply has this effect
 abbrev pub settled_by : Effect → Turn → Holdings → Holdings
-settled_by e (turn.Recorded stamp answer) b = settles e (opened e answer) b
+settled_by e (turn.Recorded stamp answer) b = settles_effect e (opened_file e answer) b
 settled_by e _ b = b
 
 -- the turn of a request of a script's host, where nothing is owed
@@ -87,7 +87,7 @@ pub record Asked (ts : Tasks) (w : World) (h : ℕ) (q : Request) (old : Visit) 
   pub free : old.owed ≡ []
   pub ask : Ask
   pub asks : planned h old.names q ≡ Some ask
-  pub takes : Takes ts w ask.actor (bare ask.event) None old answer new
+  pub takes : TakesPasses ts w ask.actor (bare ask.event) None old answer new
   pub names : new.names ≡ names_after old.names q answer
 
 -- what a request of a script's host did
@@ -98,7 +98,7 @@ Operated ts w h q old turn.Memory new = (old.owed ≡ []) × HasRoom old.caller 
 Operated ts w h q old answer new = Asked ts w h q old answer new
 
 -- a guest is who it was before, its pass, duties and names aside
-pub record IsSame (old new : Visit) : Type 0 where
+pub record IsSameVisit (old new : Visit) : Type 0 where
   pub caller : new.caller ≡ old.caller
   pub now : new.now ≡ old.now
 
@@ -110,7 +110,7 @@ HasGuest c vs = (v : Visit) × In v vs × (v.caller ≡ c)
 -- the guest's caller is with the pass, and has recorded nothing more
 pub record IsWith (w : World) (r : Roster) (v : Visit) (p : Sight) : Type 0 where
   pub guest : IsGuest w r v.caller p v.owed
-  pub stays : Stays w v.caller v.sight p
+  pub stays : StaysOwn w v.caller v.sight p
 
 -- the actor's entries in the history are those of its book
 pub record HasBook (w : World) (a : ActorName) (h : List Entry) : Type 0 where
@@ -122,7 +122,7 @@ pub record HasBook (w : World) (a : ActorName) (h : List Entry) : Type 0 where
 -- each actor's are those of its book; and it is legal, but that the entries of scripts are their next events; legal where they are, and timed where each
 -- move comes in time
 pub record Finished (ts : Tasks) (w : World) (vs : List Visit) (h : List Entry) : Type 0 where
-  pub lists : (v : Visit) → In v vs → of_caller v.caller h ≡ map plain (own v.caller v.sight)
+  pub lists : (v : Visit) → In v vs → of_caller v.caller h ≡ map plain (own_seen v.caller v.sight)
   pub owes : (v : Visit) → In v vs → owed w h v.caller ≡ v.owed
   pub books : (a : ActorName) → has_actor w a ≡ true → HasBook w a h
   pub but_scripts : IsLegalButScripts w h
@@ -130,7 +130,7 @@ pub record Finished (ts : Tasks) (w : World) (vs : List Visit) (h : List Entry) 
   pub timed : ((v : Visit) → In v vs → AreTimely ts w v.caller v.sight.seen) → IsTimedBy ts w h
 
 -- the passes of these guests were taken in: who was with the pass is still, and the guests' callers are
-pub record Gathers (w : World) (r : Roster) (p : Sight) (vs : List Visit) (p' : Sight) : Type 0 where
+pub record GathersPasses (w : World) (r : Roster) (p : Sight) (vs : List Visit) (p' : Sight) : Type 0 where
   pub kept : (v : Visit) → IsWith w r v p → IsWith w r v p'
   pub taken : (v : Visit) → In v vs → IsWith w r v p'
 

@@ -8,7 +8,7 @@ ghost use Rattle.net_base.specs.Next.{zone_of};
 ghost use Rattle.net_base.specs.Stamped.{In};
 ghost use Rattle.due_moments.specs.Marks.{Covers};
 ghost use Rattle.net_guests.specs.Visits.{IsComplete, IsFresh, IsWith, Visit};
-ghost use Rattle.net_locks.specs.Turns.{own};
+ghost use Rattle.net_locks.specs.Turns.{own_seen};
 
 use due_moments::Touched;
 use duties::Duties;
@@ -116,7 +116,7 @@ impl<J: Naming + Placing> Bundle<J> {
     /// The conversations at which something was recorded since the clock last moved.
     pub fn touched(&self, alloc: Global) -> Result<Touched, AllocError>
         requires complete { IsComplete J.world J.run.roster self.now }
-        ensures { IfOk result (Covers (own self.entry.now.visit.caller self.entry.now.visit.sight)) }
+        ensures { IfOk result (Covers (own_seen self.entry.now.visit.caller self.entry.now.visit.sight)) }
     {
         self.visitor.touched.copy(alloc)
     }
@@ -152,7 +152,7 @@ impl<J: Naming + Placing> Bundle<J> {
     /// Whether the caller has recorded as much as it may.
     pub fn is_full(&self) -> bool
         requires complete { IsComplete J.world J.run.roster self.now }
-        ensures { result ≡ (length (own self.entry.now.visit.caller self.entry.now.visit.sight) == 131072) }
+        ensures { result ≡ (length (own_seen self.entry.now.visit.caller self.entry.now.visit.sight) == 131072) }
     {
         let bearer = &self.visitor.bearer;
         bearer.pass.room(bearer.caller) == 0

@@ -4,7 +4,7 @@ ghost use Rattle.net_base.specs.Callers.{IsClock, caller_of};
 ghost use Rattle.net_base.specs.World.{IsWorld};
 ghost use Rattle.guest_laws.specs.Guests.{IsOfGuests};
 ghost use Rattle.net_locks.specs.Standings.{AllStand};
-ghost use Rattle.net_guests.specs.Deciding.{Leaves};
+ghost use Rattle.net_guests.specs.Deciding.{LeavesGuest};
 ghost use Rattle.net_guests.specs.Visits.{IsComplete};
 
 use crate::bundle::Bundle;
@@ -31,7 +31,7 @@ impl<J: Naming + Placing> Bundle<J> {
         requires all { AllStand J.tasks J.world J.run.roster self.old.visit.sight standings.now }
         ensures complete { IsComplete J.world J.run.roster self.new }
         ensures guests { IsOfGuests J.world J.run.roster self.old.visit.sight.seen }
-        ensures leaves { Leaves J.tasks J.world J.run.roster self.old.visit result self.new.visit }
+        ensures leaves { LeavesGuest J.tasks J.world J.run.roster self.old.visit result self.new.visit }
     {
         let halt = locks.halt(rt, world, standings, &mut self.visitor.bearer);
         if let Some(answer) = halt {

@@ -1,7 +1,7 @@
 //! How a guest's number goes to the clock's guest while that decides, and comes back.
 ghost use Rattle.std.specs.Prelude.{◌≡◌, ◌==◌, ℕ, List, false};
 ghost use Rattle.net_base.specs.declared.noted.Noted.{Noted};
-ghost use Rattle.journal.specs.Tokens.{Holds};
+ghost use Rattle.journal.specs.Tokens.{HoldsPass};
 ghost use Rattle.guest_laws.specs.Guests.{HandsOver};
 ghost use Rattle.net_guests.specs.Lent.{IsAway, IsBack, with_sight};
 ghost use Rattle.net_guests.specs.Visits.{IsComplete, IsWith, Visit};
@@ -63,7 +63,7 @@ impl<J: Naming + Placing> Bundle<J> {
 
 // A caller's number goes from one pass to another.
 fn hand_over<J: Naming>(journal: &Journal<J>, from: &mut Pass<J>, to: &mut Pass<J>, caller: u32)
-    requires { (es : List (ℕ × Noted)) × Holds from.old caller es }
+    requires { (es : List (ℕ × Noted)) × HoldsPass from.old caller es }
     ensures { HandsOver J.run.roster caller from.old to.old from.new to.new }
 {
     let moved = journal.split_pass(from, caller);

@@ -7,7 +7,7 @@ ghost use Rattle.net_base.specs.Callers.{IsCourier, IsScript, caller_of};
 ghost use Rattle.net_base.specs.Duties.{Duty as AnyDuty};
 ghost use Rattle.script_task.specs.Effects as effects;
 ghost use Rattle.duties.specs.Queue.{work_of_duty};
-ghost use Rattle.net_guests.specs.Visits.{IsComplete, IsSame, Operated, Takes, settled_by};
+ghost use Rattle.net_guests.specs.Visits.{IsComplete, IsSameVisit, Operated, TakesPasses, settled_by};
 ghost use Rattle.net_locks.specs.Turns.{bare};
 
 use crate::bundle::Bundle;
@@ -42,10 +42,10 @@ impl<J: Naming + Placing> Bundle<J> {
         requires complete { IsComplete J.world J.run.roster self.old }
         requires owes { self.old.visit.owed ≢ [] }
         ensures complete { IsComplete J.world J.run.roster self.new }
-        ensures same { IsSame self.old.visit self.new.visit }
+        ensures same { IsSameVisit self.old.visit self.new.visit }
         ensures names { self.new.visit.names ≡ self.old.visit.names }
         ensures turn { (d : AnyDuty) → slice_get self.old.visit.owed 0 ≡ Some d
-            → Takes J.tasks J.world d.actor (work_of_duty d) (Some d.cites) self.old.visit result self.new.visit }
+            → TakesPasses J.tasks J.world d.actor (work_of_duty d) (Some d.cites) self.old.visit result self.new.visit }
     {
         locks.serve(rt, gate, &mut self.visitor)
     }
@@ -61,12 +61,12 @@ impl<J: Naming + Placing> Bundle<J> {
         requires complete { IsComplete J.world J.run.roster self.old }
         requires courier { caller_of J.world self.old.visit.caller ≡ IsCourier medium }
         ensures complete { IsComplete J.world J.run.roster self.new }
-        ensures same { IsSame self.old.visit self.new.visit }
+        ensures same { IsSameVisit self.old.visit self.new.visit }
         ensures names { self.new.visit.names ≡ self.old.visit.names }
         ensures duty { (d : AnyDuty) → slice_get self.old.visit.owed 0 ≡ Some d
-            → Takes J.tasks J.world d.actor (work_of_duty d) (Some d.cites) self.old.visit result self.new.visit }
+            → TakesPasses J.tasks J.world d.actor (work_of_duty d) (Some d.cites) self.old.visit result self.new.visit }
         ensures free { self.old.visit.owed ≡ []
-            → Takes J.tasks J.world (name.Medium medium) (bare event.Take) None self.old.visit result self.new.visit }
+            → TakesPasses J.tasks J.world (name.Medium medium) (bare event.Take) None self.old.visit result self.new.visit }
     {
         turns_are_these();
         if self.owes() {
@@ -89,7 +89,7 @@ impl<J: Naming + Placing> Bundle<J> {
         requires complete { IsComplete J.world J.run.roster self.old }
         requires script { (s : AnyScript) × (caller_of J.world self.old.visit.caller ≡ IsScript s) }
         ensures complete { IsComplete J.world J.run.roster self.new }
-        ensures same { IsSame self.old.visit self.new.visit }
+        ensures same { IsSameVisit self.old.visit self.new.visit }
         ensures turn { (s : AnyScript) → caller_of J.world self.old.visit.caller ≡ IsScript s
             → Operated J.tasks J.world s.host request.now self.old.visit result self.new.visit }
     {
@@ -117,7 +117,7 @@ impl<J: Naming + Placing> Bundle<J> {
         requires complete { IsComplete J.world J.run.roster self.old }
         requires script { (s : AnyScript) × (caller_of J.world self.old.visit.caller ≡ IsScript s) }
         ensures complete { IsComplete J.world J.run.roster self.new }
-        ensures same { IsSame self.old.visit self.new.visit }
+        ensures same { IsSameVisit self.old.visit self.new.visit }
         ensures turn { (s : AnyScript) → caller_of J.world self.old.visit.caller ≡ IsScript s
             → Operated J.tasks J.world s.host request self.old.visit result self.new.visit }
     {
@@ -147,7 +147,7 @@ impl<J: Naming + Placing> Bundle<J> {
 // Room for the name that a reply may bind.
 fn reserve(fids: &mut Names, effect: &Effect) -> Result<(), AllocError>
     ensures names { fids.new.names ≡ fids.old.names }
-    ensures ok { OnOk result (effects.HasRoom effect.now fids.new) }
+    ensures ok { OnOk result (effects.EffectHasRoom effect.now fids.new) }
 {
     match effect {
         Effect::Opens { name, .. } => fids.reserve(name.as_slice()),
@@ -157,7 +157,7 @@ fn reserve(fids: &mut Names, effect: &Effect) -> Result<(), AllocError>
 
 // The names after a turn. There is room for what its reply binds.
 fn settle_turn(fids: &mut Names, effect: Effect, turn: &Turn)
-    requires { effects.HasRoom effect fids.old }
+    requires { effects.EffectHasRoom effect fids.old }
     ensures { fids.new ≡ settled_by effect turn.now fids.old }
 {
     if let Turn::Recorded { reply, .. } = turn {

@@ -10,7 +10,7 @@ use Rattle.std.proofs.lemmas.Option.{none-some, same_Some}
 use Rattle.net_base.specs.declared.left.Left.{Left}
 use Rattle.net_base.specs.declared.left.Remote.{Remote}
 use Rattle.net_base.specs.Remotes.{free_fid, has_fid}
-use Rattle.net_import.specs.Marks.{marked, marks}
+use Rattle.net_import.specs.Marks.{remote_marked, marks}
 
 -- ---- the first without a mark
 
@@ -86,7 +86,7 @@ marked_by rs r call k true false is some =
 marked_by rs r call k false c is some =
     same_marks _ _ 1 k (λ n from. list_any-append _ rs (r ∷ []) ∙ or_none _ _ (rw is refl))
 
-pub marked_more : (rs : List Remote) (r : Remote) (call : List ℕ) (k : ℕ) → marks (rs ++ r ∷ []) call k ≡ marked (marks rs call k) r call
+pub marked_more : (rs : List Remote) (r : Remote) (call : List ℕ) (k : ℕ) → marks (rs ++ r ∷ []) call k ≡ remote_marked (marks rs call k) r call
 marked_more rs r call k = marked_by rs r call k (bytes_eq call r.call) (nat_le 1 r.fid) refl refl
 
 -- no marks are there at first
@@ -96,19 +96,19 @@ none_marked call a (suc k) = ap (λ (bs : List Bool). false ∷ bs) (none_marked
 
 -- ---- a remote file that marks nothing
 
-pub other_call : (taken : List Bool) (r : Remote) (call : List ℕ) → bytes_eq call r.call ≡ false → taken ≡ marked taken r call
+pub other_call : (taken : List Bool) (r : Remote) (call : List ℕ) → bytes_eq call r.call ≡ false → taken ≡ remote_marked taken r call
 other_call taken r call is = rw is refl
 
 zero_by : (taken : List Bool) (i : ℕ) (b c : Bool) → c ≡ false → taken ≡ (if b && c then slice_set taken i true else taken)
 zero_by taken i true c is = rw is refl
 zero_by taken i false c is = refl
 
-pub no_fid : (taken : List Bool) (r : Remote) (call : List ℕ) → r.fid < 1 → taken ≡ marked taken r call
+pub no_fid : (taken : List Bool) (r : Remote) (call : List ℕ) → r.fid < 1 → taken ≡ remote_marked taken r call
 no_fid taken r call none = zero_by taken (r.fid - 1) (bytes_eq call r.call) (nat_le 1 r.fid) (grind (arith, nat_tests, none))
 
 past_by : (taken : List Bool) (i : ℕ) (b : Bool) → length taken ≤ i → taken ≡ (if b then slice_set taken i true else taken)
 past_by taken i true past = sym (set_out taken i true past)
 past_by taken i false past = refl
 
-pub past_all : (taken : List Bool) (r : Remote) (call : List ℕ) → 1 ≤ r.fid → length taken < r.fid → taken ≡ marked taken r call
+pub past_all : (taken : List Bool) (r : Remote) (call : List ℕ) → 1 ≤ r.fid → length taken < r.fid → taken ≡ remote_marked taken r call
 past_all taken r call some past = past_by taken (r.fid - 1) (bytes_eq call r.call && nat_le 1 r.fid) (omega (arith, some, past))

@@ -28,29 +28,29 @@ use Rattle.script_task.specs.Task.{AsksSo, Heads, MovesSo, follow}
 
 -- The beginning.
 
-begins : (h : ℕ) (names : Names) (called : List ℕ) (o : Option Remote) (message : ℕ → Tmsg) → spec.StandsFor h names (spec.sends_by called o message) (sends_by h called names o message)
+begins : (h : ℕ) (names : Names) (called : List ℕ) (o : Option Remote) (message : ℕ → Tmsg) → spec.StandsFor h names (spec.send_errand_by called o message) (sends_by h called names o message)
 begins h names called None message = refl
 begins h names called (Some r) message = refl
 
 pub rread_begins : (h : ℕ) (names : Names) (called : List ℕ) (count : ℕ) (left : Left)
-    → spec.StandsFor h names (spec.reads called count left) (sends_by h called names (remote_of called left) (λ (fid : ℕ). read_message fid count))
+    → spec.StandsFor h names (spec.read_errand called count left) (sends_by h called names (remote_of called left) (λ (fid : ℕ). read_message fid count))
 rread_begins h names called count left = begins h names called (remote_of called left) (λ (fid : ℕ). read_message fid count)
 
 pub rwrite_begins : (h : ℕ) (names : Names) (called text : List ℕ) (left : Left) → nat_le (length text) longest_text ≡ true
-    → spec.StandsFor h names (spec.writes called text left) (rwrite_play h left called text names)
+    → spec.StandsFor h names (spec.write_errand called text left) (rwrite_play h left called text names)
 rwrite_begins h names called text left short = rw short (begins h names called (remote_of called left) (λ (fid : ℕ). write_message fid text))
 
 pub rclose_begins : (h : ℕ) (names : Names) (called : List ℕ) (left : Left)
-    → spec.StandsFor h names (spec.closes called left) (sends_by h called names (remote_of called left) clunk_message)
+    → spec.StandsFor h names (spec.close_errand called left) (sends_by h called names (remote_of called left) clunk_message)
 rclose_begins h names called left = begins h names called (remote_of called left) clunk_message
 
-pub rread_fresh : (t : Errand) (called : List ℕ) (count : ℕ) (left : Left) → t ≡ spec.reads called count left → spec.Begins t left (step.Rread called count)
+pub rread_fresh : (t : Errand) (called : List ℕ) (count : ℕ) (left : Left) → t ≡ spec.read_errand called count left → spec.Begins t left (step.Rread called count)
 rread_fresh t called count left is h names = rw is (rread_begins h names called count left)
 
-pub rwrite_fresh : (t : Errand) (called text : List ℕ) (left : Left) → length text ≤ 488 → t ≡ spec.writes called text left → spec.Begins t left (step.Rwrite called text)
+pub rwrite_fresh : (t : Errand) (called text : List ℕ) (left : Left) → length text ≤ 488 → t ≡ spec.write_errand called text left → spec.Begins t left (step.Rwrite called text)
 rwrite_fresh t called text left short is h names = rw is (rwrite_begins h names called text left (grind (arith, nat_tests, short)))
 
-pub rclose_fresh : (t : Errand) (called : List ℕ) (left : Left) → t ≡ spec.closes called left → spec.Begins t left (step.Rclose called)
+pub rclose_fresh : (t : Errand) (called : List ℕ) (left : Left) → t ≡ spec.close_errand called left → spec.Begins t left (step.Rclose called)
 rclose_fresh t called left is h names = rw is (rclose_begins h names called left)
 
 -- Requests and replies.

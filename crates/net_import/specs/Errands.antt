@@ -13,7 +13,7 @@ use Rattle.net_base.specs.Steps.{Names, Play, Ends, uses}
 use Rattle.net_import.specs.declared.errand.Errand.{Errand}
 use Rattle.net_import.specs.declared.errand.Errand.TheVariants as errand
 use Rattle.net_import.specs.declared.errand.Rclose.{Rclose}
-use Rattle.net_import.specs.Standings.{Talks}
+use Rattle.net_import.specs.Standings.{TalksFor}
 use Rattle.net_import.specs.Talks as talk
 use Rattle.net_base.specs.declared.request.Request.{Request}
 use Rattle.net_base.specs.declared.request.Request.TheVariants as request
@@ -23,21 +23,21 @@ use Rattle.net_base.specs.declared.request.Request.TheVariants as request
 abbrev pub unbound : List ℕ → Errand
 unbound called = errand.Unbound called false
 
-abbrev pub sends : Remote → List ℕ → Errand
-sends r message = errand.Talks (talk.begun r.call message)
+abbrev pub send_errand : Remote → List ℕ → Errand
+send_errand r message = errand.Talks (talk.begun r.call message)
 
-abbrev pub sends_by : List ℕ → Option Remote → (ℕ → Tmsg) → Errand
-sends_by called None message = unbound called
-sends_by called (Some r) message = sends r (t_bytes (message r.fid))
+abbrev pub send_errand_by : List ℕ → Option Remote → (ℕ → Tmsg) → Errand
+send_errand_by called None message = unbound called
+send_errand_by called (Some r) message = send_errand r (t_bytes (message r.fid))
 
-abbrev pub reads : List ℕ → ℕ → Left → Errand
-reads called count left = sends_by called (remote_of called left) (λ (fid : ℕ). read_message fid count)
+abbrev pub read_errand : List ℕ → ℕ → Left → Errand
+read_errand called count left = send_errand_by called (remote_of called left) (λ (fid : ℕ). read_message fid count)
 
-abbrev pub writes : List ℕ → List ℕ → Left → Errand
-writes called text left = sends_by called (remote_of called left) (λ (fid : ℕ). write_message fid text)
+abbrev pub write_errand : List ℕ → List ℕ → Left → Errand
+write_errand called text left = send_errand_by called (remote_of called left) (λ (fid : ℕ). write_message fid text)
 
-abbrev pub closes : List ℕ → Left → Errand
-closes called left = sends_by called (remote_of called left) clunk_message
+abbrev pub close_errand : List ℕ → Left → Errand
+close_errand called left = send_errand_by called (remote_of called left) clunk_message
 
 -- ---- requests and replies
 
@@ -59,7 +59,7 @@ leaves t left = without_remote t.name left
 abbrev pub StandsFor : ℕ → Names → Errand → Play → Type 0
 StandsFor h names (errand.Unbound called false) p = p ≡ uses h called names
 StandsFor h names (errand.Unbound called true) p = p ≡ Ends names
-StandsFor h names (errand.Talks t) p = Talks h names t (Ends names) (λ (text : List ℕ). Ends names) p
+StandsFor h names (errand.Talks t) p = TalksFor h names t (Ends names) (λ (text : List ℕ). Ends names) p
 
 -- on every host, where this is left, it stands for the step's play
 abbrev pub Begins : Errand → Left → Step → Type 0

@@ -12,7 +12,7 @@ use Rattle.net_import.specs.declared.talk.Talk.{Talk}
 use Rattle.net_import.specs.declared.talk.TalkPhase.{TalkPhase}
 use Rattle.net_import.specs.declared.talk.TalkPhase.TheVariants as phase
 use Rattle.net_import.specs.Importing as spec
-use Rattle.net_import.specs.Importing.{follows}
+use Rattle.net_import.specs.Importing.{follows_message}
 use Rattle.net_import.specs.Standings.{TalksBy}
 use Rattle.net_import.specs.TalkLaws.{follows_read, heads, moves_write, names_stay}
 use Rattle.net_import.specs.Talks as talk
@@ -31,11 +31,11 @@ pub made : (t : Talk) (call message called : List ℕ) → t ≡ talk.begun call
 made t call message called is same bytes = ap (λ (u : Talk). import_of u) is ∙ ap (λ (c : List ℕ). import_of (talk.begun c message)) same ∙ ap (λ (m : List ℕ). import_of (talk.begun called m)) bytes
 
 pub asks_so : AsksSo Import spec.asks spec.StandsFor
-asks_so h names t p stands = heads h names t.talk.call t.talk.message (follows (own_of h t.talk.call names) names t.attaches) t.talk.phase p stands
+asks_so h names t p stands = heads h names t.talk.call t.talk.message (follows_message (own_of h t.talk.call names) names t.attaches) t.talk.phase p stands
 
 -- what a text is followed by
 by_reply : (h : ℕ) (names : Names) (call message text : List ℕ)
-    → spec.StandsFor h names (if is_version text then spec.attaching call else spec.over call message false) (by_text text (Ends names) (follows (own_of h call names) names false))
+    → spec.StandsFor h names (if is_version text then spec.attaching call else spec.over call message false) (by_text text (Ends names) (follows_message (own_of h call names) names false))
 by_reply h names call message [] = refl
 by_reply h names call message (b ∷ bs) = by (is_version (b ∷ bs))
   where
@@ -44,7 +44,7 @@ by_reply h names call message (b ∷ bs) = by (is_version (b ∷ bs))
     by true = refl
     by false = refl
 
-last_reply : (h : ℕ) (names : Names) (call message text : List ℕ) → spec.StandsFor h names (spec.over call message true) (by_text text (Ends names) (follows (own_of h call names) names true))
+last_reply : (h : ℕ) (names : Names) (call message text : List ℕ) → spec.StandsFor h names (spec.over call message true) (by_text text (Ends names) (follows_message (own_of h call names) names true))
 last_reply h names call message [] = refl
 last_reply h names call message (b ∷ bs) = refl
 
@@ -52,16 +52,16 @@ abbrev at : List ℕ → List ℕ → Bool → TalkPhase → Import
 at call message attaches ph = record { talk = record { call = call; message = message; phase = ph }; attaches = attaches }
 
 moves : (h : ℕ) (names : Names) (call message : List ℕ) (attaches : Bool) (ph : TalkPhase) (p : Play) (q : Request) (r : Reply)
-    → TalksBy (own_of h call names) message (Ends names) (follows (own_of h call names) names attaches) ph p → talk.asks_by ph call message ≡ Some q
+    → TalksBy (own_of h call names) message (Ends names) (follows_message (own_of h call names) names attaches) ph p → talk.asks_by ph call message ≡ Some q
     → spec.StandsFor h names (spec.after (at call message attaches ph) r) (follow p r)
-moves h names call message true phase.Write p q r is asked = moves_write (own_of h call names) message (Ends names) p (follows (own_of h call names) names true) r is
-moves h names call message false phase.Write p q r is asked = moves_write (own_of h call names) message (Ends names) p (follows (own_of h call names) names false) r is
+moves h names call message true phase.Write p q r is asked = moves_write (own_of h call names) message (Ends names) p (follows_message (own_of h call names) names true) r is
+moves h names call message false phase.Write p q r is asked = moves_write (own_of h call names) message (Ends names) p (follows_message (own_of h call names) names false) r is
 moves h names call message true phase.Read p q r is asked =
     subst (λ (x : Play). spec.StandsFor h names (spec.over call message true) x)
-    (sym (follows_read (own_of h call names) message (Ends names) p (follows (own_of h call names) names true) r is)) (last_reply h names call message (bytes_in r))
+    (sym (follows_read (own_of h call names) message (Ends names) p (follows_message (own_of h call names) names true) r is)) (last_reply h names call message (bytes_in r))
 moves h names call message false phase.Read p q r is asked =
     subst (λ (x : Play). spec.StandsFor h names (spec.after (at call message false phase.Read) r) x)
-    (sym (follows_read (own_of h call names) message (Ends names) p (follows (own_of h call names) names false) r is)) (by_reply h names call message (bytes_in r))
+    (sym (follows_read (own_of h call names) message (Ends names) p (follows_message (own_of h call names) names false) r is)) (by_reply h names call message (bytes_in r))
 moves h names call message attaches phase.Over p q r is asked = absurd (none-some q asked)
 
 pub moves_so : MovesSo Import spec.asks spec.after spec.StandsFor

@@ -9,7 +9,7 @@ use Rattle.net_base.specs.Scripts.{Kept, step_play}
 use Rattle.net_base.specs.Steps.{Names, bytes_in, Play, Ends}
 use Rattle.net_import.specs.declared.import.Import.{Import}
 use Rattle.net_import.specs.declared.talk.TalkPhase.TheVariants as phase
-use Rattle.net_import.specs.Standings.{Talks}
+use Rattle.net_import.specs.Standings.{TalksFor}
 use Rattle.net_import.specs.Talks as talk
 use Rattle.net_base.specs.declared.request.Request.{Request}
 
@@ -38,12 +38,12 @@ abbrev pub over : List ℕ → List ℕ → Bool → Import
 over call message attaches = record { talk = record { call = call; message = message; phase = phase.Over }; attaches = attaches }
 
 -- what follows the message that is sent
-abbrev pub follows : Own → Names → Bool → List ℕ → Play
-follows own names false text = if is_version text then sends_once own attach_message (Ends names) else Ends names
-follows own names true text = Ends names
+abbrev pub follows_message : Own → Names → Bool → List ℕ → Play
+follows_message own names false text = if is_version text then sends_once own attach_message (Ends names) else Ends names
+follows_message own names true text = Ends names
 
 abbrev pub StandsFor : ℕ → Names → Import → Play → Type 0
-StandsFor h names t p = Talks h names t.talk (Ends names) (follows (own_of h t.talk.call names) names t.attaches) p
+StandsFor h names t p = TalksFor h names t.talk (Ends names) (follows_message (own_of h t.talk.call names) names t.attaches) p
 
 -- on every host, whatever is kept, it stands for the step's play
 abbrev pub Begins : Import → Step → Type 0

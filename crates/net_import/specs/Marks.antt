@@ -12,5 +12,5 @@ abbrev pub marks : List Remote → List ℕ → ℕ → List Bool
 marks rs call k = map (λ (n : ℕ). list_any (λ (r : Remote). bytes_eq call r.call && (r.fid == n)) rs) (range_with_len 1 k)
 
 -- these with that of a remote file, if it is the call's
-abbrev pub marked : List Bool → Remote → List ℕ → List Bool
-marked taken r call = if bytes_eq call r.call && nat_le 1 r.fid then slice_set taken (r.fid - 1) true else taken
+abbrev pub remote_marked : List Bool → Remote → List ℕ → List Bool
+remote_marked taken r call = if bytes_eq call r.call && nat_le 1 r.fid then slice_set taken (r.fid - 1) true else taken

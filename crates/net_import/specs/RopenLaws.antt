@@ -19,8 +19,8 @@ use Rattle.net_import.specs.declared.ropen.RopenStage.TheVariants as stage
 use Rattle.net_import.specs.declared.talk.TalkPhase.{TalkPhase}
 use Rattle.net_import.specs.declared.talk.TalkPhase.TheVariants as phase
 use Rattle.net_import.specs.Ropening as spec
-use Rattle.net_import.specs.Ropening.{follows}
-use Rattle.net_import.specs.Standings.{TalksBy, reading}
+use Rattle.net_import.specs.Ropening.{follows_stage}
+use Rattle.net_import.specs.Standings.{TalksBy, reply_reading}
 use Rattle.net_import.specs.TalkLaws.{follows_read, heads, names_stay}
 use Rattle.net_import.specs.Talks as talk
 use Rattle.net_base.specs.declared.request.Request.{Request}
@@ -66,19 +66,19 @@ module _ (h : ℕ) (names : Names) (name path : List ℕ) (m : Mode) (fid : ℕ)
   at st message ph = record { name = name; path = path; mode = m; fid = fid; is_taken = is_taken; stage = st; talk = record { call = call; message = message; phase = ph } }
 
   abbrev Talking : List ℕ → RopenStage → TalkPhase → Play → Type 0
-  Talking message st ph p = TalksBy own message (Ends names) (follows own names fid m path st) ph p
+  Talking message st ph p = TalksBy own message (Ends names) (follows_stage own names fid m path st) ph p
 
   talk_heads : (message : List ℕ) (st : RopenStage) (ph : TalkPhase) (p : Play) → Talking message st ph p → Heads h names (spec.asks_by (talk.asks_by ph call message) false name) p
-  talk_heads message st phase.Write p is = heads h names call message (follows own names fid m path st) phase.Write p is
-  talk_heads message st phase.Read p is = heads h names call message (follows own names fid m path st) phase.Read p is
+  talk_heads message st phase.Write p is = heads h names call message (follows_stage own names fid m path st) phase.Write p is
+  talk_heads message st phase.Read p is = heads h names call message (follows_stage own names fid m path st) phase.Read p is
   talk_heads message st phase.Over p is = is
 
   first_heads : (message : List ℕ) (b : Bool) (p : Play) → spec.StandsBy h names (at stage.Walk message phase.Write) b p → Heads h names (spec.asks_by (Some (request.Write call message)) b name) p
   first_heads message true p is = subst (λ (x : Play). Heads h names (Some (request.Unbound name)) x) (sym is) (_, refl, refl)
-  first_heads message false p is = heads h names call message (follows own names fid m path stage.Walk) phase.Write p is
+  first_heads message false p is = heads h names call message (follows_stage own names fid m path stage.Walk) phase.Write p is
 
   at_heads : (message : List ℕ) (st : RopenStage) (ph : TalkPhase) (p : Play) → spec.StandsFor h names (at st message ph) p → Heads h names (spec.asks (at st message ph) names) p
-  at_heads message stage.Walk phase.Write p is = first_heads message (spec.is_taken (at stage.Walk message phase.Write) names) p is
+  at_heads message stage.Walk phase.Write p is = first_heads message (spec.is_name_taken (at stage.Walk message phase.Write) names) p is
   at_heads message stage.Walk phase.Read p is = talk_heads message stage.Walk phase.Read p is
   at_heads message stage.Walk phase.Over p is = is
   at_heads message stage.Open ph p is = talk_heads message stage.Open ph p is
@@ -95,7 +95,7 @@ module _ (h : ℕ) (names : Names) (name path : List ℕ) (m : Mode) (fid : ℕ)
   write_moves message st p r is = subst (λ (x : Play). spec.StandsFor h names (written st message r) (follow x r)) (sym is) (by st (is_accepted r))
     where
       by : (s : RopenStage) (b : Bool)
-          → spec.StandsFor h names (at s message (if b then phase.Read else phase.Over)) (if b then reading own (Ends names) (follows own names fid m path s) else Ends names)
+          → spec.StandsFor h names (at s message (if b then phase.Read else phase.Over)) (if b then reply_reading own (Ends names) (follows_stage own names fid m path s) else Ends names)
       by stage.Walk true = refl
       by stage.Walk false = refl
       by stage.Open true = refl
@@ -113,7 +113,7 @@ module _ (h : ℕ) (names : Names) (name path : List ℕ) (m : Mode) (fid : ℕ)
         talk = spec.talks_on (at st message phase.Read) st (by_text text st (λ (u : List ℕ). spec.stage_by st path u)) r;
       }
 
-  read_moves : (message : List ℕ) (st : RopenStage) (text : List ℕ) (r : Reply) → spec.StandsFor h names (heard st message text r) (by_text text (Ends names) (follows own names fid m path st))
+  read_moves : (message : List ℕ) (st : RopenStage) (text : List ℕ) (r : Reply) → spec.StandsFor h names (heard st message text r) (by_text text (Ends names) (follows_stage own names fid m path st))
   read_moves message stage.Walk [] r = refl
   read_moves message stage.Open [] r = refl
   read_moves message stage.Clunk [] r = refl
@@ -151,11 +151,11 @@ module _ (h : ℕ) (names : Names) (name path : List ℕ) (m : Mode) (fid : ℕ)
 
   text_moves : (message : List ℕ) (st : RopenStage) (p : Play) (r : Reply) → Talking message st phase.Read p → spec.StandsFor h names (heard st message (bytes_in r) r) (follow p r)
   text_moves message st p r is =
-      subst (λ (x : Play). spec.StandsFor h names (heard st message (bytes_in r) r) x) (sym (follows_read own message (Ends names) p (follows own names fid m path st) r is)) (read_moves message st (bytes_in r) r)
+      subst (λ (x : Play). spec.StandsFor h names (heard st message (bytes_in r) r) x) (sym (follows_read own message (Ends names) p (follows_stage own names fid m path st) r is)) (read_moves message st (bytes_in r) r)
 
   at_moves : (message : List ℕ) (st : RopenStage) (ph : TalkPhase) (p : Play) (q : Request) (r : Reply) → spec.StandsFor h names (at st message ph) p
       → spec.asks (at st message ph) names ≡ Some q → fits_play p r ≡ true → spec.StandsFor h names (spec.after (at st message ph) r) (follow p r)
-  at_moves message stage.Walk phase.Write p q r is asked fit = first_moves message (spec.is_taken (at stage.Walk message phase.Write) names) p r is fit
+  at_moves message stage.Walk phase.Write p q r is asked fit = first_moves message (spec.is_name_taken (at stage.Walk message phase.Write) names) p r is fit
   at_moves message stage.Open phase.Write p q r is asked fit = write_moves message stage.Open p r is
   at_moves message stage.Clunk phase.Write p q r is asked fit = write_moves message stage.Clunk p r is
   at_moves message stage.Opened phase.Write p q r is asked fit = write_moves message stage.Opened p r is
@@ -180,7 +180,7 @@ asks_so h names t p stands = at_heads h names t.name t.path t.mode t.fid t.is_ta
 pub moves_so : MovesSo Ropen spec.asks spec.after spec.StandsFor
 moves_so h names t p q r stands asked fit =
     subst (λ (ns : Names). spec.StandsFor h ns (spec.after t r) (follow p r))
-    (sym (at_stay h names t.name t.path t.mode t.fid t.is_taken t.talk.call (talk.asks t.talk) (spec.is_beginning t && spec.is_taken t names) q r
+    (sym (at_stay h names t.name t.path t.mode t.fid t.is_taken t.talk.call (talk.asks t.talk) (spec.is_beginning t && spec.is_name_taken t names) q r
     (λ x is. names_stay t.talk.phase t.talk.call t.talk.message names x r is) asked))
     (at_moves h names t.name t.path t.mode t.fid t.is_taken t.talk.call t.talk.message t.stage t.talk.phase p q r stands asked fit)
 

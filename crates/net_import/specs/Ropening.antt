@@ -14,7 +14,7 @@ use Rattle.net_import.specs.declared.ropen.Ropen.{Ropen}
 use Rattle.net_import.specs.declared.ropen.RopenStage.{RopenStage}
 use Rattle.net_import.specs.declared.ropen.RopenStage.TheVariants as stage
 use Rattle.net_import.specs.declared.talk.Talk.{Talk}
-use Rattle.net_import.specs.Standings.{Talks}
+use Rattle.net_import.specs.Standings.{TalksFor}
 use Rattle.net_import.specs.Talks as talk
 use Rattle.net_base.specs.declared.request.Request.{Request}
 use Rattle.net_base.specs.declared.request.Request.TheVariants as request
@@ -41,15 +41,15 @@ abbrev pub is_beginning : Ropen → Bool
 is_beginning t = is_walk t.stage && talk.is_writing t.talk.phase
 
 -- the name is bound, be it to a remote file; a call that isn't bound is asked for before
-abbrev pub is_taken : Ropen → Names → Bool
-is_taken t names = t.is_taken || (is_bound names t.talk.call && is_bound names t.name)
+abbrev pub is_name_taken : Ropen → Names → Bool
+is_name_taken t names = t.is_taken || (is_bound names t.talk.call && is_bound names t.name)
 
 abbrev pub asks_by : Option Request → Bool → List ℕ → Option Request
 asks_by None taken called = None
 asks_by (Some q) taken called = if taken then Some (request.Unbound called) else Some q
 
 abbrev pub asks : Ropen → Names → Option Request
-asks t names = asks_by (talk.asks t.talk) (is_beginning t && is_taken t names) t.name
+asks t names = asks_by (talk.asks t.talk) (is_beginning t && is_name_taken t names) t.name
 
 -- ---- replies
 
@@ -70,7 +70,7 @@ message_by fid m stage.Open stage.Clunk = Some (t_bytes (clunk_message fid))
 message_by fid m _ _ = None
 
 abbrev pub talks_on : Ropen → RopenStage → RopenStage → Reply → Talk
-talks_on t before s r = talk.moves t.talk (message_by t.fid t.mode before s) r
+talks_on t before s r = talk.moves_talk t.talk (message_by t.fid t.mode before s) r
 
 abbrev pub after : Ropen → Reply → Ropen
 after t r = record t { stage = stage_after t r; talk = talks_on t t.stage (stage_after t r) r }
@@ -86,19 +86,19 @@ leaves t left = leaves_by t.stage t left
 -- ---- the play that it stands for
 
 -- what follows the message of a stage
-abbrev pub follows : Own → Names → ℕ → Mode → List ℕ → RopenStage → List ℕ → Play
-follows own names fid m path stage.Walk text =
+abbrev pub follows_stage : Own → Names → ℕ → Mode → List ℕ → RopenStage → List ℕ → Play
+follows_stage own names fid m path stage.Walk text =
     if is_whole path text then sends_for own (open_message fid m) is_open (Ends names) (sends_once own (clunk_message fid) (Ends names)) (Ends names) else Ends names
-follows own names fid m path stage.Open text = if is_open text then Ends names else sends_once own (clunk_message fid) (Ends names)
-follows own names fid m path _ text = Ends names
+follows_stage own names fid m path stage.Open text = if is_open text then Ends names else sends_once own (clunk_message fid) (Ends names)
+follows_stage own names fid m path _ text = Ends names
 
 -- at first the name is free, or is asked for
 abbrev pub StandsBy : ℕ → Names → Ropen → Bool → Play → Type 0
 StandsBy h names t true p = p ≡ uses h t.name names
-StandsBy h names t false p = Talks h names t.talk (Ends names) (follows (own_of h t.talk.call names) names t.fid t.mode t.path t.stage) p
+StandsBy h names t false p = TalksFor h names t.talk (Ends names) (follows_stage (own_of h t.talk.call names) names t.fid t.mode t.path t.stage) p
 
 abbrev pub StandsFor : ℕ → Names → Ropen → Play → Type 0
-StandsFor h names t p = StandsBy h names t (is_beginning t && is_taken t names) p
+StandsFor h names t p = StandsBy h names t (is_beginning t && is_name_taken t names) p
 
 -- on every host, where this is left, it stands for the step's play
 abbrev pub Begins : Ropen → Left → Step → Type 0

@@ -6,7 +6,7 @@ use Rattle.net_base.specs.Exports.{Own, by_text, own_of}
 use Rattle.net_base.specs.Steps.{Names, bytes_in, Play, Ends, is_accepted}
 use Rattle.net_import.specs.declared.talk.TalkPhase.{TalkPhase}
 use Rattle.net_import.specs.declared.talk.TalkPhase.TheVariants as phase
-use Rattle.net_import.specs.Standings.{TalksBy, reading}
+use Rattle.net_import.specs.Standings.{TalksBy, reply_reading}
 use Rattle.net_import.specs.Talks as talk
 use Rattle.script_task.proofs.Shared.{read_is, write_is}
 use Rattle.net_base.specs.declared.request.Request.{Request}
@@ -35,7 +35,7 @@ pub moves_write : (own : Own) (message : List ℕ) (refused p : Play) (next : Li
 moves_write own message refused p next r is =
     subst (λ (x : Play). TalksBy own message refused next (talk.phase_after phase.Write r) (follow x r)) (sym is) (by (is_accepted r))
   where
-    by : (b : Bool) → TalksBy own message refused next (if b then phase.Read else phase.Over) (if b then reading own refused next else refused)
+    by : (b : Bool) → TalksBy own message refused next (if b then phase.Read else phase.Over) (if b then reply_reading own refused next else refused)
     by true = refl
     by false = refl
 

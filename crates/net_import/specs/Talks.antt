@@ -37,6 +37,6 @@ abbrev pub after : Talk → Reply → Talk
 after t r = record t { phase = phase_after t.phase r }
 
 -- after a reply, where another message follows it or none
-abbrev pub moves : Talk → Option (List ℕ) → Reply → Talk
-moves t (Some message) r = begun t.call message
-moves t None r = after t r
+abbrev pub moves_talk : Talk → Option (List ℕ) → Reply → Talk
+moves_talk t (Some message) r = begun t.call message
+moves_talk t None r = after t r

@@ -44,7 +44,7 @@ impl Errand {
 
     // The message goes out over the call of a remote file.
     fn sends(remote: &Remote, message: Octets) -> Result<Errand, AllocError>
-        ensures { IfOk result (λ e. e ≡ spec.sends remote.now message) }
+        ensures { IfOk result (λ e. e ≡ spec.send_errand remote.now message) }
     {
         Ok(Errand::Talks(Talk::new(remote.call.clone()?, message)))
     }
@@ -52,7 +52,7 @@ impl Errand {
     /// Reads so many bytes of the file, where this is left by earlier steps.
     #[tactic(auto, using(crate::specs::ErrandLaws::rread_fresh))]
     pub fn read(alloc: Global, name: &[u8], count: u32, left: &Left) -> Result<Errand, AllocError>
-        ensures value { IfOk result (λ t. t ≡ spec.reads name.now count left.now) }
+        ensures value { IfOk result (λ t. t ≡ spec.read_errand name.now count left.now) }
         ensures stands { IfOk result (λ t. spec.Begins t left.now (step.Rread name.now count)) }
     {
         let errand = match remote_of(left, name) {
@@ -66,7 +66,7 @@ impl Errand {
     #[tactic(auto, using(crate::specs::ErrandLaws::rwrite_fresh))]
     pub fn write(alloc: Global, name: &[u8], text: &[u8], left: &Left) -> Result<Errand, AllocError>
         requires short { length text.now ≤ 488 }
-        ensures value { IfOk result (λ t. t ≡ spec.writes name.now text.now left.now) }
+        ensures value { IfOk result (λ t. t ≡ spec.write_errand name.now text.now left.now) }
         ensures stands { IfOk result (λ t. spec.Begins t left.now (step.Rwrite name.now text.now)) }
     {
         let errand = match remote_of(left, name) {
@@ -78,7 +78,7 @@ impl Errand {
 
     // Closes the file.
     fn close(alloc: Global, name: &[u8], left: &Left) -> Result<Errand, AllocError>
-        ensures { IfOk result (λ t. t ≡ spec.closes name.now left.now) }
+        ensures { IfOk result (λ t. t ≡ spec.close_errand name.now left.now) }
     {
         let errand = match remote_of(left, name) {
             None => Errand::unbound(alloc, name)?,
@@ -152,7 +152,7 @@ impl Rclose {
     /// Closes the file, where this is left by earlier steps.
     #[tactic(auto, using(crate::specs::ErrandLaws::rclose_fresh))]
     pub fn new(alloc: Global, name: &[u8], left: &Left) -> Result<Rclose, AllocError>
-        ensures value { IfOk result (λ t. t ≡ record { name = name.now; errand = spec.closes name.now left.now }) }
+        ensures value { IfOk result (λ t. t ≡ record { name = name.now; errand = spec.close_errand name.now left.now }) }
         ensures stands { IfOk result (λ t. spec.Begins t.errand left.now (step.Rclose name.now)) }
     {
         let errand = Errand::close(alloc, name, left)?;

@@ -1,7 +1,7 @@
 //! What is left of calls: remote names and their fids.
 ghost use Rattle.std.specs.Prelude.{◌≡◌, ◌+◌, IfOk, bytes_eq, length, not, option_copied, position};
 ghost use Rattle.net_base.specs.Remotes as spec;
-ghost use Rattle.net_import.specs.Marks.{marked, marks};
+ghost use Rattle.net_import.specs.Marks.{remote_marked, marks};
 
 use net_base::{Left, Remote};
 use std::alloc::{AllocError, Global};
@@ -52,7 +52,7 @@ fn taken_fids(alloc: Global, remotes: &[Remote], call: &[u8]) -> Result<Vec<bool
 
 // Marks the fid of a remote file of the call.
 fn mark(taken: &mut Vec<bool>, remote: &Remote, call: &[u8])
-    ensures { taken.new.items ≡ marked taken.old.items remote.now call.now }
+    ensures { taken.new.items ≡ remote_marked taken.old.items remote.now call.now }
 {
     if call == remote.call.as_slice() && 1 <= remote.fid && remote.fid as usize <= taken.len() {
         taken[remote.fid as usize - 1] = true;

@@ -103,7 +103,7 @@ impl Ropen {
 
     // Whether the name is bound, be it to a remote file. A call that isn't bound is asked for before.
     fn is_bound(&self, fids: &Names) -> bool
-        ensures { result ≡ spec.is_taken self.now fids.now.names }
+        ensures { result ≡ spec.is_name_taken self.now fids.now.names }
     {
         self.is_taken
             || fids.is_bound(self.talk.call.as_slice()) && fids.is_bound(self.name.as_slice())

@@ -107,7 +107,7 @@ impl Talk {
 
     /// Takes a reply, which another message follows or none.
     pub(crate) fn moves(&mut self, message: Option<Octets>, reply: &Reply)
-        ensures { self.new ≡ spec.moves self.old message reply.now }
+        ensures { self.new ≡ spec.moves_talk self.old message reply.now }
     {
         match message {
             Some(message) => self.goes_on(message),

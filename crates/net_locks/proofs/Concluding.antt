@@ -25,7 +25,7 @@ use Rattle.guest_laws.specs.Own.{AreTimely, AreTurns, IsTimelyIn, OwnFrom}
 use Rattle.guest_laws.specs.Works.{moment_by, next_noted, noted_after, noted_from, noted_net, step_by}
 use Rattle.net_locks.specs.declared.clock.Busy.{Busy}
 use Rattle.net_locks.specs.declared.clock.Standing.{Standing}
-use Rattle.net_locks.specs.Standings.{AllStand, DoesAny, Finds, IsLeastOf, callers_of}
+use Rattle.net_locks.specs.Standings.{AllStand, DoesAny, FindsBusy, IsLeastOf, standing_callers}
 use Rattle.net_locks.specs.Moving.{IsLeast}
 use Rattle.net_locks.proofs.Found.{in_map, in_split, map_in}
 use Rattle.net_base.proofs.Shared.{within_last}
@@ -110,36 +110,36 @@ module _ (ts : Tasks) (w : World) (r : Roster) (p : Sight) (ss : List Standing) 
   abbrev net : Net
   net = noted_net w p.seen
 
-  there : (c : ℕ) → c < caller_count w → In c (callers_of ss)
+  there : (c : ℕ) → c < caller_count w → In c (standing_callers ss)
   there c lt =
       let s = stand.all c (subst (λ (n : ℕ). c < n) (sym callers) lt) in
-      subst (λ (k : ℕ). In k (callers_of ss)) s.2 (in_map (λ (t : Standing). t.caller) ss s.0 s.1)
+      subst (λ (k : ℕ). In k (standing_callers ss)) s.2 (in_map (λ (t : Standing). t.caller) ss s.0 s.1)
 
-  known : (c : ℕ) → In c (callers_of ss) → c < caller_count w
+  known : (c : ℕ) → In c (standing_callers ss) → c < caller_count w
   known c is =
       let s = map_in (λ (t : Standing). t.caller) ss c is in
       subst (λ (k : ℕ). k < caller_count w) (sym s.2) (subst (λ (n : ℕ). s.0.caller < n) callers (stand.each s.0 s.1).guest.known)
 
   -- a full caller could record
-  pub full_limits : FullOnesLimit → (full : Bool) → full ≡ true → DoesAny (λ (c : ℕ). is_full net c && could ts w net c) (callers_of ss) full → limited_by ts w net ≡ true
+  pub full_limits : FullOnesLimit → (full : Bool) → full ≡ true → DoesAny (λ (c : ℕ). is_full net c && could ts w net c) (standing_callers ss) full → limited_by ts w net ≡ true
   full_limits law true is some =
       let both = and_parts (is_full net some.0) (could ts w net some.0) some.2 in
       law ts w net some.0 (known some.0 some.1) both.0 both.1
   full_limits law false is some = absurd (false≢true is)
 
-  none_full : (full : Bool) → full ≡ false → DoesAny (λ (c : ℕ). is_full net c && could ts w net c) (callers_of ss) full → (c : ℕ) → c < caller_count w → (is_full net c && could ts w net c) ≡ false
+  none_full : (full : Bool) → full ≡ false → DoesAny (λ (c : ℕ). is_full net c && could ts w net c) (standing_callers ss) full → (c : ℕ) → c < caller_count w → (is_full net c && could ts w net c) ≡ false
   none_full true is some = absurd (true≢false is)
   none_full false is none = λ c lt. none c (there c lt)
 
-  module _ (busy : Busy) (finds : Finds (could ts w net) (is_full net) (callers_of ss) busy) (not_full : busy.full ≡ false)
+  module _ (busy : Busy) (finds : FindsBusy (could ts w net) (is_full net) (standing_callers ss) busy) (not_full : busy.full ≡ false)
       (nobody : NobodyIsLimited) where
     unlimited : (is_full net (clock_number w) && movable_by ts w net) ≡ false → limited_by ts w net ≡ false
     unlimited still = nobody ts w net (none_full busy.full not_full finds.full_is) still
 
     -- not calm
-    least_at : (found : Option ℕ) (c : ℕ) → found ≡ Some c → IsLeastOf (could ts w net) (callers_of ss) found → IsLeast ts w net c
+    least_at : (found : Option ℕ) (c : ℕ) → found ≡ Some c → IsLeastOf (could ts w net) (standing_callers ss) found → IsLeast ts w net c
     least_at found c is least =
-        let at = subst (IsLeastOf (could ts w net) (callers_of ss)) is least in
+        let at = subst (IsLeastOf (could ts w net) (standing_callers ss)) is least in
         record { known = known c at.0; could_is = at.1; least = λ d lt goes. at.2 d (there d lt) goes }
 
     pub not_calm : AreBusy → (c : ℕ) → busy.least ≡ Some c → IsLeast ts w net c × (limited_by ts w net ≡ false)
@@ -151,7 +151,7 @@ module _ (ts : Tasks) (w : World) (r : Roster) (p : Sight) (ss : List Standing) 
     -- calm
     module _ (none : busy.least ≡ None) (law : AreCalm) where
       pub nobody_could : (c : ℕ) → c < caller_count w → could ts w net c ≡ false
-      nobody_could c lt = subst (IsLeastOf (could ts w net) (callers_of ss)) none finds.least_is c (there c lt)
+      nobody_could c lt = subst (IsLeastOf (could ts w net) (standing_callers ss)) none finds.least_is c (there c lt)
 
       is_calm : calm_by ts w net ≡ true
       is_calm = law ts w net nobody_could

@@ -16,13 +16,13 @@ use Rattle.net_base.specs.Tasks.{Tasks}
 use Rattle.journal.proofs.Shared.{prefix_trans}
 use Rattle.journal.specs.declared.law.Roster.{Roster}
 use Rattle.journal.specs.declared.tokens.Sight.{Sight}
-use Rattle.locked.specs.Acts.{made, without_copy}
+use Rattle.locked.specs.Acts.{made, act_without_copy}
 use Rattle.due_moments.proofs.Shared.{covers_other}
 use Rattle.due_moments.specs.Marks.{Covers, Marks}
-use Rattle.guest_laws.specs.Guests.{IsGuest, Records}
+use Rattle.guest_laws.specs.Guests.{IsGuest, GuestRecords}
 use Rattle.net_locks.specs.declared.turn.Turn.{Turn}
 use Rattle.net_locks.specs.declared.turn.Turn.TheVariants as turn
-use Rattle.net_locks.specs.Turns.{Recorded, Turned, own}
+use Rattle.net_locks.specs.Turns.{RecordedTurn, Turned, own_seen}
 use Rattle.net_base.proofs.Shared.{number_itself}
 
 -- the last entry is its caller's last
@@ -52,22 +52,22 @@ own_more past x stamp at_stamp es alone =
 
 -- one that was noted
 pub covers_noted : (w : World) (r : Roster) (c now : ℕ) (a : ActorName) (work : Work) (cites : Option ℕ) (p p' : Sight) (ds : List Duty) → IsGuest w r c p ds
-    → (stamp : ℕ) (o : Outcome) → Records w r a c now work cites p stamp o p' → (noted_at : ActorName) → noted_at ≡ a → (m m' : Marks)
+    → (stamp : ℕ) (o : Outcome) → GuestRecords w r a c now work cites p stamp o p' → (noted_at : ActorName) → noted_at ≡ a → (m m' : Marks)
     → ((es : List (ℕ × Noted)) (x : Noted) → Covers es m → x.entry.actor ≡ noted_at → Covers (es ++ (stamp, x) ∷ []) m')
-    → Covers (own c p) m → Covers (own c p') m'
+    → Covers (own_seen c p) m → Covers (own_seen c p') m'
 covers_noted w r c now a work cites p p' ds g stamp o d noted_at is m m' notes covers =
     let x = made a c now work cites o in
-    let grown : own c p' ≡ own c p ++ (stamp, x) ∷ [] =
-    ap (at (number.Caller c)) d.seen ∙ own_more d.past x stamp d.stamp_is (own c p) (d.lists (number.Caller c) g.list g.held ∙ sym g.all) in
-    subst (λ (l : List (ℕ × Noted)). Covers l m') (sym grown) (notes (own c p) x covers (sym is))
+    let grown : own_seen c p' ≡ own_seen c p ++ (stamp, x) ∷ [] =
+    ap (at (number.Caller c)) d.seen ∙ own_more d.past x stamp d.stamp_is (own_seen c p) (d.lists (number.Caller c) g.list g.held ∙ sym g.all) in
+    subst (λ (l : List (ℕ × Noted)). Covers l m') (sym grown) (notes (own_seen c p) x covers (sym is))
 
 -- a move of the clock
 pub covers_move : (ts : Tasks) (w : World) (c now : ℕ) (work : Work) (cites : Option ℕ) (p p' : Sight) (ds ds' : List Duty) (stamp : ℕ) (answer : Reply) (m : Marks)
-    → Recorded ts w c now name.Clock work cites p ds stamp answer p' ds' → Covers (own c p) m → Covers (own c p') m
+    → RecordedTurn ts w c now name.Clock work cites p ds stamp answer p' ds' → Covers (own_seen c p) m → Covers (own_seen c p') m
 covers_move ts w c now work cites p p' ds ds' stamp answer m rec covers =
-    let x = made name.Clock c now work cites (without_copy rec.step.outcome) in
-    let grown : own c p' ≡ own c p ++ (stamp, x) ∷ [] = ap (at (number.Caller c)) rec.seen ∙ own_more rec.past x stamp rec.stamp_is (own c p) rec.alone in
-    subst (λ (l : List (ℕ × Noted)). Covers l m) (sym grown) (covers_other (own c p) x name.Clock stamp m covers refl refl)
+    let x = made name.Clock c now work cites (act_without_copy rec.step.outcome) in
+    let grown : own_seen c p' ≡ own_seen c p ++ (stamp, x) ∷ [] = ap (at (number.Caller c)) rec.seen ∙ own_more rec.past x stamp rec.stamp_is (own_seen c p) rec.alone in
+    subst (λ (l : List (ℕ × Noted)). Covers l m) (sym grown) (covers_other (own_seen c p) x name.Clock stamp m covers refl refl)
 
 -- What was seen is seen still.
 
@@ -75,9 +75,9 @@ grown_by : (p p' : Sight) (past : List Noted) (x : Noted) → IsPrefix p.seen pa
 grown_by p p' past x before seen = prefix_trans p.seen past p'.seen before (x ∷ [], sym seen)
 
 pub recorded_grows : (ts : Tasks) (w : World) (c now : ℕ) (a : ActorName) (work : Work) (cites : Option ℕ) (p p' : Sight) (ds ds' : List Duty) (stamp : ℕ) (answer : Reply)
-    → Recorded ts w c now a work cites p ds stamp answer p' ds' → IsPrefix p.seen p'.seen
+    → RecordedTurn ts w c now a work cites p ds stamp answer p' ds' → IsPrefix p.seen p'.seen
 recorded_grows ts w c now a work cites p p' ds ds' stamp answer rec =
-    grown_by p p' rec.past (made a c now work cites (without_copy rec.step.outcome)) rec.before rec.seen
+    grown_by p p' rec.past (made a c now work cites (act_without_copy rec.step.outcome)) rec.before rec.seen
 
 pub same_grows : (p p' : Sight) → p' ≡ p → IsPrefix p.seen p'.seen
 same_grows p p' same = subst (λ (q : Sight). IsPrefix p.seen q.seen) (sym same) ([], append-nil p.seen)

@@ -7,7 +7,7 @@ use Rattle.net_base.specs.declared.actor.ActorName.{ActorName}
 use Rattle.net_base.specs.declared.world.World.{World}
 use Rattle.journal.specs.declared.tokens.Sight.{Sight}
 use Rattle.duties.specs.Queue.{work_of_duty}
-use Rattle.guest_laws.specs.Guests.{IsTurn}
+use Rattle.guest_laws.specs.Guests.{IsGuestTurn}
 use Rattle.net_base.proofs.Members.{first_of}
 
 pub first_in : (ds : List Duty) (d : Duty) → slice_get ds 0 ≡ Some d → In d ds
@@ -16,7 +16,7 @@ first_in (x ∷ ds) d is = inl (sym (same_Some x d is))
 
 -- the first duty is a turn at its actor
 pub first_turn : (w : World) (c : ℕ) (p : Sight) (ds : List Duty) (d : Duty) → slice_get ds 0 ≡ Some d → (a : ActorName) → d.actor ≡ a
-    → IsTurn w c p (d ∷ drop 1 ds) d.actor (work_of_duty d) (Some d.cites) → IsTurn w c p ds a (work_of_duty d) (Some d.cites)
+    → IsGuestTurn w c p (d ∷ drop 1 ds) d.actor (work_of_duty d) (Some d.cites) → IsGuestTurn w c p ds a (work_of_duty d) (Some d.cites)
 first_turn w c p ds d is a at turn =
-    subst (λ (l : List Duty). IsTurn w c p l a (work_of_duty d) (Some d.cites)) (sym (first_of ds d is))
-    (subst (λ (b : ActorName). IsTurn w c p (d ∷ drop 1 ds) b (work_of_duty d) (Some d.cites)) at turn)
+    subst (λ (l : List Duty). IsGuestTurn w c p l a (work_of_duty d) (Some d.cites)) (sym (first_of ds d is))
+    (subst (λ (b : ActorName). IsGuestTurn w c p (d ∷ drop 1 ds) b (work_of_duty d) (Some d.cites)) at turn)

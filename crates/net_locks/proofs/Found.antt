@@ -7,7 +7,7 @@ use Rattle.std.proofs.lemmas.Bool.{cases_lt, true≢false}
 use Rattle.net_base.specs.Stamped.{In}
 use Rattle.net_locks.specs.declared.clock.Busy.{Busy}
 use Rattle.net_locks.specs.declared.clock.Standing.{Standing}
-use Rattle.net_locks.specs.Standings.{DoesAny, Finds, IsLeastOf, callers_of}
+use Rattle.net_locks.specs.Standings.{DoesAny, FindsBusy, IsLeastOf, standing_callers}
 
 -- Lists.
 
@@ -99,7 +99,7 @@ module _ (goes full : ℕ → Bool) (cs : List ℕ) (c : ℕ) where
   and_false false b is = refl
 
   -- a caller more that couldn't record
-  pub finds_less : (found : Busy) → Finds goes full cs found → goes c ≡ false → Finds goes full (cs ++ c ∷ []) found
+  pub finds_less : (found : Busy) → FindsBusy goes full cs found → goes c ≡ false → FindsBusy goes full (cs ++ c ∷ []) found
   finds_less found f fails =
       record {
         least_is = stays_least found.least f.least_is fails;
@@ -128,8 +128,8 @@ module _ (goes full : ℕ → Bool) (cs : List ℕ) (c : ℕ) where
   new_any test false false none is = fails_more test none is
 
   -- a caller more that could
-  pub finds_more : (found : Busy) (full_it : Bool) → Finds goes full cs found → goes c ≡ true → full_it ≡ full c
-      → Finds goes full (cs ++ c ∷ []) (record { least = Some (option_map_or (λ (l : ℕ). min l c) found.least c); full = found.full || full_it })
+  pub finds_more : (found : Busy) (full_it : Bool) → FindsBusy goes full cs found → goes c ≡ true → full_it ≡ full c
+      → FindsBusy goes full (cs ++ c ∷ []) (record { least = Some (option_map_or (λ (l : ℕ). min l c) found.least c); full = found.full || full_it })
   finds_more found full_it f passes is =
       record {
         least_is = new_least found.least f.least_is passes;
@@ -140,12 +140,12 @@ module _ (goes full : ℕ → Bool) (cs : List ℕ) (c : ℕ) where
       passes_as true b yes_ = yes_
       passes_as false b yes_ = refl
 
-  pub finds_with : (found : Busy) (full_it : Bool) → Finds goes full cs found → goes c ≡ true → full_it ≡ full c
+  pub finds_with : (found : Busy) (full_it : Bool) → FindsBusy goes full cs found → goes c ≡ true → full_it ≡ full c
       → (least : ℕ) → least ≡ option_map_or (λ (l : ℕ). min l c) found.least c → (any : Bool) → any ≡ (found.full || full_it)
-      → Finds goes full (cs ++ c ∷ []) (record { least = Some least; full = any })
+      → FindsBusy goes full (cs ++ c ∷ []) (record { least = Some least; full = any })
   finds_with found full_it f passes is least at any so =
-      subst (λ (l : ℕ). Finds goes full (cs ++ c ∷ []) (record { least = Some l; full = any })) (sym at)
-      (subst (λ (b : Bool). Finds goes full (cs ++ c ∷ []) (record { least = Some (option_map_or (λ (l : ℕ). min l c) found.least c); full = b })) (sym so)
+      subst (λ (l : ℕ). FindsBusy goes full (cs ++ c ∷ []) (record { least = Some l; full = any })) (sym at)
+      (subst (λ (b : Bool). FindsBusy goes full (cs ++ c ∷ []) (record { least = Some (option_map_or (λ (l : ℕ). min l c) found.least c); full = b })) (sym so)
       (finds_more found full_it f passes is))
 
 pub or_true : (a b : Bool) → a ≡ true → a ≡ (a || b)
@@ -155,11 +155,11 @@ pub or_false : (a b : Bool) → a ≡ false → b ≡ (a || b)
 or_false a b is = sym (ap (λ (x : Bool). x || b) is)
 
 -- one more of those that stand in a row
-pub callers_more : (ss : List Standing) (i : ℕ) (s : Standing) → i < length ss → s ≡ get_or ss i s → callers_of (take (i + 1) ss) ≡ callers_of (take i ss) ++ s.caller ∷ []
+pub callers_more : (ss : List Standing) (i : ℕ) (s : Standing) → i < length ss → s ≡ get_or ss i s → standing_callers (take (i + 1) ss) ≡ standing_callers (take i ss) ++ s.caller ∷ []
 callers_more ss i s lt is =
-    ap callers_of (take_more ss i s lt)
+    ap standing_callers (take_more ss i s lt)
     ∙ (map-append (λ (t : Standing). t.caller) (take i ss) (get_or ss i s ∷ [])
-    ∙ ap (λ (t : Standing). callers_of (take i ss) ++ t.caller ∷ []) (sym is))
+    ∙ ap (λ (t : Standing). standing_callers (take i ss) ++ t.caller ∷ []) (sym is))
 
-pub callers_all : (ss : List Standing) (i : ℕ) → length ss ≤ i → callers_of (take i ss) ≡ callers_of ss
-callers_all ss i le = ap callers_of (take_all i ss le)
+pub callers_all : (ss : List Standing) (i : ℕ) → length ss ≤ i → standing_callers (take i ss) ≡ standing_callers ss
+callers_all ss i le = ap standing_callers (take_all i ss le)

@@ -22,14 +22,14 @@ use Rattle.net_base.specs.Stamped.{In, at, at_from, same_actor}
 use Rattle.journal.specs.declared.tokens.Sight.{Sight}
 use Rattle.duties.specs.declared.due.Due.{Due}
 use Rattle.duties.specs.Ticking.{due_at, dues_of}
-use Rattle.due_moments.specs.Marks.{Covers, is_among, is_conversation}
-use Rattle.due_moments.specs.Places.{AreOwn, place, put_at}
+use Rattle.due_moments.specs.Marks.{Covers, is_marked_among, is_conversation}
+use Rattle.due_moments.specs.Places.{AreOwnPlaces, conversation_place, put_at}
 use Rattle.guest_laws.specs.Works.{next_noted, noted_after, noted_net, step_by}
 use Rattle.journal.specs.declared.law.Roster.{Roster}
 use Rattle.journal.specs.Rule.{Lawful}
 use Rattle.net_locks.specs.declared.calendar.Calendar.{Calendar}
 use Rattle.net_locks.specs.declared.clock.Standing.{Standing}
-use Rattle.net_locks.specs.Knowing.{AreMixed, IsKnown, all_touched, due_from, is_told, mixed, touched_count}
+use Rattle.net_locks.specs.Knowing.{AreMixed, IsKnown, all_touched, due_from, have_told, mixed, touched_count}
 use Rattle.net_base.proofs.Shared.{number_itself}
 
 -- Lists.
@@ -94,22 +94,22 @@ known_first w log k at dues = record {
 
 -- One conversation more.
 
-among_more : (as' : List ActorName) (a b : ActorName) → same_actor a b ≡ false → is_among (as' ++ a ∷ []) b ≡ is_among as' b
+among_more : (as' : List ActorName) (a b : ActorName) → same_actor a b ≡ false → is_marked_among (as' ++ a ∷ []) b ≡ is_marked_among as' b
 among_more [] a b other = ap (λ (t : Bool). t || false) other
 among_more (k ∷ as') a b other = ap (λ (t : Bool). same_actor k b || t) (among_more as' a b other)
 
-among_last : (as' : List ActorName) (a : ActorName) → same_actor a a ≡ true → is_among (as' ++ a ∷ []) a ≡ true
+among_last : (as' : List ActorName) (a : ActorName) → same_actor a a ≡ true → is_marked_among (as' ++ a ∷ []) a ≡ true
 among_last [] a is = ap (λ (t : Bool). t || false) is
 among_last (k ∷ as') a is = by_test (same_actor k a) (among_last as' a is)
   where
-    by_test : (t : Bool) → is_among (as' ++ a ∷ []) a ≡ true → (t || is_among (as' ++ a ∷ []) a) ≡ true
+    by_test : (t : Bool) → is_marked_among (as' ++ a ∷ []) a ≡ true → (t || is_marked_among (as' ++ a ∷ []) a) ≡ true
     by_test true rest = refl
     by_test false rest = rest
 
 by_among : (s t : Bool) (o u : Option Due) → s ≡ t → (if s then o else u) ≡ (if t then o else u)
 by_among s t o u same = ap (λ (b : Bool). if b then o else u) same
 
-own_at : (actors : ActorName → Actor) → AreOwn (due_at actors)
+own_at : (actors : ActorName → Actor) → AreOwnPlaces (due_at actors)
 own_at actors (name.Conv h p n) d is = by_due (due_of (actors (name.Conv h p n))) is
   where
     by_due : (o : Option ℕ) → option_map (due_from h p n (generation_of (actors (name.Conv h p n)))) o ≡ Some d → name.Conv h p n ≡ name.Conv d.host d.proto d.slot
@@ -136,8 +136,8 @@ same_kind proto.Il = refl
 same_kind proto.Udp = refl
 
 module _ (w : World) (now old : ActorName → Actor) (as' : List ActorName) where
-  own_mixed : AreOwn (mixed now old as')
-  own_mixed a d is = by_test (is_among as' a) is
+  own_mixed : AreOwnPlaces (mixed now old as')
+  own_mixed a d is = by_test (is_marked_among as' a) is
     where
       by_test : (t : Bool) → (if t then due_at now a else due_at old a) ≡ Some d → a ≡ name.Conv d.host d.proto d.slot
       by_test true gives = own_at now a d gives
@@ -148,21 +148,21 @@ module _ (w : World) (now old : ActorName → Actor) (as' : List ActorName) wher
       → AreMixed w now old (as' ++ a ∷ []) ds
   none_more a other ds are =
       are ∙ same_map (mixed now old as') (mixed now old (as' ++ a ∷ [])) (conversations w)
-      (λ b there. by_among (is_among as' b) (is_among (as' ++ a ∷ []) b) (due_at now b) (due_at old b) (sym (among_more as' a b (other b there))))
+      (λ b there. by_among (is_marked_among as' b) (is_marked_among (as' ++ a ∷ []) b) (due_at now b) (due_at old b) (sym (among_more as' a b (other b there))))
 
   -- or a conversation that was viewed
   pub one_more : (h : ℕ) (p : Proto) (n : ℕ) (ds ds' : List Due) (due : Option Due)
-      → ((before after : ActorName → Option Due) → In (name.Conv h p n) (conversations w) → AreOwn before
+      → ((before after : ActorName → Option Due) → In (name.Conv h p n) (conversations w) → AreOwnPlaces before
       → ((b : ActorName) → same_actor (name.Conv h p n) b ≡ false → after b ≡ before b)
-      → filter_map after (conversations w) ≡ put_at (place h p n) (after (name.Conv h p n)) (filter_map before (conversations w)))
-      → In (name.Conv h p n) (conversations w) → due ≡ due_at now (name.Conv h p n) → ds' ≡ put_at (place h p n) due ds
+      → filter_map after (conversations w) ≡ put_at (conversation_place h p n) (after (name.Conv h p n)) (filter_map before (conversations w)))
+      → In (name.Conv h p n) (conversations w) → due ≡ due_at now (name.Conv h p n) → ds' ≡ put_at (conversation_place h p n) due ds
       → AreMixed w now old as' ds → AreMixed w now old (as' ++ name.Conv h p n ∷ []) ds'
   one_more h p n ds ds' due law there told put are =
       put
-      ∙ (ap (λ (o : Option Due). put_at (place h p n) o ds) (told ∙ sym here)
-      ∙ (ap (put_at (place h p n) (mixed now old (as' ++ name.Conv h p n ∷ []) (name.Conv h p n))) are
+      ∙ (ap (λ (o : Option Due). put_at (conversation_place h p n) o ds) (told ∙ sym here)
+      ∙ (ap (put_at (conversation_place h p n) (mixed now old (as' ++ name.Conv h p n ∷ []) (name.Conv h p n))) are
       ∙ sym (law (mixed now old as') (mixed now old (as' ++ name.Conv h p n ∷ [])) there own_mixed
-      (λ b other. by_among (is_among (as' ++ name.Conv h p n ∷ []) b) (is_among as' b) (due_at now b) (due_at old b) (among_more as' (name.Conv h p n) b other)))))
+      (λ b other. by_among (is_marked_among (as' ++ name.Conv h p n ∷ []) b) (is_marked_among as' b) (due_at now b) (due_at old b) (among_more as' (name.Conv h p n) b other)))))
     where
       same_number : (k : ℕ) → (k == k) ≡ true
       same_number k = grind (arith, nat_tests)
@@ -244,49 +244,49 @@ stands_in n (y ∷ past) x xs =
     by_test true rest = inr rest
     by_test false rest = rest
 
-among_front : (xs ys : List ActorName) (a : ActorName) → is_among xs a ≡ true → is_among (xs ++ ys) a ≡ true
+among_front : (xs ys : List ActorName) (a : ActorName) → is_marked_among xs a ≡ true → is_marked_among (xs ++ ys) a ≡ true
 among_front [] ys a is = absurd (true≢false (sym is))
 among_front (k ∷ xs) ys a is = by_test (same_actor k a) is (among_front xs ys a)
   where
-    by_test : (t : Bool) → (t || is_among xs a) ≡ true → (is_among xs a ≡ true → is_among (xs ++ ys) a ≡ true) → (t || is_among (xs ++ ys) a) ≡ true
+    by_test : (t : Bool) → (t || is_marked_among xs a) ≡ true → (is_marked_among xs a ≡ true → is_marked_among (xs ++ ys) a ≡ true) → (t || is_marked_among (xs ++ ys) a) ≡ true
     by_test true yes_ rest = refl
     by_test false yes_ rest = rest yes_
 
-among_back : (xs ys : List ActorName) (a : ActorName) → is_among ys a ≡ true → is_among (xs ++ ys) a ≡ true
+among_back : (xs ys : List ActorName) (a : ActorName) → is_marked_among ys a ≡ true → is_marked_among (xs ++ ys) a ≡ true
 among_back [] ys a is = is
 among_back (k ∷ xs) ys a is = by_test (same_actor k a) (among_back xs ys a is)
   where
-    by_test : (t : Bool) → is_among (xs ++ ys) a ≡ true → (t || is_among (xs ++ ys) a) ≡ true
+    by_test : (t : Bool) → is_marked_among (xs ++ ys) a ≡ true → (t || is_marked_among (xs ++ ys) a) ≡ true
     by_test true rest = refl
     by_test false rest = rest
 
-touched_in : (ss : List Standing) (s : Standing) (a : ActorName) → In s ss → is_among s.touched.actors a ≡ true → is_among (all_touched ss) a ≡ true
+touched_in : (ss : List Standing) (s : Standing) (a : ActorName) → In s ss → is_marked_among s.touched.actors a ≡ true → is_marked_among (all_touched ss) a ≡ true
 touched_in [] s a none is = absurd none
 touched_in (t ∷ ss) s a (inl same) is =
-    among_front t.touched.actors (all_touched ss) a (subst (λ (u : Standing). is_among u.touched.actors a ≡ true) same is)
+    among_front t.touched.actors (all_touched ss) a (subst (λ (u : Standing). is_marked_among u.touched.actors a ≡ true) same is)
 touched_in (t ∷ ss) s a (inr there) is = among_back t.touched.actors (all_touched ss) a (touched_in ss s a there is)
 
-told_one : (at : ℕ) (ss : List Standing) (s : Standing) → is_told at ss ≡ true → In s ss → s.touched.since ≤ at
+told_one : (at : ℕ) (ss : List Standing) (s : Standing) → have_told at ss ≡ true → In s ss → s.touched.since ≤ at
 told_one at [] s told none = absurd none
 told_one at (t ∷ ss) s told (inl same) = by_parts (nat_le t.touched.since at) refl told
   where
-    by_parts : (b : Bool) → nat_le t.touched.since at ≡ b → (b && is_told at ss) ≡ true → s.touched.since ≤ at
+    by_parts : (b : Bool) → nat_le t.touched.since at ≡ b → (b && have_told at ss) ≡ true → s.touched.since ≤ at
     by_parts true is all = grind (arith, nat_tests, is, ap (λ (u : Standing). u.touched.since) same)
     by_parts false is all = absurd (true≢false (sym all))
 told_one at (t ∷ ss) s told (inr there) = by_parts (nat_le t.touched.since at) told (λ rest. told_one at ss s rest there)
   where
-    by_parts : (b : Bool) → (b && is_told at ss) ≡ true → (is_told at ss ≡ true → s.touched.since ≤ at) → s.touched.since ≤ at
+    by_parts : (b : Bool) → (b && have_told at ss) ≡ true → (have_told at ss ≡ true → s.touched.since ≤ at) → s.touched.since ≤ at
     by_parts true all go = go all
     by_parts false all go = absurd (true≢false (sym all))
 
 module _ (w : World) (r : Roster) (log : List Noted) (ss : List Standing) (from : ℕ) (equal : AreEqual)
     (covers : (s : Standing) → In s ss → Covers (at (number.Caller s.caller) log) s.touched)
     (all : (c : ℕ) → c < r.callers → (s : Standing) × In s ss × (s.caller ≡ c))
-    (lawful : Lawful r log) (told : is_told from ss ≡ true)
+    (lawful : Lawful r log) (told : have_told from ss ≡ true)
     (grows : (past : List Noted) (x : Noted) → noted_net w (past ++ x ∷ []) ≡ next_noted w (noted_net w past) x) where
   -- an entry from the stamp on is at a conversation that was touched, if at one at all
   was_touched : (past : List Noted) (x : Noted) (xs : List Noted) → log ≡ past ++ x ∷ xs → from ≤ length past → is_conversation x.entry.actor ≡ true
-      → is_among (all_touched ss) x.entry.actor ≡ true
+      → is_marked_among (all_touched ss) x.entry.actor ≡ true
   was_touched past x xs is late conv =
       let s = all x.entry.caller (lawful past x xs is).caller in
       let mine : Covers (at (number.Caller x.entry.caller) log) s.0.touched =
@@ -297,7 +297,7 @@ module _ (w : World) (r : Roster) (log : List Noted) (ss : List Standing) (from 
       touched_in ss s.0 x.entry.actor s.1 (mine.each (length past, x) there conv (omega (arith, late, told_one from ss s.0 told s.1)))
 
   -- so another conversation stands as it stood
-  still : (b : ActorName) → is_conversation b ≡ true → is_among (all_touched ss) b ≡ false
+  still : (b : ActorName) → is_conversation b ≡ true → is_marked_among (all_touched ss) b ≡ false
       → (past rest : List Noted) → log ≡ past ++ rest → from ≤ length past → (noted_net w log).actors b ≡ (noted_net w past).actors b
   still b conv other past [] is late = ap (λ (l : List Noted). (noted_net w l).actors b) (is ∙ append-nil past)
   still b conv other past (x ∷ rest) is late =
@@ -306,7 +306,7 @@ module _ (w : World) (r : Roster) (log : List Noted) (ss : List Standing) (from 
     where
       not_this : x.entry.actor ≡ b → ⊥
       not_this same = true≢false (
-          sym (was_touched past x rest is late (ap is_conversation same ∙ conv)) ∙ (ap (is_among (all_touched ss)) same ∙ other)
+          sym (was_touched past x rest is late (ap is_conversation same ∙ conv)) ∙ (ap (is_marked_among (all_touched ss)) same ∙ other)
           )
 
   due_still : (b : ActorName) → (noted_net w log).actors b ≡ (noted_net w (take from log)).actors b
@@ -319,9 +319,9 @@ module _ (w : World) (r : Roster) (log : List Noted) (ss : List Standing) (from 
 
   one_still : (b : ActorName) → is_conversation b ≡ true → from ≤ length log
       → mixed (noted_net w log).actors (noted_net w (take from log)).actors (all_touched ss) b ≡ due_at (noted_net w log).actors b
-  one_still b conv within = by_test (is_among (all_touched ss) b) refl
+  one_still b conv within = by_test (is_marked_among (all_touched ss) b) refl
     where
-      by_test : (t : Bool) → is_among (all_touched ss) b ≡ t
+      by_test : (t : Bool) → is_marked_among (all_touched ss) b ≡ t
           → (if t then due_at (noted_net w log).actors b else due_at (noted_net w (take from log)).actors b) ≡ due_at (noted_net w log).actors b
       by_test true is = refl
       by_test false is =

@@ -25,7 +25,7 @@ use Rattle.duties.specs.declared.due.Due.{Due}
 use Rattle.duties.specs.Ticking.{due_at, dues_of}
 use Rattle.guest_laws.specs.Works.{entries, noted_net}
 use Rattle.net_locks.specs.declared.clock.Standing.{Standing}
-use Rattle.net_locks.specs.Standings.{AllStand, StandsAt, awaited_moments, awaited_of, due_moments}
+use Rattle.net_locks.specs.Standings.{AllStand, StandsAt, standing_moments, awaited_of, moments_of_dues}
 use Rattle.net_locks.proofs.Found.{filter_map_in, in_filter_map, in_map, map_in}
 use Rattle.net_base.proofs.Shared.{least_min, within_last, within_each}
 
@@ -45,28 +45,28 @@ one_of_them last (m ∷ ms) = by_order (cases_lt m (least last ms)) (one_of_them
 -- One more of a row.
 
 pub due_next : (dues : List Due) (i now new last : ℕ) (d : Due) → i < length dues → new ≡ min now (get_or dues i d).due
-    → least now (due_moments (drop i dues)) ≡ least last (due_moments dues) → least new (due_moments (drop (i + 1) dues)) ≡ least last (due_moments dues)
+    → least now (moments_of_dues (drop i dues)) ≡ least last (moments_of_dues dues) → least new (moments_of_dues (drop (i + 1) dues)) ≡ least last (moments_of_dues dues)
 due_next dues i now new last d lt is all =
-    ap (λ (m : ℕ). least m (due_moments (drop (i + 1) dues))) (is ∙ min_comm now (get_or dues i d).due)
-    ∙ (least_min now (get_or dues i d).due (due_moments (drop (i + 1) dues))
-    ∙ (sym (at_drop_more (λ (ds : List Due). least now (due_moments ds)) dues i d lt) ∙ all))
+    ap (λ (m : ℕ). least m (moments_of_dues (drop (i + 1) dues))) (is ∙ min_comm now (get_or dues i d).due)
+    ∙ (least_min now (get_or dues i d).due (moments_of_dues (drop (i + 1) dues))
+    ∙ (sym (at_drop_more (λ (ds : List Due). least now (moments_of_dues ds)) dues i d lt) ∙ all))
 
-pub due_all : (dues : List Due) (i now last : ℕ) → length dues ≤ i → least now (due_moments (drop i dues)) ≡ least last (due_moments dues) → now ≡ least last (due_moments dues)
-due_all dues i now last le all = ap (λ (ds : List Due). least now (due_moments ds)) (sym (drop_all i dues le)) ∙ all
+pub due_all : (dues : List Due) (i now last : ℕ) → length dues ≤ i → least now (moments_of_dues (drop i dues)) ≡ least last (moments_of_dues dues) → now ≡ least last (moments_of_dues dues)
+due_all dues i now last le all = ap (λ (ds : List Due). least now (moments_of_dues ds)) (sym (drop_all i dues le)) ∙ all
 
 one_awaited : (now : ℕ) (o : Option ℕ) (ms : List ℕ) → least (least now (option_to_list o)) ms ≡ least now (cons_option o ms)
 one_awaited now None ms = refl
 one_awaited now (Some m) ms = least_min now m ms
 
 pub awaited_next : (ss : List Standing) (i now new last : ℕ) (s : Standing) → i < length ss → s ≡ get_or ss i s → new ≡ least now (option_to_list (awaited_of s))
-    → least now (awaited_moments (drop i ss)) ≡ least last (awaited_moments ss) → least new (awaited_moments (drop (i + 1) ss)) ≡ least last (awaited_moments ss)
+    → least now (standing_moments (drop i ss)) ≡ least last (standing_moments ss) → least new (standing_moments (drop (i + 1) ss)) ≡ least last (standing_moments ss)
 awaited_next ss i now new last s lt at is all =
-    ap (λ (m : ℕ). least m (awaited_moments (drop (i + 1) ss))) (is ∙ ap (λ (t : Standing). least now (option_to_list (awaited_of t))) at)
-    ∙ (one_awaited now (awaited_of (get_or ss i s)) (awaited_moments (drop (i + 1) ss))
-    ∙ (sym (at_drop_more (λ (l : List Standing). least now (awaited_moments l)) ss i s lt) ∙ all))
+    ap (λ (m : ℕ). least m (standing_moments (drop (i + 1) ss))) (is ∙ ap (λ (t : Standing). least now (option_to_list (awaited_of t))) at)
+    ∙ (one_awaited now (awaited_of (get_or ss i s)) (standing_moments (drop (i + 1) ss))
+    ∙ (sym (at_drop_more (λ (l : List Standing). least now (standing_moments l)) ss i s lt) ∙ all))
 
-pub awaited_all : (ss : List Standing) (i now last : ℕ) → length ss ≤ i → least now (awaited_moments (drop i ss)) ≡ least last (awaited_moments ss) → now ≡ least last (awaited_moments ss)
-awaited_all ss i now last le all = ap (λ (l : List Standing). least now (awaited_moments l)) (sym (drop_all i ss le)) ∙ all
+pub awaited_all : (ss : List Standing) (i now last : ℕ) → length ss ≤ i → least now (standing_moments (drop i ss)) ≡ least last (standing_moments ss) → now ≡ least last (standing_moments ss)
+awaited_all ss i now last le all = ap (λ (l : List Standing). least now (standing_moments l)) (sym (drop_all i ss le)) ∙ all
 
 -- The target.
 
@@ -92,14 +92,14 @@ due_from actors a d h p n is due =
     by_due (Some m) gives = ap (option_map (λ (e : Due). e.due)) gives
 
 module _ (w : World) (net : Net) (only : (a : ActorName) → In a (conversations w) → IsOne w a) where
-  due_in : (m : ℕ) → IsDue w net m → In m (due_moments (dues_of w net.actors))
+  due_in : (m : ℕ) → IsDue w net m → In m (moments_of_dues (dues_of w net.actors))
   due_in m is =
       let one = only is.actor is.there in
       in_map (λ (d : Due). d.due) (dues_of w net.actors) (due_record net.actors one.0 one.1 one.2 m)
       (in_filter_map (due_at net.actors) (conversations w) is.actor (due_record net.actors one.0 one.1 one.2 m) is.there
       (due_there net.actors is.actor m one.0 one.1 one.2 one.3 is.due))
 
-  in_due : (m : ℕ) → In m (due_moments (dues_of w net.actors)) → IsDue w net m
+  in_due : (m : ℕ) → In m (moments_of_dues (dues_of w net.actors)) → IsDue w net m
   in_due m there =
       let d = map_in (λ (e : Due). e.due) (dues_of w net.actors) m there in
       let a = filter_map_in (due_at net.actors) (conversations w) d.0 d.1 in
@@ -114,13 +114,13 @@ module _ (ts : Tasks) (w : World) (r : Roster) (p : Sight) (ss : List Standing) 
   awaits_so : (s : Standing) → StandsAt ts w r p s → awaited_moment (next_of_by ts w (caller_of w s.caller) net.past s.caller) ≡ awaited_of s
   awaits_so s st = ap (λ (h : List Entry). awaited_moment (next_of_by ts w (caller_of w s.caller) h s.caller)) past ∙ ap awaited_moment (sym st.next_is)
 
-  awaited_in : (m : ℕ) → IsAwaited ts w net m → In m (awaited_moments ss)
+  awaited_in : (m : ℕ) → IsAwaited ts w net m → In m (standing_moments ss)
   awaited_in m is =
       let s = stand.all is.caller (subst (λ (n : ℕ). is.caller < n) (sym callers) is.known) in
       in_filter_map awaited_of ss s.0 m s.1
       (sym (awaits_so s.0 (stand.each s.0 s.1)) ∙ (ap (λ (c : ℕ). awaited_moment (next_of_by ts w (caller_of w c) net.past c)) s.2 ∙ is.awaits))
 
-  in_awaited : (m : ℕ) → In m (awaited_moments ss) → IsAwaited ts w net m
+  in_awaited : (m : ℕ) → In m (standing_moments ss) → IsAwaited ts w net m
   in_awaited m there =
       let s = filter_map_in awaited_of ss m there in
       let st = stand.each s.0 s.1 in
@@ -129,31 +129,31 @@ module _ (ts : Tasks) (w : World) (r : Roster) (p : Sight) (ss : List Standing) 
   -- the least of these, the end moment among them, is the target
   pub target_is : ((a : ActorName) → In a (conversations w) → IsOne w a)
       → ((t : ℕ) → t ≤ w.end → ((m : ℕ) → IsDue w net m → t ≤ m) → ((m : ℕ) → IsAwaited ts w net m → t ≤ m) → (t ≡ w.end) ⊎ (IsDue w net t ⊎ IsAwaited ts w net t) → t ≡ target_by ts w net)
-      → (dues : List Due) (awaited t : ℕ) → dues ≡ dues_of w net.actors → awaited ≡ least w.end (awaited_moments ss) → t ≡ least awaited (due_moments dues)
+      → (dues : List Due) (awaited t : ℕ) → dues ≡ dues_of w net.actors → awaited ≡ least w.end (standing_moments ss) → t ≡ least awaited (moments_of_dues dues)
       → (t ≡ target_by ts w net) × (t ≤ w.end)
   target_is only law dues awaited t are awaits is = (law t within each_due each_awaited one, within)
     where
-      here : t ≡ least awaited (due_moments (dues_of w net.actors))
-      here = is ∙ ap (λ (ds : List Due). least awaited (due_moments ds)) are
+      here : t ≡ least awaited (moments_of_dues (dues_of w net.actors))
+      here = is ∙ ap (λ (ds : List Due). least awaited (moments_of_dues ds)) are
 
       within : t ≤ w.end
-      within = omega (arith, here, within_last awaited (due_moments (dues_of w net.actors)), awaits, within_last w.end (awaited_moments ss))
+      within = omega (arith, here, within_last awaited (moments_of_dues (dues_of w net.actors)), awaits, within_last w.end (standing_moments ss))
 
       each_due : (m : ℕ) → IsDue w net m → t ≤ m
-      each_due m due = omega (arith, here, within_each awaited (due_moments (dues_of w net.actors)) m (due_in w net only m due))
+      each_due m due = omega (arith, here, within_each awaited (moments_of_dues (dues_of w net.actors)) m (due_in w net only m due))
 
       each_awaited : (m : ℕ) → IsAwaited ts w net m → t ≤ m
-      each_awaited m a = omega (arith, here, within_last awaited (due_moments (dues_of w net.actors)), awaits, within_each w.end (awaited_moments ss) m (awaited_in m a))
+      each_awaited m a = omega (arith, here, within_last awaited (moments_of_dues (dues_of w net.actors)), awaits, within_each w.end (standing_moments ss) m (awaited_in m a))
 
-      by_awaited : (least awaited (due_moments (dues_of w net.actors)) ≡ awaited) → (least w.end (awaited_moments ss) ≡ w.end) ⊎ In (least w.end (awaited_moments ss)) (awaited_moments ss)
+      by_awaited : (least awaited (moments_of_dues (dues_of w net.actors)) ≡ awaited) → (least w.end (standing_moments ss) ≡ w.end) ⊎ In (least w.end (standing_moments ss)) (standing_moments ss)
           → (t ≡ w.end) ⊎ (IsDue w net t ⊎ IsAwaited ts w net t)
       by_awaited at (inl last) = inl (here ∙ (at ∙ (awaits ∙ last)))
-      by_awaited at (inr there) = inr (inr (in_awaited t (subst (λ (m : ℕ). In m (awaited_moments ss)) (sym (here ∙ (at ∙ awaits))) there)))
+      by_awaited at (inr there) = inr (inr (in_awaited t (subst (λ (m : ℕ). In m (standing_moments ss)) (sym (here ∙ (at ∙ awaits))) there)))
 
-      by_due : (least awaited (due_moments (dues_of w net.actors)) ≡ awaited) ⊎ In (least awaited (due_moments (dues_of w net.actors))) (due_moments (dues_of w net.actors))
+      by_due : (least awaited (moments_of_dues (dues_of w net.actors)) ≡ awaited) ⊎ In (least awaited (moments_of_dues (dues_of w net.actors))) (moments_of_dues (dues_of w net.actors))
           → (t ≡ w.end) ⊎ (IsDue w net t ⊎ IsAwaited ts w net t)
-      by_due (inl at) = by_awaited at (one_of_them w.end (awaited_moments ss))
-      by_due (inr there) = inr (inl (in_due w net only t (subst (λ (m : ℕ). In m (due_moments (dues_of w net.actors))) (sym here) there)))
+      by_due (inl at) = by_awaited at (one_of_them w.end (standing_moments ss))
+      by_due (inr there) = inr (inl (in_due w net only t (subst (λ (m : ℕ). In m (moments_of_dues (dues_of w net.actors))) (sym here) there)))
 
       one : (t ≡ w.end) ⊎ (IsDue w net t ⊎ IsAwaited ts w net t)
-      one = by_due (one_of_them awaited (due_moments (dues_of w net.actors)))
+      one = by_due (one_of_them awaited (moments_of_dues (dues_of w net.actors)))

@@ -25,10 +25,10 @@ use Rattle.journal.specs.Tokens.{HoldsAll}
 use Rattle.locked.specs.Acts.{made}
 use Rattle.duties.specs.declared.due.Due.{Due}
 use Rattle.duties.specs.Ticking.{MoveOwes, dues_of, ticks_of}
-use Rattle.guest_laws.specs.Guests.{HasRecorded, IsGuest, Records, StaysGuest}
+use Rattle.guest_laws.specs.Guests.{HasRecorded, IsGuest, GuestRecords, StaysGuest}
 use Rattle.guest_laws.specs.Works.{entries, next_noted, noted_after, noted_net, step_by}
 use Rattle.net_locks.specs.Moving.{LeavesMoved, MayLeave, MovesTo}
-use Rattle.net_locks.specs.Turns.{HasRoom, Stays, bare}
+use Rattle.net_locks.specs.Turns.{HasRoom, StaysOwn, bare}
 use Rattle.net_locks.proofs.Covered.{covers_move}
 use Rattle.net_base.proofs.Shared.{apart_turned}
 
@@ -42,7 +42,7 @@ at_other k x other n [] = ap (λ (b : Bool). if b then (n, x) ∷ [] else []) ot
 at_other k x other n (y ∷ log) = ap (λ (l : List (ℕ × Noted)). if matches k y then (n, y) ∷ l else l) (at_other k x other (n + 1) log)
 
 module _ (ts : Tasks) (w : World) (r : Roster) (c now m : ℕ) (p p' : Sight) (ds : List Duty) (g : IsGuest w r c p ds) (stamp : ℕ) (o : Outcome)
-    (d : Records w r name.Clock c now (bare (event.Move m)) None p stamp o p')
+    (d : GuestRecords w r name.Clock c now (bare (event.Move m)) None p stamp o p')
     (rec : HasRecorded w r name.Clock c now (bare (event.Move m)) None d.past p ds stamp o p') (numbers : HoldsAll r p) (free : ds ≡ []) where
   whole : d.past ≡ p.seen
   whole = d.whole numbers
@@ -104,7 +104,7 @@ module _ (ts : Tasks) (w : World) (r : Roster) (c now m : ℕ) (p p' : Sight) (d
       ∙ (here (d.past ++ entry ∷ []) ∙ ap moment_noted (sym d.seen)))
 
   -- another caller is with the pass still
-  others_on : (k : ℕ) (es : List Duty) → (k == c) ≡ false → StaysGuest w r k p es p' → IsGuest w r k p' es × Stays w k p p'
+  others_on : (k : ℕ) (es : List Duty) → (k == c) ≡ false → StaysGuest w r k p es p' → IsGuest w r k p' es × StaysOwn w k p p'
   others_on k es other stays =
       let seen : p'.seen ≡ p.seen ++ entry ∷ [] = d.seen ∙ ap (λ (log : List Noted). log ++ entry ∷ []) whole in (
         stays.guest,

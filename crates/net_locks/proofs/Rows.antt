@@ -12,7 +12,7 @@ use Rattle.net_base.specs.Stamped.{In}
 use Rattle.net_base.specs.World.{IsWorld, is_within}
 use Rattle.journal.specs.declared.tokens.Volume.{Volume}
 use Rattle.journal.specs.Tokens.{AreBlank, Distinct}
-use Rattle.net_actors.specs.Numbers.{count_in, is_among, number_in, number_of}
+use Rattle.net_actors.specs.Numbers.{count_in, is_actor_among, number_in_world, number_of}
 use Rattle.ip_route.specs.Kept.{HostWays}
 use Rattle.journal.specs.declared.law.Roster.{Roster}
 use Rattle.net_locks.specs.Rosters.{AreNumbered, AreReplayed, AreUnused, IsNetOf, IsReplayed}
@@ -65,33 +65,33 @@ last_get (y ∷ ys) x (suc k) b is = up (last_get ys x k b is)
 
 module _ (w : World) where
   -- the actor at a number
-  pub at_number : ((a b : ActorName) → has_actor w a ≡ true → has_actor w b ≡ true → number_in w a ≡ number_in w b → a ≡ b)
-      → (n : ℕ) (actors : List ActorName) → AreNumbered w n actors → (k : ℕ) (a b : ActorName) → slice_get actors k ≡ Some b → has_actor w a ≡ true → number_in w a ≡ k → b ≡ a
+  pub at_number : ((a b : ActorName) → has_actor w a ≡ true → has_actor w b ≡ true → number_in_world w a ≡ number_in_world w b → a ≡ b)
+      → (n : ℕ) (actors : List ActorName) → AreNumbered w n actors → (k : ℕ) (a b : ActorName) → slice_get actors k ≡ Some b → has_actor w a ≡ true → number_in_world w a ≡ k → b ≡ a
   at_number apart n actors are k a b is has number =
       let each = are.each k b is in apart b a each.0 has (each.1 ∙ sym number)
 
   -- each actor of the world is among them
-  pub has_number : ((a : ActorName) → has_actor w a ≡ true → number_in w a < count_in w)
-      → ((a b : ActorName) → has_actor w a ≡ true → has_actor w b ≡ true → number_in w a ≡ number_in w b → a ≡ b)
+  pub has_number : ((a : ActorName) → has_actor w a ≡ true → number_in_world w a < count_in w)
+      → ((a b : ActorName) → has_actor w a ≡ true → has_actor w b ≡ true → number_in_world w a ≡ number_in_world w b → a ≡ b)
       → (actors : List ActorName) → AreNumbered w (count_in w) actors → (a : ActorName) → has_actor w a ≡ true → In a actors
   has_number below apart actors are a has =
-      let there = get_within actors (number_in w a) (omega (arith, below a has, are.many)) in
-      subst (λ (b : ActorName). In b actors) (at_number apart (count_in w) actors are (number_in w a) a there.0 there.1 has refl)
-      (get_in actors (number_in w a) there.0 there.1)
+      let there = get_within actors (number_in_world w a) (omega (arith, below a has, are.many)) in
+      subst (λ (b : ActorName). In b actors) (at_number apart (count_in w) actors are (number_in_world w a) a there.0 there.1 has refl)
+      (get_in actors (number_in_world w a) there.0 there.1)
 
   -- one more
-  pub numbered_on : (n : ℕ) (actors : List ActorName) (a : ActorName) → AreNumbered w n actors → has_actor w a ≡ true → number_in w a ≡ n → AreNumbered w (n + 1) (actors ++ a ∷ [])
+  pub numbered_on : (n : ℕ) (actors : List ActorName) (a : ActorName) → AreNumbered w n actors → has_actor w a ≡ true → number_in_world w a ≡ n → AreNumbered w (n + 1) (actors ++ a ∷ [])
   numbered_on n actors a are has number =
       record { many = many_more actors a ∙ ap (λ (k : ℕ). k + 1) are.many; each = λ k b is. place k b (last_get actors a k b is) }
     where
-      place : (k : ℕ) (b : ActorName) → (slice_get actors k ≡ Some b) ⊎ ((k ≡ length actors) × (b ≡ a)) → (has_actor w b ≡ true) × (number_in w b ≡ k)
+      place : (k : ℕ) (b : ActorName) → (slice_get actors k ≡ Some b) ⊎ ((k ≡ length actors) × (b ≡ a)) → (has_actor w b ≡ true) × (number_in_world w b ≡ k)
       place k b (inl e) = are.each k b e
-      place k b (inr e) = (ap (has_actor w) e.1 ∙ has, ap (number_in w) e.1 ∙ (number ∙ (sym are.many ∙ sym e.0)))
+      place k b (inr e) = (ap (has_actor w) e.1 ∙ has, ap (number_in_world w) e.1 ∙ (number ∙ (sym are.many ∙ sym e.0)))
 
   pub numbered_none : AreNumbered w 0 []
   numbered_none = record { many = refl; each = λ k b is. absurd (none-some b is) }
 
-  apart_from : (m : ℕ) (xs : List ActorName) → ((k : ℕ) (a : ActorName) → slice_get xs k ≡ Some a → number_in w a ≡ m + k) → Distinct xs
+  apart_from : (m : ℕ) (xs : List ActorName) → ((k : ℕ) (a : ActorName) → slice_get xs k ≡ Some a → number_in_world w a ≡ m + k) → Distinct xs
   apart_from m [] each = tt
   apart_from m (x ∷ xs) each = (
     λ i. let at_k = in_get xs x i in absurd (omega (arith, each (at_k.0 + 1) x (up at_k.0 at_k.1), each 0 x refl)),
@@ -109,40 +109,40 @@ module _ (w : World) where
   numbered_apart n actors are = apart_from 0 actors (λ k a is. (are.each k a is).1 ∙ zero_on k)
 
 -- the world has each actor that is among as many
-pub among_has : (w : World) (a : ActorName) → is_among (length w.hosts) (length w.media) a ≡ has_actor w a
+pub among_has : (w : World) (a : ActorName) → is_actor_among (length w.hosts) (length w.media) a ≡ has_actor w a
 among_has w (name.Desk h) = refl
 among_has w (name.Dir h p) = refl
 among_has w (name.Conv h p n) = refl
 among_has w (name.Medium m) = refl
 among_has w name.Clock = refl
 
-pub among_in : (w : World) (hosts media : ℕ) (a : ActorName) → hosts ≡ length w.hosts → media ≡ length w.media → is_among hosts media a ≡ has_actor w a
+pub among_in : (w : World) (hosts media : ℕ) (a : ActorName) → hosts ≡ length w.hosts → media ≡ length w.media → is_actor_among hosts media a ≡ has_actor w a
 among_in w hosts media a h m = cc (among_has w a, h, m)
 
-pub number_at : (w : World) (hosts media : ℕ) (a : ActorName) → hosts ≡ length w.hosts → media ≡ length w.media → number_of hosts media a ≡ number_in w a
+pub number_at : (w : World) (hosts media : ℕ) (a : ActorName) → hosts ≡ length w.hosts → media ≡ length w.media → number_of hosts media a ≡ number_in_world w a
 number_at w hosts media a h m = cc (h, m)
 
 module _ (w : World) (r : Roster) (hosts media : ℕ) (ways : List HostWays) (names : List ActorName) (net : IsNetOf w r hosts media ways names) (a : ActorName) where
-  among_is : is_among hosts media a ≡ has_actor w a
+  among_is : is_actor_among hosts media a ≡ has_actor w a
   among_is = cc (among_has w a, net.hosts_are, net.media_are)
 
-  number_is : number_of hosts media a ≡ number_in w a
+  number_is : number_of hosts media a ≡ number_in_world w a
   number_is = cc (net.hosts_are, net.media_are)
 
   -- an actor that isn't among as many isn't there
-  pub absent_at : is_among hosts media a ≡ false → has_actor w a ≡ false
+  pub absent_at : is_actor_among hosts media a ≡ false → has_actor w a ≡ false
   absent_at is = sym among_is ∙ is
 
   -- one that is, is
-  pub present_at : is_among hosts media a ≡ true → has_actor w a ≡ true
+  pub present_at : is_actor_among hosts media a ≡ true → has_actor w a ≡ true
   present_at is = sym among_is ∙ is
 
   -- its lock stands at its number
-  pub within_at : ((b : ActorName) → has_actor w b ≡ true → number_in w b < count_in w) → is_among hosts media a ≡ true → number_of hosts media a < length names
+  pub within_at : ((b : ActorName) → has_actor w b ≡ true → number_in_world w b < count_in w) → is_actor_among hosts media a ≡ true → number_of hosts media a < length names
   within_at below is = omega (arith, below a (sym among_is ∙ is), number_is, ap (λ (l : List ActorName). length l) net.actors_are, net.roster.actors_are.many)
 
-  pub found_at : ((b d : ActorName) → has_actor w b ≡ true → has_actor w d ≡ true → number_in w b ≡ number_in w d → b ≡ d)
-      → is_among hosts media a ≡ true → (b : ActorName) → slice_get names (number_of hosts media a) ≡ Some b → b ≡ a
+  pub found_at : ((b d : ActorName) → has_actor w b ≡ true → has_actor w d ≡ true → number_in_world w b ≡ number_in_world w d → b ≡ d)
+      → is_actor_among hosts media a ≡ true → (b : ActorName) → slice_get names (number_of hosts media a) ≡ Some b → b ≡ a
   found_at apart is b there =
       at_number w apart (count_in w) r.actors net.roster.actors_are (number_of hosts media a) a b
       (subst (λ (l : List ActorName). slice_get l (number_of hosts media a) ≡ Some b) net.actors_are there) (sym among_is ∙ is) (sym number_is)

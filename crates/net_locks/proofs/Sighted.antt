@@ -22,12 +22,12 @@ use Rattle.calm_laws.specs.Could.{could, is_full}
 use Rattle.journal.specs.declared.law.Roster.{Roster}
 use Rattle.journal.specs.declared.tokens.Sight.{Sight}
 use Rattle.journal.specs.Rule.{Held}
-use Rattle.journal.specs.Tokens.{Holds, HoldsAll, Looked}
+use Rattle.journal.specs.Tokens.{HoldsPass, HoldsAll, Looked}
 use Rattle.locked.specs.Acts.{state_at}
-use Rattle.guest_laws.specs.Named.{answer_in, opening}
+use Rattle.guest_laws.specs.Named.{answer_in, named_opening}
 use Rattle.guest_laws.specs.Works.{entries, noted_net}
 use Rattle.net_locks.specs.declared.clock.Standing.{Standing}
-use Rattle.net_locks.specs.Standings.{AllStand, IsBare, StandsAt, ask_of}
+use Rattle.net_locks.specs.Standings.{AllStand, IsBare, StandsAt, standing_ask}
 use Rattle.net_locks.specs.Turns.{bare}
 
 -- A look shows nothing more.
@@ -45,14 +45,14 @@ pub holds_all : (ts : Tasks) (w : World) (r : Roster) (p : Sight) (ss : List Sta
 holds_all ts w r p ss stand c lt =
     let there = stand.all c lt in
     let st = stand.each there.0 there.1 in
-    subst (λ (k : ℕ). (es : List (ℕ × Noted)) × Holds p k es) there.2 (st.guest.list, st.guest.held)
+    subst (λ (k : ℕ). (es : List (ℕ × Noted)) × HoldsPass p k es) there.2 (st.guest.list, st.guest.held)
 
 -- What is seen of an actor.
 
 module _ (w : World) (p p' : Sight) (same : p' ≡ p) (at_lock a : ActorName) (is : at_lock ≡ a) where
   -- whether a work is ready at it
-  pub ready_seen : (now : ℕ) (work : Work) (b : Bool) → b ≡ is_some (answer_in w (state_at (opening w) (answer_in w) at_lock p'.seen) now work)
-      → is_some (answer_in w (state_at (opening w) (answer_in w) at_lock p'.seen) now work) ≡ is_some (actor_step w at_lock ((noted_net w p'.seen).actors at_lock) now work)
+  pub ready_seen : (now : ℕ) (work : Work) (b : Bool) → b ≡ is_some (answer_in w (state_at (named_opening w) (answer_in w) at_lock p'.seen) now work)
+      → is_some (answer_in w (state_at (named_opening w) (answer_in w) at_lock p'.seen) now work) ≡ is_some (actor_step w at_lock ((noted_net w p'.seen).actors at_lock) now work)
       → b ≡ is_some (actor_step w a ((noted_net w p.seen).actors a) now work)
   ready_seen now work b told law =
       told
@@ -113,7 +113,7 @@ module _ (ts : Tasks) (w : World) (r : Roster) (p : Sight) (s : Standing) (st : 
   owes_so : owes net s.caller ≡ s.owes
   owes_so = ap (λ (ds : List Duty). nat_lt 0 (length ds)) st.guest.owed ∙ (positive (length st.owed) ∙ sym st.owes_is)
 
-  goes_so : net.past ≡ entries p.seen → can_go_on_by ts w net s.caller ≡ is_ready w net (option_map ask_of s.next)
+  goes_so : net.past ≡ entries p.seen → can_go_on_by ts w net s.caller ≡ is_ready w net (option_map standing_ask s.next)
   goes_so past = ap (λ (h : List Entry). is_ready w net (next_of_by ts w (caller_of w s.caller) h s.caller)) past ∙ ap (is_ready w net) (sym st.next_is)
 
   pub full_so : net.past ≡ entries p.seen → s.full ≡ is_full net s.caller
@@ -130,15 +130,15 @@ module _ (ts : Tasks) (w : World) (r : Roster) (p : Sight) (s : Standing) (st : 
       → (b : Bool) → b ≡ is_some (actor_step w a (net.actors a) now work) → b ≡ could ts w net s.caller
   goes_next past free a work comes now here b is =
       let given : work ≡ bare work.event = subst (λ (o : Option (ActorName × Work)). IsBare o) comes st.given in
-      let ready : b ≡ is_ready w net (option_map ask_of s.next) =
+      let ready : b ≡ is_ready w net (option_map standing_ask s.next) =
       is
       ∙ (ap (λ (m : ℕ). is_some (actor_step w a (net.actors a) m work)) here
       ∙ (ap (λ (x : Work). is_some (actor_step w a (net.actors a) net.moment x)) given
-      ∙ ap (λ (o : Option (ActorName × Work)). is_ready w net (option_map ask_of o)) (sym comes))) in
+      ∙ ap (λ (o : Option (ActorName × Work)). is_ready w net (option_map standing_ask o)) (sym comes))) in
       or_right (owes net s.caller) (can_go_on_by ts w net s.caller) b (owes_so ∙ free) (ready ∙ sym (goes_so past))
 
   -- or nothing comes next
   pub goes_none : net.past ≡ entries p.seen → s.owes ≡ false → s.next ≡ None → false ≡ could ts w net s.caller
   goes_none past free none =
       or_right (owes net s.caller) (can_go_on_by ts w net s.caller) false (owes_so ∙ free)
-      (ap (λ (o : Option (ActorName × Work)). is_ready w net (option_map ask_of o)) (sym none) ∙ sym (goes_so past))
+      (ap (λ (o : Option (ActorName × Work)). is_ready w net (option_map standing_ask o)) (sym none) ∙ sym (goes_so past))

@@ -24,7 +24,7 @@ use Rattle.journal.specs.declared.law.Roster.{Roster}
 use Rattle.journal.specs.declared.tokens.Sight.{Sight}
 use Rattle.guest_laws.specs.Works.{entries, noted_net}
 use Rattle.net_locks.specs.declared.clock.Standing.{Standing}
-use Rattle.net_locks.specs.Standings.{AllStand, StandsAt, ask_of, has_left}
+use Rattle.net_locks.specs.Standings.{AllStand, StandsAt, standing_ask, has_left}
 use Rattle.net_base.proofs.Shared.{there_at}
 
 -- A script has something to record next exactly where a step is left.
@@ -98,7 +98,7 @@ within (x ∷ xs) (suc k) s is = omega (arith, within xs k s is)
 and_second : (a b : Bool) → (a && b) ≡ false → a ≡ true → b ≡ false
 and_second a b is left = sym (ap (λ (x : Bool). x && b) left) ∙ is
 
-mapped : (o : Option (ActorName × Work)) → is_some (option_map ask_of o) ≡ is_some o
+mapped : (o : Option (ActorName × Work)) → is_some (option_map standing_ask o) ≡ is_some o
 mapped None = refl
 mapped (Some x) = refl
 

@@ -25,15 +25,15 @@ use Rattle.net_base.specs.Tasks.{Tasks}
 use Rattle.journal.specs.declared.law.Roster.{Roster}
 use Rattle.journal.specs.declared.tokens.Sight.{Sight}
 use Rattle.journal.specs.Rule.{has_caller}
-use Rattle.locked.specs.Acts.{IsNotReady, made, without_copy, state_at}
+use Rattle.locked.specs.Acts.{IsNotReady, made, act_without_copy, state_at}
 use Rattle.ip_route.specs.Kept.{HostWays}
 use Rattle.duties.specs.Owing.{Owes, if_any, most_following, most_owed}
 use Rattle.duties.specs.Queue.{Queue}
 use Rattle.duties.specs.WaysOf.{AreWaysOfWorld}
-use Rattle.guest_laws.specs.Guests.{HasRecorded, IsGuest, Records, StaysGuest}
-use Rattle.guest_laws.specs.Named.{answer_in, opening}
+use Rattle.guest_laws.specs.Guests.{HasRecorded, IsGuest, GuestRecords, StaysGuest}
+use Rattle.guest_laws.specs.Named.{answer_in, named_opening}
 use Rattle.guest_laws.specs.Works.{entries, noted_net}
-use Rattle.net_locks.specs.Turns.{HasRoom, IsFull, Recorded, Stays, Unready}
+use Rattle.net_locks.specs.Turns.{HasRoom, IsFull, RecordedTurn, StaysOwn, Unready}
 use Rattle.journal.proofs.Steps.{in_has_caller}
 
 -- Room.
@@ -71,7 +71,7 @@ no_move (name.Conv h p n) e other is = is
 no_move (name.Medium m) e other is = is
 
 module _ (ts : Tasks) (w : World) (r : Roster) (c now : ℕ) (a : ActorName) (work : Work) (cites : Option ℕ) (p p' : Sight) (ds : List Duty)
-    (g : IsGuest w r c p ds) (stamp : ℕ) (o : Outcome) (d : Records w r a c now work cites p stamp o p')
+    (g : IsGuest w r c p ds) (stamp : ℕ) (o : Outcome) (d : GuestRecords w r a c now work cites p stamp o p')
     (rec : HasRecorded w r a c now work cites d.past p ds stamp o p') where
   pub new_duties : List Duty
   new_duties = spec.duties w (noted_net w d.past).actors a stamp work rec.step
@@ -84,12 +84,12 @@ module _ (ts : Tasks) (w : World) (r : Roster) (c now : ℕ) (a : ActorName) (wo
       → new.list ≡ drop 1 ds ++ spec.duties w (noted_net w d.past).actors a stamp work rec.step
   adds ks ways other old new owes is =
       owes w ways (noted_net w d.past).actors rec.step
-      (record { before = (noted_net w d.past).actors a; now = now; gives = rec.stepped; outcome = sym (ap without_copy rec.outcome) }) (no_move a work.event other)
+      (record { before = (noted_net w d.past).actors a; now = now; gives = rec.stepped; outcome = sym (ap act_without_copy rec.outcome) }) (no_move a work.event other)
       ∙ ap (λ (l : List Duty). l ++ spec.duties w (noted_net w d.past).actors a stamp work rec.step) is
 
   pub recorded : HasRoom c p → IsInTimeBy ts (noted_net w d.past) w work.event → (ds' : List Duty)
       → ds' ≡ drop 1 ds ++ spec.duties w (noted_net w d.past).actors a stamp work rec.step → (answer : Reply) → answer ≡ o.reply
-      → Recorded ts w c now a work cites p ds stamp answer p' ds'
+      → RecordedTurn ts w c now a work cites p ds stamp answer p' ds'
   recorded room intime ds' owed answer is =
       record {
         room = room;
@@ -118,9 +118,9 @@ module _ (w : World) (r : Roster) (c : ℕ) (p : Sight) (ds : List Duty) (g : Is
   pub has_number : has_caller p.held ≡ true
   has_number = in_has_caller p.held c g.list g.held
 
-  pub unready : (now : ℕ) (a : ActorName) (work : Work) (p' : Sight) (front : ℕ) → HasRoom c p → IsNotReady (opening w) (answer_in w) r a now work p front p'
+  pub unready : (now : ℕ) (a : ActorName) (work : Work) (p' : Sight) (front : ℕ) → HasRoom c p → IsNotReady (named_opening w) (answer_in w) r a now work p front p'
       → StaysGuest w r c p ds p'
-      → is_some (answer_in w (state_at (opening w) (answer_in w) a p'.seen) now work) ≡ is_some (actor_step w a ((noted_net w p'.seen).actors a) now work)
+      → is_some (answer_in w (state_at (named_opening w) (answer_in w) a p'.seen) now work) ≡ is_some (actor_step w a ((noted_net w p'.seen).actors a) now work)
       → Unready w c now a work p p'
   unready now a work p' front room n stays same =
       record {
@@ -137,7 +137,7 @@ on_ok P (Err e) is says = absurd (true≢false is)
 -- An actor that isn't there.
 
 -- nothing more was seen
-stays_there : (w : World) (c : ℕ) (p : Sight) → Stays w c p p
+stays_there : (w : World) (c : ℕ) (p : Sight) → StaysOwn w c p p
 stays_there w c p =
     record {
       before = ([], append-nil p.seen);

@@ -27,7 +27,7 @@ use Rattle.net_locks.specs.declared.turn.Turn.TheVariants as turn
 use Rattle.net_locks.specs.declared.visitor.Bearer.{Bearer}
 use Rattle.net_locks.specs.declared.visitor.Visitor.{Visitor}
 use Rattle.net_locks.specs.Knowing.{IsKnown}
-use Rattle.net_locks.specs.Turns.{HasRoom, Turned, own}
+use Rattle.net_locks.specs.Turns.{HasRoom, Turned, own_seen}
 use Rattle.net_locks.specs.Visitors.{Does, IsSameBearer, IsVisitor, Misses, Visited}
 use Rattle.net_locks.proofs.Covered.{covers_noted, recorded_grows, turned_grows}
 use Rattle.net_locks.proofs.Turning.{adds, recorded}
@@ -42,13 +42,13 @@ visitor b q t k = record { bearer = b; duties = q; touched = t; calendar = k }
 module _ {J : Type 0} (w : World) (r : Roster) (b b' : Bearer J) (same : IsSameBearer b b') where
   -- what is known of the caller is known of the bearer
   pub is_visitor : (q : Queue) (t : Marks) (k : Calendar) → IsGuest w r b.caller b'.pass q.list → b'.now ≡ moment_noted b'.pass.seen → b.now < 2 ^ 63
-      → Covers (own b.caller b'.pass) t → IsKnown w b'.pass.seen k → IsVisitor w r (visitor b' q t k)
+      → Covers (own_seen b.caller b'.pass) t → IsKnown w b'.pass.seen k → IsVisitor w r (visitor b' q t k)
   is_visitor q t k guest here early covers known =
       record {
         guest = subst (λ (n : ℕ). IsGuest w r n b'.pass q.list) (sym same.caller) guest;
         here = here;
         early = subst (λ (n : ℕ). n < 2 ^ 63) (sym same.now) early;
-        covers = subst (λ (n : ℕ). Covers (own n b'.pass) t) (sym same.caller) covers;
+        covers = subst (λ (n : ℕ). Covers (own_seen n b'.pass) t) (sym same.caller) covers;
         known = known;
       }
 
@@ -67,7 +67,7 @@ module _ {J : Type 0} (ts : Tasks) (w : World) (r : Roster) (a : ActorName) (wor
         recorded ts w r v.bearer.caller v.bearer.now a work cites v.bearer.pass b'.pass v.duties.list is.guest stamp o d.records d.recorded room d.in_time q'.list owed
         o.reply refl
 
-    pub done_visitor : StaysKnown w → (t t' : Marks) → Covers (own v.bearer.caller v.bearer.pass) t
+    pub done_visitor : StaysKnown w → (t t' : Marks) → Covers (own_seen v.bearer.caller v.bearer.pass) t
         → ((es : List (ℕ × Noted)) (x : Noted) → Covers es t → x.entry.actor ≡ a → Covers (es ++ (stamp, x) ∷ []) t')
         → IsVisitor w r (visitor b' q' t' v.calendar)
     done_visitor stays t t' covers notes =
@@ -82,7 +82,7 @@ module _ {J : Type 0} (ts : Tasks) (w : World) (r : Roster) (a : ActorName) (wor
     missed_turn k =
         subst (λ (l : List Duty). Turned ts w v.bearer.caller v.bearer.now a work cites v.bearer.pass v.duties.list t b'.pass l) (sym list) m.turned
 
-    pub missed_visitor : StaysKnown w → (k : Marks) → Covers (own v.bearer.caller v.bearer.pass) k → IsVisitor w r (visitor b' q k v.calendar)
+    pub missed_visitor : StaysKnown w → (k : Marks) → Covers (own_seen v.bearer.caller v.bearer.pass) k → IsVisitor w r (visitor b' q k v.calendar)
     missed_visitor stays k covers =
         is_visitor w r v.bearer b' same q k v.calendar (subst (λ (l : List Duty). IsGuest w r v.bearer.caller b'.pass l) (sym list) m.guest) here is.early
         (subst (λ (es : List (ℕ × Noted)). Covers es k) (sym m.alone) covers)

@@ -9,7 +9,7 @@ use Rattle.net_base.specs.declared.world.World.{World}
 use Rattle.net_base.specs.Actors.{Actor, actor_step, opening_actor}
 use Rattle.net_base.specs.Net.{WorkAt, played, stepped_to}
 use Rattle.locked.specs.Acts.{state}
-use Rattle.guest_laws.specs.Named.{Named, named, named_step, opening, answer_in}
+use Rattle.guest_laws.specs.Named.{Named, named, named_step, named_opening, answer_in}
 use Rattle.guest_laws.proofs.Nets.{named_left}
 use Rattle.guest_laws.proofs.Views.{some_under}
 
@@ -20,14 +20,14 @@ pub as_many : (works : List (ℕ × Noted)) → length (plays works) ≡ length 
 as_many [] = refl
 as_many (x ∷ xs) = ap suc (as_many xs)
 
-state_from : (w : World) (a : ActorName) (s : Actor) (works : List (ℕ × Noted)) → state (opening w) (answer_in w) (named a s) works ≡ named a (played w a s (plays works))
+state_from : (w : World) (a : ActorName) (s : Actor) (works : List (ℕ × Noted)) → state (named_opening w) (answer_in w) (named a s) works ≡ named a (played w a s (plays works))
 state_from w a s [] = refl
 state_from w a s (x ∷ xs) =
-    ap (λ (n : Named). state (opening w) (answer_in w) n xs) (named_left a s (actor_step w a s x.1.entry.moment x.1.work))
+    ap (λ (n : Named). state (named_opening w) (answer_in w) n xs) (named_left a s (actor_step w a s x.1.entry.moment x.1.work))
     ∙ state_from w a (stepped_to s (actor_step w a s x.1.entry.moment x.1.work)) xs
 
 -- the state of the machine that works led to
-pub led_to : (w : World) (a : ActorName) (works : List (ℕ × Noted)) (s : Named) → s ≡ state (opening w) (answer_in w) (opening w a) works → s.actor ≡ played w a (opening_actor w.timers a) (plays works)
+pub led_to : (w : World) (a : ActorName) (works : List (ℕ × Noted)) (s : Named) → s ≡ state (named_opening w) (answer_in w) (named_opening w a) works → s.actor ≡ played w a (opening_actor w.timers a) (plays works)
 led_to w a works s is = ap (λ (n : Named). n.actor) (is ∙ state_from w a (opening_actor w.timers a) works)
 
 -- a step of the actor is one of the machine

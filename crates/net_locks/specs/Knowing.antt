@@ -9,7 +9,7 @@ use Rattle.net_base.specs.Actors.{Actor}
 use Rattle.net_base.specs.Duties.{conversations}
 use Rattle.duties.specs.declared.due.Due.{Due}
 use Rattle.duties.specs.Ticking.{due_at, dues_of}
-use Rattle.due_moments.specs.Marks.{is_among}
+use Rattle.due_moments.specs.Marks.{is_marked_among}
 use Rattle.guest_laws.specs.Works.{noted_net}
 use Rattle.net_locks.specs.declared.calendar.Calendar.{Calendar}
 use Rattle.net_locks.specs.declared.clock.Standing.{Standing}
@@ -24,7 +24,7 @@ due_from h p n g due = record { host = h; proto = p; slot = n; generation = g; d
 
 -- when a conversation is due: one of these as it is now, and another as it was
 abbrev pub mixed : (ActorName → Actor) → (ActorName → Actor) → List ActorName → ActorName → Option Due
-mixed now old as' a = if is_among as' a then due_at now a else due_at old a
+mixed now old as' a = if is_marked_among as' a then due_at now a else due_at old a
 
 -- so the conversations are due
 abbrev pub AreMixed : World → (ActorName → Actor) → (ActorName → Actor) → List ActorName → List Due → Type 0
@@ -40,5 +40,5 @@ touched_count [] = 0
 touched_count (s ∷ ss) = length s.touched.actors + touched_count ss
 
 -- each of these callers has told all from this stamp on
-abbrev pub is_told : ℕ → List Standing → Bool
-is_told at ss = list_all (λ (s : Standing). nat_le s.touched.since at) ss
+abbrev pub have_told : ℕ → List Standing → Bool
+have_told at ss = list_all (λ (s : Standing). nat_le s.touched.since at) ss

@@ -20,7 +20,7 @@ use Rattle.guest_laws.specs.Guests.{IsGuest}
 use Rattle.guest_laws.specs.Works.{noted_net}
 use Rattle.net_locks.specs.declared.clock.Advance.{Advance}
 use Rattle.net_locks.specs.declared.clock.Advance.TheVariants as advance
-use Rattle.net_locks.specs.Turns.{HasRoom, Recorded, Stays, bare, own}
+use Rattle.net_locks.specs.Turns.{HasRoom, RecordedTurn, StaysOwn, bare, own_seen}
 
 -- the least caller that owes a duty or whose next event is ready
 pub record IsLeast (ts : Tasks) (w : World) (net : Net) (c : ℕ) : Type 0 where
@@ -30,13 +30,13 @@ pub record IsLeast (ts : Tasks) (w : World) (net : Net) (c : ℕ) : Type 0 where
 
 -- what keeps the clock where it is, where the net stands so. What limits a run is told before what keeps the clock from
 -- moving, and before how the run ended
-abbrev pub Keeps : Tasks → World → Net → Advance → Type 0
-Keeps ts w net (advance.Moved m) = ⊥
-Keeps ts w net advance.Done = done_by ts w net ≡ true
-Keeps ts w net advance.Stopped = stopped_by ts w net ≡ true
-Keeps ts w net (advance.NotCalm c) = IsLeast ts w net c × (limited_by ts w net ≡ false)
-Keeps ts w net advance.Limit = limited_by ts w net ≡ true
-Keeps ts w net advance.Memory = ⊥
+abbrev pub KeepsMoving : Tasks → World → Net → Advance → Type 0
+KeepsMoving ts w net (advance.Moved m) = ⊥
+KeepsMoving ts w net advance.Done = done_by ts w net ≡ true
+KeepsMoving ts w net advance.Stopped = stopped_by ts w net ≡ true
+KeepsMoving ts w net (advance.NotCalm c) = IsLeast ts w net c × (limited_by ts w net ≡ false)
+KeepsMoving ts w net advance.Limit = limited_by ts w net ≡ true
+KeepsMoving ts w net advance.Memory = ⊥
 
 -- the clock may move, and has room
 pub record MayMove (ts : Tasks) (w : World) (c : ℕ) (p : Sight) : Type 0 where
@@ -47,13 +47,13 @@ pub record MayMove (ts : Tasks) (w : World) (c : ℕ) (p : Sight) : Type 0 where
 
 abbrev pub Halts : Tasks → World → ℕ → Sight → Option Advance → Type 0
 Halts ts w c p None = MayMove ts w c p
-Halts ts w c p (Some answer) = Keeps ts w (noted_net w p.seen) answer
+Halts ts w c p (Some answer) = KeepsMoving ts w (noted_net w p.seen) answer
 
 -- the clock's move to this moment was recorded, after all that had been seen
 pub record MovesTo (ts : Tasks) (w : World) (c now m : ℕ) (p : Sight) (ds : List Duty) (p' : Sight) (ds' : List Duty) : Type 0 where
   pub stamp : ℕ
   pub reply : Reply
-  pub turn : Recorded ts w c now name.Clock (bare (event.Move m)) None p ds stamp reply p' ds'
+  pub turn : RecordedTurn ts w c now name.Clock (bare (event.Move m)) None p ds stamp reply p' ds'
   pub whole : turn.past ≡ p.seen
 
 -- what the entry leaves of the clock, which owed nothing, and of the others by its pass
@@ -62,8 +62,8 @@ pub record LeavesMoved (ts : Tasks) (w : World) (r : Roster) (c now m : ℕ) (p 
   pub entry : MovesTo ts w c now m p ds p' ds'
   pub free : ds ≡ []
   pub here : m ≡ moment_noted p'.seen
-  pub covers : (t : Marks) → Covers (own c p) t → Covers (own c p') t
-  pub others : (k : ℕ) (es : List Duty) → IsGuest w r k p es → (k == c) ≡ false → IsGuest w r k p' es × Stays w k p p'
+  pub covers : (t : Marks) → Covers (own_seen c p) t → Covers (own_seen c p') t
+  pub others : (k : ℕ) (es : List Duty) → IsGuest w r k p es → (k == c) ≡ false → IsGuest w r k p' es × StaysOwn w k p p'
 
 -- by whether it was recorded
 abbrev pub MayLeave : Tasks → World → Roster → ℕ → ℕ → ℕ → Sight → List Duty → Bool → Sight → List Duty → Type 0

@@ -7,17 +7,17 @@ use Rattle.net_base.specs.Callers.{caller_count}
 use Rattle.net_base.specs.declared.noted.Noted.{Noted}
 use Rattle.net_base.specs.Stamped.{In}
 use Rattle.locked.specs.Acts.{Replays}
-use Rattle.guest_laws.specs.Named.{answer_in, opening}
+use Rattle.guest_laws.specs.Named.{answer_in, named_opening}
 use Rattle.ip_route.specs.Kept.{HostWays}
 use Rattle.journal.specs.declared.law.Roster.{Roster}
 use Rattle.journal.specs.declared.tokens.Volume.{Volume}
 use Rattle.duties.specs.WaysOf.{AreWaysOfWorld}
-use Rattle.net_actors.specs.Numbers.{count_in, number_in}
+use Rattle.net_actors.specs.Numbers.{count_in, number_in_world}
 
 -- the first n actors of the world, each at its number
 pub record AreNumbered (w : World) (n : ℕ) (actors : List ActorName) : Type 0 where
   pub many : length actors ≡ n
-  pub each : (k : ℕ) (a : ActorName) → slice_get actors k ≡ Some a → (has_actor w a ≡ true) × (number_in w a ≡ k)
+  pub each : (k : ℕ) (a : ActorName) → slice_get actors k ≡ Some a → (has_actor w a ≡ true) × (number_in_world w a ≡ k)
 
 -- all callers of the world, and all actors in the order of their numbers
 pub record IsRosterOf (w : World) (r : Roster) : Type 0 where
@@ -39,7 +39,7 @@ AreUnused (b ∷ bs) = (b.list ≡ []) × AreUnused bs
 
 -- each of these entries was a step of the actor, in the state to which those before it led
 abbrev pub IsReplayed : World → ActorName → List (ℕ × Noted) → Type 0
-IsReplayed w a list = Replays (opening w) (answer_in w) (opening w a) list
+IsReplayed w a list = Replays (named_opening w) (answer_in w) (named_opening w a) list
 
 -- each of these books is so
 abbrev pub AreReplayed : World → List Volume → Type 0

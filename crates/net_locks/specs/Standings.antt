@@ -20,13 +20,13 @@ use Rattle.guest_laws.specs.Own.{AreTimely}
 use Rattle.guest_laws.specs.Works.{entries}
 use Rattle.net_locks.specs.declared.clock.Busy.{Busy}
 use Rattle.net_locks.specs.declared.clock.Standing.{Standing}
-use Rattle.net_locks.specs.Turns.{bare, own}
+use Rattle.net_locks.specs.Turns.{bare, own_seen}
 
 -- How callers stand.
 
 -- the event of a work at an actor
-abbrev pub ask_of : ActorName × Work → Ask
-ask_of x = record { actor = x.0; event = x.1.event }
+abbrev pub standing_ask : ActorName × Work → Ask
+standing_ask x = record { actor = x.0; event = x.1.event }
 
 -- nothing is given to it
 abbrev pub IsBare : Option (ActorName × Work) → Type 0
@@ -39,11 +39,11 @@ pub record StandsAt (ts : Tasks) (w : World) (r : Roster) (p : Sight) (s : Stand
   pub owed : List Duty
   pub guest : IsGuest w r s.caller p owed
   pub owes_is : s.owes ≡ not (length owed == 0)
-  pub full_is : s.full ≡ (length (own s.caller p) == 131072)
-  pub next_is : option_map ask_of s.next ≡ next_by ts w (entries p.seen) s.caller
+  pub full_is : s.full ≡ (length (own_seen s.caller p) == 131072)
+  pub next_is : option_map standing_ask s.next ≡ next_by ts w (entries p.seen) s.caller
   pub given : IsBare s.next
   pub timely : AreTimely ts w s.caller p.seen
-  pub covers : Covers (own s.caller p) s.touched
+  pub covers : Covers (own_seen s.caller p) s.touched
 
 abbrev pub HasStanding : ℕ → List Standing → Type 0
 HasStanding c ss = (s : Standing) × In s ss × (s.caller ≡ c)
@@ -66,22 +66,22 @@ DoesAny test cs false = (c : ℕ) → In c cs → test c ≡ false
 DoesAny test cs true = (c : ℕ) × In c cs × (test c ≡ true)
 
 -- of these callers the least that could record, and whether a full one could
-pub record Finds (goes full : ℕ → Bool) (cs : List ℕ) (found : Busy) : Type 0 where
+pub record FindsBusy (goes full : ℕ → Bool) (cs : List ℕ) (found : Busy) : Type 0 where
   pub least_is : IsLeastOf goes cs found.least
   pub full_is : DoesAny (λ (c : ℕ). full c && goes c) cs found.full
 
-abbrev pub callers_of : List Standing → List ℕ
-callers_of ss = map (λ (s : Standing). s.caller) ss
+abbrev pub standing_callers : List Standing → List ℕ
+standing_callers ss = map (λ (s : Standing). s.caller) ss
 
 -- the moment for which a caller waits
 abbrev pub awaited_of : Standing → Option ℕ
-awaited_of s = awaited_moment (option_map ask_of s.next)
+awaited_of s = awaited_moment (option_map standing_ask s.next)
 
-abbrev pub awaited_moments : List Standing → List ℕ
-awaited_moments ss = filter_map awaited_of ss
+abbrev pub standing_moments : List Standing → List ℕ
+standing_moments ss = filter_map awaited_of ss
 
-abbrev pub due_moments : List Due → List ℕ
-due_moments dues = map (λ (d : Due). d.due) dues
+abbrev pub moments_of_dues : List Due → List ℕ
+moments_of_dues dues = map (λ (d : Due). d.due) dues
 
 -- it is one of the first so many callers, and has an event left to record
 abbrev pub has_left : ℕ → Standing → Bool

@@ -18,57 +18,57 @@ use Rattle.net_base.specs.Next.{next_by}
 use Rattle.net_base.specs.Stamped.{at}
 use Rattle.net_base.specs.Tasks.{Tasks}
 use Rattle.journal.specs.declared.tokens.Sight.{Sight}
-use Rattle.locked.specs.Acts.{made, without_copy}
+use Rattle.locked.specs.Acts.{made, act_without_copy}
 use Rattle.guest_laws.specs.Works.{entries, noted_net}
-use Rattle.guest_laws.specs.Own.{AreNext, AreTimely, StandsStill}
+use Rattle.guest_laws.specs.Own.{AreNext, AreTimely, OwnStandsStill}
 use Rattle.net_locks.specs.declared.turn.Turn.{Turn}
 use Rattle.net_locks.specs.declared.turn.Turn.TheVariants as turn
 
 -- the caller's entries, of all that was seen
-abbrev pub own : ℕ → Sight → List (ℕ × Noted)
-own c p = at (number.Caller c) p.seen
+abbrev pub own_seen : ℕ → Sight → List (ℕ × Noted)
+own_seen c p = at (number.Caller c) p.seen
 
 abbrev pub HasRoom : ℕ → Sight → Type 0
-HasRoom c p = length (own c p) < 131072
+HasRoom c p = length (own_seen c p) < 131072
 
 abbrev pub IsFull : ℕ → Sight → Type 0
-IsFull c p = length (own c p) ≡ 131072
+IsFull c p = length (own_seen c p) ≡ 131072
 
 -- one entry of the caller was recorded: its actor's step in the net of the past, and its first duty is done
-pub record Recorded (ts : Tasks) (w : World) (c now : ℕ) (a : ActorName) (work : Work) (cites : Option ℕ) (p : Sight)
+pub record RecordedTurn (ts : Tasks) (w : World) (c now : ℕ) (a : ActorName) (work : Work) (cites : Option ℕ) (p : Sight)
     (ds : List Duty) (stamp : ℕ) (answer : Reply) (p' : Sight) (ds' : List Duty) : Type 0 where
   pub room : HasRoom c p
   pub past : List Noted
   pub stamp_is : length past ≡ stamp
   pub before : IsPrefix p.seen past
-  pub alone : at (number.Caller c) past ≡ own c p
+  pub alone : at (number.Caller c) past ≡ own_seen c p
   pub step : Step Actor
   pub stepped : actor_step w a ((noted_net w past).actors a) now work ≡ Some step
   pub reply : answer ≡ step.outcome.reply
-  pub seen : p'.seen ≡ past ++ made a c now work cites (without_copy step.outcome) ∷ []
+  pub seen : p'.seen ≡ past ++ made a c now work cites (act_without_copy step.outcome) ∷ []
   pub owed : ds' ≡ drop 1 ds ++ duties w (noted_net w past).actors a stamp work step
   pub nexts : IsAsked ds (caller_of w c) (next_by ts w (entries p.seen) c)
-      (made a c now work cites (without_copy step.outcome)).entry
+      (made a c now work cites (act_without_copy step.outcome)).entry
       → AreNext ts w c p.seen → AreNext ts w c p'.seen
   pub timely : AreTimely ts w c p.seen → AreTimely ts w c p'.seen
 
 -- more was seen, but no entry of the caller
-pub record Stays (w : World) (c : ℕ) (p p' : Sight) : Type 0 where
+pub record StaysOwn (w : World) (c : ℕ) (p p' : Sight) : Type 0 where
   pub before : IsPrefix p.seen p'.seen
-  pub alone : own c p' ≡ own c p
-  pub stands : StandsStill w c p.seen p'.seen
+  pub alone : own_seen c p' ≡ own_seen c p
+  pub stands : OwnStandsStill w c p.seen p'.seen
 
 -- after all that was seen the work isn't ready
 pub record Unready (w : World) (c now : ℕ) (a : ActorName) (work : Work) (p : Sight) (p' : Sight) : Type 0 where
   pub room : HasRoom c p
-  pub stays : Stays w c p p'
+  pub stays : StaysOwn w c p p'
   pub unready : actor_step w a ((noted_net w p'.seen).actors a) now work ≡ None
 
 -- what a turn with this work at this actor did, by its answer
 abbrev pub Turned : Tasks → World → ℕ → ℕ → ActorName → Work → Option ℕ → Sight → List Duty → Turn → Sight → List Duty
     → Type 0
 Turned ts w c now a work cites p ds (turn.Recorded stamp answer) p' ds' =
-    Recorded ts w c now a work cites p ds stamp answer p' ds'
+    RecordedTurn ts w c now a work cites p ds stamp answer p' ds'
 Turned ts w c now a work cites p ds turn.NotReady p' ds' = Unready w c now a work p p' × (ds' ≡ ds)
 Turned ts w c now a work cites p ds turn.Owes p' ds' = ⊥
 Turned ts w c now a work cites p ds turn.Limit p' ds' = IsFull c p × (p' ≡ p) × (ds' ≡ ds)

@@ -14,21 +14,21 @@ use Rattle.journal.specs.declared.law.Roster.{Roster}
 use Rattle.journal.specs.declared.tokens.Sight.{Sight}
 use Rattle.due_moments.specs.Marks.{Covers, Marks}
 use Rattle.duties.specs.Owing.{most_owed}
-use Rattle.guest_laws.specs.Guests.{HasRecorded, IsGuest, IsTurn, Records}
+use Rattle.guest_laws.specs.Guests.{HasRecorded, IsGuest, IsGuestTurn, GuestRecords}
 use Rattle.guest_laws.specs.Works.{noted_net}
 use Rattle.net_locks.specs.declared.calendar.Calendar.{Calendar}
 use Rattle.net_locks.specs.declared.turn.Turn.{Turn}
 use Rattle.net_locks.specs.declared.visitor.Bearer.{Bearer}
 use Rattle.net_locks.specs.declared.visitor.Visitor.{Visitor}
 use Rattle.net_locks.specs.Knowing.{IsKnown}
-use Rattle.net_locks.specs.Turns.{Turned, own}
+use Rattle.net_locks.specs.Turns.{Turned, own_seen}
 
 -- a caller knows its duties and the moment, at which conversations it recorded something, and when conversations were due
 pub record IsVisit (w : World) (r : Roster) (c now : ℕ) (p : Sight) (ds : List Duty) (m : Marks) (k : Calendar) : Type 0 where
   pub guest : IsGuest w r c p ds
   pub here : now ≡ moment_noted p.seen
   pub early : now < 2 ^ 63
-  pub covers : Covers (own c p) m
+  pub covers : Covers (own_seen c p) m
   pub known : IsKnown w p.seen k
 
 -- a visitor may have it all: it knows this of its caller, whose number its pass has
@@ -50,7 +50,7 @@ Visited ts w a work cites old t new =
 -- the entry of this stamp was recorded as a turn of the caller that owed these
 pub record Does {J : Type 0} (ts : Tasks) (w : World) (r : Roster) (a : ActorName) (work : Work) (cites : Option ℕ) (old : Bearer J)
     (ds : List Duty) (stamp : ℕ) (o : Outcome) (new : Bearer J) : Type 0 where
-  pub records : Records w r a old.caller old.now work cites old.pass stamp o new.pass
+  pub records : GuestRecords w r a old.caller old.now work cites old.pass stamp o new.pass
   pub recorded : HasRecorded w r a old.caller old.now work cites records.past old.pass ds stamp o new.pass
   pub in_time : IsInTimeBy ts (noted_net w records.past) w work.event
   pub few : most_owed o ≤ 13
@@ -60,13 +60,13 @@ pub record Misses {J : Type 0} (ts : Tasks) (w : World) (r : Roster) (a : ActorN
     (ds : List Duty) (t : Turn) (new : Bearer J) : Type 0 where
   pub guest : IsGuest w r old.caller new.pass ds
   pub turned : Turned ts w old.caller old.now a work cites old.pass ds t new.pass ds
-  pub alone : own old.caller new.pass ≡ own old.caller old.pass
+  pub alone : own_seen old.caller new.pass ≡ own_seen old.caller old.pass
 
 -- by whether it was recorded, as a turn of the caller whatever it owes
 abbrev pub Attempted : {J : Type 0} → Tasks → World → Roster → ActorName → Work → Option ℕ → Bearer J → Result (ℕ × Outcome) Turn
     → Bearer J → Type 0
 Attempted ts w r a work cites old (Ok done) new =
-    (ds : List Duty) → IsGuest w r old.caller old.pass ds → IsTurn w old.caller old.pass ds a work cites
+    (ds : List Duty) → IsGuest w r old.caller old.pass ds → IsGuestTurn w old.caller old.pass ds a work cites
     → Does ts w r a work cites old ds done.0 done.1 new
 Attempted ts w r a work cites old (Err t) new =
     (ds : List Duty) → IsGuest w r old.caller old.pass ds → Misses ts w r a work cites old ds t new

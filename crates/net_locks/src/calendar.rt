@@ -9,7 +9,7 @@ ghost use Rattle.journal.specs.Tokens.{HoldsAll};
 ghost use Rattle.duties.specs.Ticking.{dues_of};
 ghost use Rattle.guest_laws.specs.Works.{noted_net};
 ghost use Rattle.net_locks.specs.Standings.{AllStand};
-ghost use Rattle.net_locks.specs.Knowing.{AreMixed, IsKnown, all_touched, due_from, is_told, touched_count};
+ghost use Rattle.net_locks.specs.Knowing.{AreMixed, IsKnown, all_touched, due_from, have_told, touched_count};
 
 use crate::clock::Standing;
 use crate::locks::Locks;
@@ -176,7 +176,7 @@ fn due_from(host: u32, proto: Proto, slot: u32, view: &View) -> Option<Due>
 
 // Whether each caller has told at which conversations it recorded something from this stamp on.
 fn is_told(standings: &[Standing], at: u64) -> bool
-    ensures { result ≡ is_told at standings.now }
+    ensures { result ≡ have_told at standings.now }
 {
     standings
         .iter()

@@ -14,7 +14,7 @@ ghost use Rattle.journal.specs.Tokens.{HoldsAll};
 ghost use Rattle.duties.specs.Ticking.{dues_of};
 ghost use Rattle.guest_laws.specs.Guests.{IsGuest, IsOfGuests};
 ghost use Rattle.guest_laws.specs.Works.{noted_net};
-ghost use Rattle.net_locks.specs.Standings.{AllStand, Finds, StandsAt, awaited_moments, awaited_of, callers_of, due_moments, has_left};
+ghost use Rattle.net_locks.specs.Standings.{AllStand, FindsBusy, StandsAt, standing_moments, awaited_of, standing_callers, moments_of_dues, has_left};
 ghost use Rattle.net_locks.specs.Moving.{Halts, MayGo, MayLeave, MayMove};
 ghost use Rattle.net_locks.specs.Knowing.{IsKnown};
 ghost use Rattle.net_locks.specs.Turns.{HasRoom};
@@ -152,8 +152,8 @@ impl<J: Naming + Placing> Locks<J, WorldActor<J>> {
         requires moment { now ≡ moment_of pass.old.seen }
         requires all { AllStand J.tasks J.world J.run.roster pass.old standings.now }
         ensures same { pass.new ≡ pass.old }
-        ensures finds { Finds (could J.tasks J.world (noted_net J.world pass.old.seen)) (is_full (noted_net J.world pass.old.seen))
-            (callers_of standings.now) result }
+        ensures finds { FindsBusy (could J.tasks J.world (noted_net J.world pass.old.seen)) (is_full (noted_net J.world pass.old.seen))
+            (standing_callers standings.now) result }
     {
         nets_of_works_grow();
         let mut busy = Busy {
@@ -332,8 +332,8 @@ impl<J: Naming + Placing> Locks<J, WorldActor<J>> {
 impl Busy {
     // With a caller more that could record.
     fn with(self, caller: u32, full: bool) -> Busy
-        ensures { (goes full_of : ℕ → Bool) (cs : List ℕ) → Finds goes full_of cs self → goes caller ≡ true
-            → full ≡ full_of caller → Finds goes full_of (cs ++ caller ∷ []) result }
+        ensures { (goes full_of : ℕ → Bool) (cs : List ℕ) → FindsBusy goes full_of cs self → goes caller ≡ true
+            → full ≡ full_of caller → FindsBusy goes full_of (cs ++ caller ∷ []) result }
     {
         Busy {
             least: Some(lesser(self.least, caller)),
@@ -373,7 +373,7 @@ fn has_left(scripts: usize, standing: &Standing) -> bool
 
 // The least of a moment and those for which callers wait.
 fn least_awaited(standings: &[Standing], last: u64) -> u64
-    ensures { result ≡ calm.least last (awaited_moments standings.now) }
+    ensures { result ≡ calm.least last (standing_moments standings.now) }
 {
     let mut least = last;
     for standing in standings {
@@ -397,7 +397,7 @@ fn earlier(least: u64, standing: &Standing) -> u64
 
 // The least of a moment and due ones.
 fn least_due(dues: &[Due], last: u64) -> u64
-    ensures { result ≡ calm.least last (due_moments dues.now) }
+    ensures { result ≡ calm.least last (moments_of_dues dues.now) }
 {
     let mut least = last;
     for due in dues {

@@ -1,7 +1,7 @@
 //! An actor of a world as a machine.
 ghost use Rattle.std.specs.Prelude.{◌≡◌, []};
 ghost use Rattle.net_base.specs.Actors.{opening_actor};
-ghost use Rattle.net_actors.specs.Kept.{IsActorOf, state_of};
+ghost use Rattle.net_actors.specs.Kept.{IsActorOf, kept_state};
 ghost use Rattle.guest_laws.specs.Named.{named};
 
 use crate::placing::Placing;
@@ -21,11 +21,11 @@ pub struct WorldActor<P: Placing> {
 
 impl<P: Placing> Model for WorldActor<P> {
     ghost use Rattle.guest_laws.specs.Named.{Named, named};
-    ghost use Rattle.net_actors.specs.Kept.{IsActorOf, state_of};
+    ghost use Rattle.net_actors.specs.Kept.{IsActorOf, kept_state};
 
     ghost Value = { Named };
 
-    ghost view = { λ a. named a.actor.name (state_of a.actor) };
+    ghost view = { λ a. named a.actor.name (kept_state a.actor) };
 
     ghost invariant = { λ a. IsActorOf P.world a.actor };
 }
@@ -34,7 +34,7 @@ impl<P: Placing> WorldActor<P> {
     /// The actor, which is one of the run's world.
     pub fn new(actor: Actor) -> WorldActor<P>
         requires { IsActorOf P.world actor }
-        ensures { result ≡ named actor.name (state_of actor) }
+        ensures { result ≡ named actor.name (kept_state actor) }
     {
         WorldActor {
             actor,
@@ -51,15 +51,15 @@ impl<P: Placing> WorldActor<P> {
 }
 
 impl<P: Placing> Machine for WorldActor<P> {
-    ghost use Rattle.guest_laws.specs.Named.{opening, answer_in, due_of, generation_of};
+    ghost use Rattle.guest_laws.specs.Named.{named_opening, answer_in, named_due, named_generation};
 
-    ghost begin = { opening P.world };
+    ghost begin = { named_opening P.world };
 
     ghost answer = { λ s now work. answer_in P.world s now work };
 
-    ghost due_of = { due_of };
+    ghost due_of = { named_due };
 
-    ghost generation_of = { generation_of };
+    ghost generation_of = { named_generation };
 
     fn ready(&self, now: u64, work: &Work) -> bool {
         self.actor.ready(now, work)
@@ -82,7 +82,7 @@ impl<P: Placing> Machine for WorldActor<P> {
 /// An actor to which nothing has happened, behind its lock.
 pub(crate) fn locked<J: Naming + Placing>(actor: Actor, book: Book<J>) -> Locked<J, WorldActor<J>>
     requires of { IsActorOf J.world actor }
-    requires opening { state_of actor ≡ opening_actor J.world.timers actor.name }
+    requires opening { kept_state actor ≡ opening_actor J.world.timers actor.name }
     requires name { actor.name ≡ book.actor }
     requires blank { book.list ≡ [] }
     ensures actor { result.actor ≡ book.actor }

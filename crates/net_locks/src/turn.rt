@@ -8,7 +8,7 @@ ghost use Rattle.net_base.specs.Duties.{Duty as AnyDuty};
 ghost use Rattle.net_base.specs.Stamped.{moment_noted, same_actor};
 ghost use Rattle.duties.specs.Owing.{Owes, most_owed};
 ghost use Rattle.duties.specs.Queue.{work_of_duty};
-ghost use Rattle.guest_laws.specs.Guests.{IsGuest, IsTurn};
+ghost use Rattle.guest_laws.specs.Guests.{IsGuest, IsGuestTurn};
 ghost use Rattle.due_moments.specs.Marks.{Covers};
 ghost use Rattle.net_locks.specs.Turns.{HasRoom, Turned, bare};
 ghost use Rattle.net_locks.specs.Visitors.{Attempted, IsSameBearer, IsVisitor, Visited};
@@ -90,7 +90,7 @@ impl<J: Naming + Placing> Locks<J, WorldActor<J>> {
     ) -> Turn
         requires complete { IsVisitor J.world J.run.roster visitor.old }
         requires free { visitor.old.duties.list ≡ [] }
-        requires turn { IsTurn J.world visitor.old.bearer.caller visitor.old.bearer.pass [] actor (bare event) None }
+        requires turn { IsGuestTurn J.world visitor.old.bearer.caller visitor.old.bearer.pass [] actor (bare event) None }
         requires other { same_actor actor Clock ≡ false }
         ensures complete { IsVisitor J.world J.run.roster visitor.new }
         ensures same { IsSameBearer visitor.old.bearer visitor.new.bearer }

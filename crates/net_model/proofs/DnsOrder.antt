@@ -44,7 +44,7 @@ use Rattle.net_base.specs.Steps.{Ask, Names, Fid, Play, Asks, Ends, Position, St
 use Rattle.net_base.specs.Versions.{Tuples}
 use Rattle.history_laws.proofs.Shared.{legal_take}
 use Rattle.net_model.specs.DnsOrder.{AnswersQuestions, AnswersRead}
-use Rattle.import_law.specs.Order.{Begins, IsPlayed, StandInOrder}
+use Rattle.import_law.specs.Order.{Begins, IsPlayRecorded, StandInOrder}
 use Rattle.import_law.specs.Scripted.{scripted}
 use Rattle.import_law.proofs.Shared.{begins_asks, goes_on, replies, asks_next}
 use Rattle.net_model.proofs.OwnEntries.{keeps_script}
@@ -330,7 +330,7 @@ module _ (z : Tuples) (h : ℕ) where
   step_leaves : (k : Kept) → k.names.zone ≡ z → (t : Step) → Leaves z (step_play h k t)
   step_leaves k is t = taken_leaves k is t (find (is_remote k.left) (new_names t))
 
-left_by : (z : Tuples) (p : Play) (xs : List Entry) (bound : Names) → Leaves z p → IsPlayed p xs bound → bound.zone ≡ z
+left_by : (z : Tuples) (p : Play) (xs : List Entry) (bound : Names) → Leaves z p → IsPlayRecorded p xs bound → bound.zone ≡ z
 left_by z (Ends names) [] bound is played = sym (ap (λ (n : Names). n.zone) played) ∙ is
 left_by z (Ends names) (x ∷ xs) bound is played = absurd played
 left_by z (Asks a e next_recorded) [] bound is played = absurd played

@@ -7,7 +7,7 @@ use Rattle.net_base.specs.NdbText.{is_empty}
 use Rattle.net_base.specs.NdbBundle.{File, unnamed_file, each_once, tuples_named, tuples_chosen, names_of, choosing, chosen, reading}
 use Rattle.ndb_text.proofs.Shared.{false_true}
 use Rattle.ndb_reader.specs.Written.{db_text}
-use Rattle.net_model.specs.NdbWhole.{files_in, is_local, is_whole}
+use Rattle.net_model.specs.NdbWhole.{file_values, is_local, is_file_whole}
 use Rattle.net_model.proofs.NdbBundles.{bundle_reads, bundle_spelled}
 use Rattle.net_model.proofs.NdbWritable.{WritableTuples, bundle_is_writable}
 use Rattle.net_model.proofs.NdbWritten.{written_reads}
@@ -78,7 +78,7 @@ once-names db (name ∷ names) = by (bytes_eq name unnamed_file) refl (once-name
         ∙ (others-all db name (each_once names) none
         ∙ (rest ∙ sym (ap (λ (v : Bool). cond (v || list_any is_local names) db []) e)))
 
-pub names-are : (o : Option (List (List NdbPair))) → names_of o ≡ each_once (files_in o)
+pub names-are : (o : Option (List (List NdbPair))) → names_of o ≡ each_once (file_values o)
 names-are None = refl
 names-are (Some tuple) = refl
 
@@ -86,13 +86,13 @@ chosen-by : (db : List (List (List NdbPair))) (names : List (List ℕ)) → tupl
 chosen-by db [] = refl
 chosen-by db (name ∷ names) = once-names db (name ∷ names)
 
-chosen-is : (db : List (List (List NdbPair))) → chosen (local_of db) [] ≡ cond (is_whole db) db []
-chosen-is db = ap (tuples_chosen (local_of db) []) (names-are (choosing db)) ∙ chosen-by db (files_in (choosing db))
+chosen-is : (db : List (List (List NdbPair))) → chosen (local_of db) [] ≡ cond (is_file_whole db) db []
+chosen-is db = ap (tuples_chosen (local_of db) []) (names-are (choosing db)) ∙ chosen-by db (file_values (choosing db))
 
-pub read_back : (text : List ℕ) (db : List (List (List NdbPair))) → reading text ≡ Some db → reading (db_text db) ≡ Some (cond (is_whole db) db [])
+pub read_back : (text : List ℕ) (db : List (List (List NdbPair))) → reading text ≡ Some db → reading (db_text db) ≡ Some (cond (is_file_whole db) db [])
 read_back text db h =
     let w : WritableTuples db = bundle_is_writable text db (bundle_spelled text db h) in
-    bundle_reads (db_text db) (cond (is_whole db) db []) (record {
+    bundle_reads (db_text db) (cond (is_file_whole db) db []) (record {
       local = local_of db;
       files = [];
       named = refl;
@@ -100,13 +100,13 @@ read_back text db h =
       are_chosen = sym (chosen-is db);
     })
 
-pub read_whole : (text : List ℕ) (db : List (List (List NdbPair))) → reading text ≡ Some db → is_whole db ≡ true → reading (db_text db) ≡ Some db
+pub read_whole : (text : List ℕ) (db : List (List (List NdbPair))) → reading text ≡ Some db → is_file_whole db ≡ true → reading (db_text db) ≡ Some db
 read_whole text db h whole = read_back text db h ∙ ap (λ (v : Bool). Some (cond v db [])) whole
 
-whole-none : (db : List (List (List NdbPair))) → db ≡ [] → is_whole db ≡ true
+whole-none : (db : List (List (List NdbPair))) → db ≡ [] → is_file_whole db ≡ true
 whole-none db e = rw e refl
 
-pub read_other : (text : List ℕ) (db : List (List (List NdbPair))) → reading text ≡ Some db → is_whole db ≡ false → (db ≢ []) × (reading (db_text db) ≡ Some [])
+pub read_other : (text : List ℕ) (db : List (List (List NdbPair))) → reading text ≡ Some db → is_file_whole db ≡ false → (db ≢ []) × (reading (db_text db) ≡ Some [])
 read_other text db h other = (
   λ none. absurd (false_true (sym other ∙ whole-none db none)),
   read_back text db h ∙ ap (λ (v : Bool). Some (cond v db [])) other,

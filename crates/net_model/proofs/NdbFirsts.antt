@@ -3,7 +3,7 @@ use Rattle.std.proofs.Common.{◌≡◌, ℕ, zero, suc, ◌+◌, ◌<◌, Bool,
 use Rattle.std.proofs.lemmas.List.{length_push}
 use Rattle.net_base.specs.NdbText.{lines_of}
 use Rattle.net_base.specs.NdbBundle.{has_tuple, causes_of, least_of_causes, told_line, first_bad, bad_line}
-use Rattle.net_model.specs.NdbFirst.{IsFirstBad}
+use Rattle.net_model.specs.NdbFirst.{IsFirstBadFile}
 use Rattle.ndb_text.proofs.Shared.{some_none}
 
 -- the least cause of the line at place k, after those before it
@@ -60,10 +60,10 @@ first-after : (causes : Bool → List ℕ → List ℕ) (before lines : List (Li
 first-after causes before [] n c h = absurd (some_none (sym h))
 first-after causes before (line ∷ lines) n c h = first_if causes before line lines n c _ refl h (first-after causes (before ++ line ∷ []) lines n c)
 
-first-is : (causes : Bool → List ℕ → List ℕ) (lines : List (List ℕ)) (n c : ℕ) → first_bad causes [] lines ≡ Some (n, c) → IsFirstBad causes lines n c
+first-is : (causes : Bool → List ℕ → List ℕ) (lines : List (List ℕ)) (n c : ℕ) → first_bad causes [] lines ≡ Some (n, c) → IsFirstBadFile causes lines n c
 first-is causes lines n c h =
     let r = first-after causes [] lines n c h in
     record { place = r.place; within = r.within; number_is = omega (arith, r.number_is); cause_is = r.cause_is; others = r.others }
 
-pub bad_is_first : (text : List ℕ) (line c : ℕ) → bad_line text ≡ Some (line, c) → IsFirstBad causes_of (lines_of text) line c
+pub bad_is_first : (text : List ℕ) (line c : ℕ) → bad_line text ≡ Some (line, c) → IsFirstBadFile causes_of (lines_of text) line c
 bad_is_first text line c h = first-is causes_of (lines_of text) line c h

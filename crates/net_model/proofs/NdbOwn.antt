@@ -11,7 +11,7 @@ use Rattle.net_base.specs.NdbText.{is_empty, lines_of}
 use Rattle.net_base.specs.NdbBundle.{File, unnamed_file, local_file, named_files, each_once, tuples_named, tuples_chosen, choosing, chosen, bad_line, reading}
 use Rattle.ndb_text.proofs.Shared.{cons_none, some_once}
 use Rattle.ndb_reader.proofs.Shared.{reading-is}
-use Rattle.net_model.specs.NdbWhole.{files_in, is_local, is_whole, begins_local, is_first}
+use Rattle.net_model.specs.NdbWhole.{file_values, is_local, is_file_whole, begins_local, is_file_first}
 use Rattle.net_model.proofs.NdbBack.{names-are}
 use Rattle.net_model.proofs.NdbBundles.{good-if}
 
@@ -26,9 +26,9 @@ same-local local name named e = grind (arith, bytes_eq-Decides name unnamed_file
 record Leads (local : File) (files : List File) : Type 0 where
   more : List (List (List NdbPair))
   is : chosen local files ≡ local.tuples ++ more
-  alone : files_in (choosing local.tuples) ≡ [] → more ≡ []
+  alone : file_values (choosing local.tuples) ≡ [] → more ≡ []
 
-leads-by : (local : File) (files : List File) (names : List (List ℕ)) → local.name ≡ unnamed_file → files_in (choosing local.tuples) ≡ names → begins_local names ≡ true → Leads local files
+leads-by : (local : File) (files : List File) (names : List (List ℕ)) → local.name ≡ unnamed_file → file_values (choosing local.tuples) ≡ names → begins_local names ≡ true → Leads local files
 leads-by local files [] named is first = record {
   more = [];
   is = ap (tuples_chosen local files) (names-are (choosing local.tuples) ∙ ap each_once is) ∙ sym (append-nil local.tuples);
@@ -44,7 +44,7 @@ leads-by local files (name ∷ names) named is first =
       alone = λ none. absurd (cons_none (sym is ∙ none));
     }
 
-choosing-front : (ts us : List (List (List NdbPair))) (o : Option (List (List NdbPair))) → choosing ts ≡ o → (files_in o ≡ [] → us ≡ []) → choosing (ts ++ us) ≡ o
+choosing-front : (ts us : List (List (List NdbPair))) (o : Option (List (List NdbPair))) → choosing ts ≡ o → (file_values o ≡ [] → us ≡ []) → choosing (ts ++ us) ≡ o
 choosing-front ts us None e none =
     ap choosing (ap (λ (more : List (List (List NdbPair))). ts ++ more) (none refl) ∙ append-nil ts) ∙ e
 choosing-front ts us (Some tuple) e none =
@@ -54,7 +54,7 @@ whole-by : (names : List (List ℕ)) → begins_local names ≡ true → (is_emp
 whole-by [] first = refl
 whole-by (name ∷ names) first = rw first refl
 
-pub first_is_whole : (text : List ℕ) (db : List (List (List NdbPair))) → reading text ≡ Some db → is_first (local_file (lines_of text)).tuples ≡ true → is_whole db ≡ true
+pub first_is_whole : (text : List ℕ) (db : List (List (List NdbPair))) → reading text ≡ Some db → is_file_first (local_file (lines_of text)).tuples ≡ true → is_file_whole db ≡ true
 first_is_whole text db h first =
     let local : File = local_file (lines_of text) in
     let files : List File = named_files (lines_of text) in
@@ -63,4 +63,4 @@ first_is_whole text db h first =
     let same : chosen local files ≡ db = some_once (reading text) (chosen local files) db (reading-is text good) h in
     let is : choosing db ≡ choosing local.tuples =
     ap choosing (sym same ∙ leads.is) ∙ choosing-front local.tuples leads.more (choosing local.tuples) refl leads.alone in
-    ap (λ (names : List (List ℕ)). is_empty names || list_any is_local names) (ap files_in is) ∙ whole-by (files_in (choosing local.tuples)) first
+    ap (λ (names : List (List ℕ)). is_empty names || list_any is_local names) (ap file_values is) ∙ whole-by (file_values (choosing local.tuples)) first

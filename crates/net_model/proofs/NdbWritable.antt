@@ -7,7 +7,7 @@ use Rattle.std.proofs.lemmas.List.Splits.{slice_split-cons_no, slice_split-cons_
 use Rattle.net_base.specs.Ndb.{NdbPair}
 use Rattle.net_base.specs.NdbText.{is_white, is_newline, is_percent, is_quote, is_zero, begins, lines_of}
 use Rattle.net_base.specs.NdbBundle.{File, tuples_named, tuples_chosen, names_of, choosing}
-use Rattle.ndb_text.specs.NdbSpelling.{None_of, IsAttr, Way, alone, plain, quoted, spelled, Suits, IsWord, IsWhite, ReadsWords, ReadsLine, ReadsTuples, ReadsFiles, ReadsBundle}
+use Rattle.ndb_text.specs.NdbSpelling.{None_of, IsAttr, PairWay, alone, plain, quoted, spelled, Suits, IsPairWord, IsWhite, ReadsWords, ReadsLine, ReadsTuples, ReadsFiles, ReadsBundle}
 use Rattle.ndb_text.proofs.Shared.{or_false, or_false_first, or_false_rest}
 
 -- Pairs, lines and tuples that can be written.
@@ -76,7 +76,7 @@ none-parts p front rest none =
     (or_false_first (list_any p front) (list_any p rest) both, or_false_rest (list_any p front) (list_any p rest) both)
 
 -- no byte of a word passes, so none of its pair
-none-way : (p : ℕ → Bool) (way : Way) (pair : NdbPair) → Suits way pair.value → None_of p (spelled way pair) → None_of p pair.attr × None_of p pair.value
+none-way : (p : ℕ → Bool) (way : PairWay) (pair : NdbPair) → Suits way pair.value → None_of p (spelled way pair) → None_of p pair.attr × None_of p pair.value
 none-way p alone pair suits none = (none, ap (list_any p) suits)
 none-way p plain pair suits none =
     let parts = none-parts p pair.attr (61 ∷ pair.value) none in
@@ -86,7 +86,7 @@ none-way p quoted pair suits none =
     let behind = or_false_rest (p 34) _ (or_false_rest (p 61) _ parts.1) in
     (parts.0, (none-parts p pair.value (34 ∷ []) behind).0)
 
-closed-way : (way : Way) (value : List ℕ) → Suits way value → None_of is_quote value ⊎ None_of is_white value
+closed-way : (way : PairWay) (value : List ℕ) → Suits way value → None_of is_quote value ⊎ None_of is_white value
 closed-way alone value suits = inl (ap (list_any is_quote) suits)
 closed-way plain value suits = inr suits.0
 closed-way quoted value suits = inl suits
@@ -95,12 +95,12 @@ none-first : (p : ℕ → Bool) (bytes : List ℕ) → None_of p bytes → begin
 none-first p [] none = refl
 none-first p (b ∷ bytes) none = or_false_first (p b) (list_any p bytes) none
 
-bare-way : (way : Way) (value : List ℕ) → Suits way value → begins is_quote value ≡ false
+bare-way : (way : PairWay) (value : List ℕ) → Suits way value → begins is_quote value ≡ false
 bare-way alone value suits = ap (begins is_quote) suits
 bare-way plain value suits = suits.1
 bare-way quoted value suits = none-first is_quote value suits
 
-writable-word : (word : List ℕ) (pair : NdbPair) (rest : List ℕ) → IsWord word pair rest → None_of is_newline word → None_of is_zero word → WritablePair pair
+writable-word : (word : List ℕ) (pair : NdbPair) (rest : List ℕ) → IsPairWord word pair rest → None_of is_newline word → None_of is_zero word → WritablePair pair
 writable-word word pair rest w newline zero = record {
   attr = w.attr;
   lines = none-way is_newline w.way pair w.value (ap (list_any is_newline) (sym w.bytes) ∙ newline);
@@ -123,7 +123,7 @@ begins-front : (p : ℕ → Bool) (front rest : List ℕ) → begins p (front ++
 begins-front p [] rest none = refl
 begins-front p (b ∷ front) rest none = none
 
-begins-way : (p : ℕ → Bool) (way : Way) (pair : NdbPair) → begins p (spelled way pair) ≡ false → begins p pair.attr ≡ false
+begins-way : (p : ℕ → Bool) (way : PairWay) (pair : NdbPair) → begins p (spelled way pair) ≡ false → begins p pair.attr ≡ false
 begins-way p alone pair none = none
 begins-way p plain pair none = begins-front p pair.attr (61 ∷ pair.value) none
 begins-way p quoted pair none = begins-front p pair.attr (61 ∷ 34 ∷ (pair.value ++ 34 ∷ [])) none

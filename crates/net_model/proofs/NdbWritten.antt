@@ -5,14 +5,14 @@ use Rattle.std.proofs.lemmas.List.Folds.{list_any-append}
 use Rattle.std.proofs.lemmas.List.Splits.{slice_split-cons_no}
 use Rattle.net_base.specs.Ndb.{NdbPair}
 use Rattle.net_base.specs.NdbText.{is_white, is_newline, is_percent, is_quote, is_zero, begins, lines_of}
-use Rattle.ndb_text.specs.NdbSpelling.{None_of, IsAttr, plain, quoted, EndsWord, IsWord, ReadsWords, ReadsLine, ReadsTuples}
+use Rattle.ndb_text.specs.NdbSpelling.{None_of, IsAttr, plain, quoted, EndsWord, IsPairWord, ReadsWords, ReadsLine, ReadsTuples}
 use Rattle.ndb_text.proofs.Shared.{or_false, or_false_first, or_false_rest}
-use Rattle.ndb_reader.specs.Written.{value_text, pair_text, more_pairs, line_text, more_lines, db_text}
+use Rattle.ndb_reader.specs.Written.{value_text, one_pair_text, more_pairs, pairs_text, more_lines, db_text}
 use Rattle.net_model.proofs.NdbWritable.{WritablePair, WritablePairs, WritableLine, WritableLines, BeginsNone, WritableTuples}
 
 -- Words.
 
-word-by : (pair : NdbPair) (rest : List ℕ) (white : Bool) → list_any is_white pair.value ≡ white → WritablePair pair → EndsWord rest → IsWord (pair_text pair) pair rest
+word-by : (pair : NdbPair) (rest : List ℕ) (white : Bool) → list_any is_white pair.value ≡ white → WritablePair pair → EndsWord rest → IsPairWord (one_pair_text pair) pair rest
 word-by pair rest true e f ends = record {
   way = quoted;
   bytes = ap (λ (b : Bool). pair.attr ++ (61 ∷ cond b (34 ∷ (pair.value ++ 34 ∷ [])) pair.value)) e;
@@ -32,7 +32,7 @@ word-by pair rest false e f ends = record {
   ends = ends;
 }
 
-word-written : (pair : NdbPair) (rest : List ℕ) → WritablePair pair → EndsWord rest → IsWord (pair_text pair) pair rest
+word-written : (pair : NdbPair) (rest : List ℕ) → WritablePair pair → EndsWord rest → IsPairWord (one_pair_text pair) pair rest
 word-written pair rest f ends = word-by pair rest _ refl f ends
 
 more-end : (pairs : List NdbPair) → EndsWord (more_pairs pairs)
@@ -42,7 +42,7 @@ more-end (pair ∷ pairs) = inr refl
 more-read : (pairs : List NdbPair) → WritablePairs pairs → ReadsWords (more_pairs pairs) pairs
 more-read [] f = ([], [], refl, tt, inl refl)
 more-read (pair ∷ pairs) f =
-    (32 ∷ [], pair_text pair, more_pairs pairs, refl, (refl, tt), word-written pair (more_pairs pairs) f.0 (more-end pairs), more-read pairs f.1)
+    (32 ∷ [], one_pair_text pair, more_pairs pairs, refl, (refl, tt), word-written pair (more_pairs pairs) f.0 (more-end pairs), more-read pairs f.1)
 
 -- Bytes that stand nowhere.
 
@@ -60,19 +60,19 @@ none-value : (p : ℕ → Bool) (value : List ℕ) (white : Bool) → Spared p �
 none-value p value true s none = or_false _ _ s.quote (none-join p value (34 ∷ []) none (or_false _ _ s.quote refl))
 none-value p value false s none = none
 
-none-pair : (p : ℕ → Bool) (pair : NdbPair) → Spared p → None_of p pair.attr × None_of p pair.value → None_of p (pair_text pair)
+none-pair : (p : ℕ → Bool) (pair : NdbPair) → Spared p → None_of p pair.attr × None_of p pair.value → None_of p (one_pair_text pair)
 none-pair p pair s none =
     none-join p pair.attr (61 ∷ value_text pair.value) none.0 (or_false _ _ s.equals (none-value p pair.value (list_any is_white pair.value) s none.1))
 
 none-more : (p : ℕ → Bool) → Spared p → ((pair : NdbPair) → WritablePair pair → None_of p pair.attr × None_of p pair.value) → (pairs : List NdbPair) → WritablePairs pairs → None_of p (more_pairs pairs)
 none-more p s each [] f = refl
 none-more p s each (pair ∷ pairs) f =
-    or_false _ _ s.blank (none-join p (pair_text pair) (more_pairs pairs) (none-pair p pair s (each pair f.0)) (none-more p s each pairs f.1))
+    or_false _ _ s.blank (none-join p (one_pair_text pair) (more_pairs pairs) (none-pair p pair s (each pair f.0)) (none-more p s each pairs f.1))
 
-none-line : (p : ℕ → Bool) → Spared p → ((pair : NdbPair) → WritablePair pair → None_of p pair.attr × None_of p pair.value) → (line : List NdbPair) → WritableLine line → None_of p (line_text line)
+none-line : (p : ℕ → Bool) → Spared p → ((pair : NdbPair) → WritablePair pair → None_of p pair.attr × None_of p pair.value) → (line : List NdbPair) → WritableLine line → None_of p (pairs_text line)
 none-line p s each [] f = refl
 none-line p s each (pair ∷ pairs) f =
-    none-join p (pair_text pair) (more_pairs pairs) (none-pair p pair s (each pair f.0)) (none-more p s each pairs f.1)
+    none-join p (one_pair_text pair) (more_pairs pairs) (none-pair p pair s (each pair f.0)) (none-more p s each pairs f.1)
 
 spared-newline : Spared is_newline
 spared-newline = record { blank = refl; tab = refl; equals = refl; quote = refl }
@@ -80,10 +80,10 @@ spared-newline = record { blank = refl; tab = refl; equals = refl; quote = refl 
 spared-zero : Spared is_zero
 spared-zero = record { blank = refl; tab = refl; equals = refl; quote = refl }
 
-line-newline : (line : List NdbPair) → WritableLine line → None_of is_newline (line_text line)
+line-newline : (line : List NdbPair) → WritableLine line → None_of is_newline (pairs_text line)
 line-newline line f = none-line is_newline spared-newline (λ pair w. w.lines) line f
 
-line-zero : (line : List NdbPair) → WritableLine line → None_of is_zero (line_text line)
+line-zero : (line : List NdbPair) → WritableLine line → None_of is_zero (pairs_text line)
 line-zero line f = none-line is_zero spared-zero (λ pair w. w.zeros) line f
 
 -- Lines.
@@ -96,22 +96,22 @@ attr-white : (attr : List ℕ) → IsAttr attr → begins is_white attr ≡ fals
 attr-white [] a = refl
 attr-white (b ∷ attr) a = or_false_first (is_white b) (list_any is_white attr) a.white
 
-begins-line : (p : ℕ → Bool) (pair : NdbPair) (pairs : List NdbPair) → IsAttr pair.attr → begins p pair.attr ≡ false → begins p (line_text (pair ∷ pairs)) ≡ false
+begins-line : (p : ℕ → Bool) (pair : NdbPair) (pairs : List NdbPair) → IsAttr pair.attr → begins p pair.attr ≡ false → begins p (pairs_text (pair ∷ pairs)) ≡ false
 begins-line p pair pairs a none =
     ap (begins p) (append_assoc pair.attr (61 ∷ value_text pair.value) (more_pairs pairs)) ∙ begins-attr p pair.attr _ a none
 
-first-read : (pair : NdbPair) (pairs : List NdbPair) → WritableLine (pair ∷ pairs) → BeginsNone (pair ∷ pairs) → ReadsLine (line_text (pair ∷ pairs)) (pair ∷ pairs)
+first-read : (pair : NdbPair) (pairs : List NdbPair) → WritableLine (pair ∷ pairs) → BeginsNone (pair ∷ pairs) → ReadsLine (pairs_text (pair ∷ pairs)) (pair ∷ pairs)
 first-read pair pairs f none = record {
   zero = line-zero (pair ∷ pairs) f;
   percent = begins-line is_percent pair pairs f.0.attr none;
-  words = ([], pair_text pair, more_pairs pairs, refl, tt, word-written pair (more_pairs pairs) f.0 (more-end pairs), more-read pairs f.1);
+  words = ([], one_pair_text pair, more_pairs pairs, refl, tt, word-written pair (more_pairs pairs) f.0 (more-end pairs), more-read pairs f.1);
 }
 
-next-read : (pair : NdbPair) (pairs : List NdbPair) → WritableLine (pair ∷ pairs) → ReadsLine (9 ∷ line_text (pair ∷ pairs)) (pair ∷ pairs)
+next-read : (pair : NdbPair) (pairs : List NdbPair) → WritableLine (pair ∷ pairs) → ReadsLine (9 ∷ pairs_text (pair ∷ pairs)) (pair ∷ pairs)
 next-read pair pairs f = record {
   zero = line-zero (pair ∷ pairs) f;
   percent = refl;
-  words = (9 ∷ [], pair_text pair, more_pairs pairs, refl, (refl, tt), word-written pair (more_pairs pairs) f.0 (more-end pairs), more-read pairs f.1);
+  words = (9 ∷ [], one_pair_text pair, more_pairs pairs, refl, (refl, tt), word-written pair (more_pairs pairs) f.0 (more-end pairs), more-read pairs f.1);
 }
 
 -- a line is cut off at its newline
@@ -127,7 +127,7 @@ more-lines : (lines : List (List NdbPair)) (rest : List ℕ) (tuples : List (Lis
 more-lines [] rest tuples f others = others
 more-lines ([] ∷ lines) rest tuples f others = absurd f.0
 more-lines ((pair ∷ pairs) ∷ lines) rest tuples f others =
-    let line : List ℕ = 9 ∷ line_text (pair ∷ pairs) in
+    let line : List ℕ = 9 ∷ pairs_text (pair ∷ pairs) in
     let cut : lines_of (more_lines ((pair ∷ pairs) ∷ lines) ++ rest) ≡ line ∷ lines_of (more_lines lines ++ rest) =
     ap lines_of (append_assoc line (10 ∷ more_lines lines) rest) ∙ cut-line line (more_lines lines ++ rest) (line-newline (pair ∷ pairs) f.0) in
     subst (λ (ls : List (List ℕ)). ReadsTuples ls ((pair ∷ pairs) ∷ lines) tuples) (sym cut)
@@ -138,7 +138,7 @@ written_reads [] f = inl (record { zero = refl; percent = refl; words = ([], [],
 written_reads ([] ∷ tuples) f = absurd f.0
 written_reads (([] ∷ lines) ∷ tuples) f = absurd f.0.0
 written_reads (((pair ∷ pairs) ∷ lines) ∷ tuples) f =
-    let line : List ℕ = line_text (pair ∷ pairs) in
+    let line : List ℕ = pairs_text (pair ∷ pairs) in
     let cut : lines_of (db_text (((pair ∷ pairs) ∷ lines) ∷ tuples)) ≡ line ∷ lines_of (more_lines lines ++ db_text tuples) =
     ap lines_of (append_assoc line (10 ∷ more_lines lines) (db_text tuples)) ∙ cut-line line (more_lines lines ++ db_text tuples) (line-newline (pair ∷ pairs) f.0.0) in
     subst (λ (ls : List (List ℕ)). ReadsTuples ls [] (((pair ∷ pairs) ∷ lines) ∷ tuples)) (sym cut)

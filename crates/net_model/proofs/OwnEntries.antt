@@ -14,18 +14,18 @@ use Rattle.net_base.specs.Scripts.{at_first}
 use Rattle.import_law.specs.Order.{StandInOrder}
 use Rattle.import_law.specs.Scripted.{scripted}
 use Rattle.import_law.proofs.Shared.{replies, stood_take, HasStood, finished, stood}
-use Rattle.net_model.specs.ScriptOrder.{KeepsScript, settled}
+use Rattle.net_model.specs.ScriptOrder.{KeepsScript, settled_entries}
 use Rattle.net_model.proofs.LastOwn.{of_last_step}
 
 module _ (w : World) (c : ℕ) (s : Script) (caller_is : caller_of w c ≡ IsScript s) where
   -- the entries of steps of which nothing is owed stand in order too
-  answers : (h : List Entry) (b : Bool) → HasStood w c s caller_is (own_entries h c) → StandInOrder (scripted (zone_of w) s) (at_first (zone_of w)) s.steps (answered w h c b s) (settled b (own_entries h c))
+  answers : (h : List Entry) (b : Bool) → HasStood w c s caller_is (own_entries h c) → StandInOrder (scripted (zone_of w) s) (at_first (zone_of w)) s.steps (answered w h c b s) (settled_entries b (own_entries h c))
   answers h false there = finished w c s caller_is (own_entries h c) there
   answers h true there =
-      subst (λ (rs : List Reply). StandInOrder (scripted (zone_of w) s) (at_first (zone_of w)) s.steps (finished_by (zone_of w) rs s) (settled true (own_entries h c))) cut
-      (finished w c s caller_is (settled true (own_entries h c)) (stood_take (zone_of w) s (at_first (zone_of w)) s.steps there.0 (own_entries h c) (length (own_entries h c) - 1) there.1))
+      subst (λ (rs : List Reply). StandInOrder (scripted (zone_of w) s) (at_first (zone_of w)) s.steps (finished_by (zone_of w) rs s) (settled_entries true (own_entries h c))) cut
+      (finished w c s caller_is (settled_entries true (own_entries h c)) (stood_take (zone_of w) s (at_first (zone_of w)) s.steps there.0 (own_entries h c) (length (own_entries h c) - 1) there.1))
     where
-      cut : replies (settled true (own_entries h c)) ≡ take (length (own_replies h c) - 1) (own_replies h c)
+      cut : replies (settled_entries true (own_entries h c)) ≡ take (length (own_replies h c) - 1) (own_replies h c)
       cut =
           sym (take-map (λ (x : Entry). x.reply) (length (own_entries h c) - 1) (own_entries h c))
           ∙ ap (λ (n : ℕ). take (n - 1) (own_replies h c)) (sym (length-map (own_entries h c) (λ (x : Entry). x.reply)))

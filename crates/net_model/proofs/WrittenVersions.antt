@@ -11,12 +11,12 @@ use Rattle.net_base.specs.NdbText.{going_on, goes_on, is_newline, lines_of, pair
 use Rattle.net_base.specs.Versions.{are_later, are_timed}
 use Rattle.net_base.specs.World.{IsDatabase}
 use Rattle.net_base.proofs.Shared.{IsWithout, cut_at, decimal_without, without_one}
-use Rattle.ndb_reader.specs.Written.{db_text, line_text, more_lines, tuple_text}
+use Rattle.ndb_reader.specs.Written.{db_text, pairs_text, more_lines, tuple_text}
 use Rattle.ndb_reader.proofs.Shared.{before-more, before-stop}
 use Rattle.world_text.specs.WorldSpelling.{IsGoodBundle, LaterText, SaysVersions, line_of_moment, lines_of_later}
 use Rattle.world_text.proofs.Shared.{AreGood, saids, all-good}
 use Rattle.world_writer.specs.Written.{later_text, versions_text}
-use Rattle.net_model.specs.NdbWhole.{is_whole}
+use Rattle.net_model.specs.NdbWhole.{is_file_whole}
 
 abbrev Tuples : Type 0
 Tuples = List (List (List NdbPair))
@@ -37,11 +37,11 @@ line-ends line rest ends = subst EndsLine (append_assoc line (codes "\n") rest) 
 
 more-ends : (lines : List (List NdbPair)) → EndsLine (more_lines lines)
 more-ends [] = inl refl
-more-ends (line ∷ lines) = line-ends (codes "\t" ++ line_text line) (more_lines lines) (more-ends lines)
+more-ends (line ∷ lines) = line-ends (codes "\t" ++ pairs_text line) (more_lines lines) (more-ends lines)
 
 tuple-ends : (tuple : List (List NdbPair)) → EndsLine (tuple_text tuple)
 tuple-ends [] = inl refl
-tuple-ends (line ∷ lines) = line-ends (line_text line) (more_lines lines) (more-ends lines)
+tuple-ends (line ∷ lines) = line-ends (pairs_text line) (more_lines lines) (more-ends lines)
 
 db-ends : (db : Tuples) → EndsLine (db_text db)
 db-ends [] = inl refl
@@ -229,8 +229,8 @@ written-says (v ∷ later) timed back =
     }
 
 -- databases that are whole are read back
-module _ (back : (text : List ℕ) (db : Tuples) → reading text ≡ Some db → is_whole db ≡ true → reading (db_text db) ≡ Some db) where
-  pub are-back : (dbs : List Version) → All (λ (v : Version). IsDatabase v.db) dbs → All (λ (v : Version). is_whole v.db ≡ true) dbs → AreBack dbs
+module _ (back : (text : List ℕ) (db : Tuples) → reading text ≡ Some db → is_file_whole db ≡ true → reading (db_text db) ≡ Some db) where
+  pub are-back : (dbs : List Version) → All (λ (v : Version). IsDatabase v.db) dbs → All (λ (v : Version). is_file_whole v.db ≡ true) dbs → AreBack dbs
   are-back [] databases whole = tt
   are-back (v ∷ dbs) databases whole =
       let text = databases zero v (omega arith) in (

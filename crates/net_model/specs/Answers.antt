@@ -9,12 +9,12 @@ pub record Answer : Type 0 where
   pub text : List ℕ
 
 -- a newline
-abbrev pub newline : List ℕ
-newline = 10 ∷ []
+abbrev pub newline_text : List ℕ
+newline_text = 10 ∷ []
 
 -- a line of a text
 abbrev pub ended : List ℕ → List ℕ
-ended line = line ++ newline
+ended line = line ++ newline_text
 
 -- the words give no command
 abbrev pub usage : Answer

@@ -7,7 +7,7 @@ abbrev pub least_at : (Bool → List ℕ → List ℕ) → List (List ℕ) → �
 least_at causes lines place = least_of_causes (causes (has_tuple (take place lines)) (slice_index_or lines place []))
 
 -- the line with this number, from 1, has this least cause, and no line before it has a cause
-pub record IsFirstBad (causes : Bool → List ℕ → List ℕ) (lines : List (List ℕ)) (number cause : ℕ) : Type 0 where
+pub record IsFirstBadFile (causes : Bool → List ℕ → List ℕ) (lines : List (List ℕ)) (number cause : ℕ) : Type 0 where
   pub place : ℕ
   pub within : place < length lines
   pub number_is : number ≡ place + 1

@@ -18,9 +18,9 @@ use Rattle.import_law.specs.Order.{StandInOrder}
 use Rattle.import_law.specs.Scripted.{scripted}
 
 -- the entries of steps of which a caller owes nothing: what it owes is of the step of its last own entry
-abbrev pub settled : Bool → List Entry → List Entry
-settled true xs = take (length xs - 1) xs
-settled false xs = xs
+abbrev pub settled_entries : Bool → List Entry → List Entry
+settled_entries true xs = take (length xs - 1) xs
+settled_entries false xs = xs
 
 -- the last entry of a caller that cites nothing
 pub record IsLastOwn (h : List Entry) (c k : ℕ) : Type 0 where
@@ -40,5 +40,5 @@ pub record IsOfLastStep (h : List Entry) (c : ℕ) (d : Duty) : Type 0 where
 pub record KeepsScript (w : World) (h : List Entry) (c : ℕ) (s : Script) : Type 0 where
   -- the steps that are finished, and those that are answered
   pub finished : StandInOrder (scripted (zone_of w) s) (at_first (zone_of w)) s.steps (finished_by (zone_of w) (own_replies h c) s) (own_entries h c)
-  pub answered_is : StandInOrder (scripted (zone_of w) s) (at_first (zone_of w)) s.steps (answered w h c (owes (after w h) c) s) (settled (owes (after w h) c) (own_entries h c))
+  pub answered_is : StandInOrder (scripted (zone_of w) s) (at_first (zone_of w)) s.steps (answered w h c (owes (after w h) c) s) (settled_entries (owes (after w h) c) (own_entries h c))
   pub owed_is : (d : Duty) → In d (owed w h c) → IsOfLastStep h c d

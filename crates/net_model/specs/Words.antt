@@ -26,13 +26,13 @@ pub data Command : Type 0 where
   Translate : Command
 
 -- a word that has bytes
-abbrev pub is_word : List ℕ → Bool
-is_word [] = false
-is_word (byte ∷ bytes) = true
+abbrev pub is_any_word : List ℕ → Bool
+is_any_word [] = false
+is_any_word (byte ∷ bytes) = true
 
 -- the number of messages that a word says: 1 to 9000, without leading zeros
-unfoldable pub messages_in : List ℕ → Option ℕ
-messages_in word = number_in 1 9000 word
+unfoldable pub messages_in_words : List ℕ → Option ℕ
+messages_in_words word = number_in 1 9000 word
 
 -- the number of workers that a word says: 1 to 16, without leading zeros
 unfoldable pub workers_in : List ℕ → Option ℕ
@@ -50,18 +50,18 @@ command_of (name ∷ number ∷ []) =
     if bytes_eq name (codes "run")
     then option_map Run (workers_in number)
     else (if bytes_eq name (codes "make")
-    then option_map Make (messages_in number)
+    then option_map Make (messages_in_words number)
     else (if bytes_eq name (codes "big")
-    then option_map Big (messages_in number)
+    then option_map Big (messages_in_words number)
     else (if bytes_eq name (codes "export")
     then option_map Export (workers_in number)
     else (if bytes_eq name (codes "dns") && is_message number then Some (Dns number) else None))))
 command_of (name ∷ sys ∷ query ∷ []) =
-    if is_word sys && is_word query
+    if is_any_word sys && is_any_word query
     then (if bytes_eq name (codes "cs") then Some (Cs sys query) else (if bytes_eq name (codes "query") then Some (Query sys query None) else None))
     else None
 command_of (name ∷ attr ∷ value ∷ other ∷ []) =
-    if bytes_eq name (codes "query") && is_word attr && is_word value && is_word other then Some (Query attr value (Some other)) else None
+    if bytes_eq name (codes "query") && is_any_word attr && is_any_word value && is_any_word other then Some (Query attr value (Some other)) else None
 command_of _ = None
 
 -- whether a command may wait for threads
@@ -82,18 +82,18 @@ words_wait None = false
 words_wait (Some command) = may_wait command
 
 -- whether a command has an input
-abbrev pub reads : Command → Bool
-reads (Cs sys query) = true
-reads (Query attr value other) = true
-reads (Dns word) = true
-reads (Run workers) = true
-reads (Make messages) = false
-reads (Big messages) = false
-reads Check = true
-reads (Export workers) = true
-reads Translate = true
+abbrev pub reads_input : Command → Bool
+reads_input (Cs sys query) = true
+reads_input (Query attr value other) = true
+reads_input (Dns word) = true
+reads_input (Run workers) = true
+reads_input (Make messages) = false
+reads_input (Big messages) = false
+reads_input Check = true
+reads_input (Export workers) = true
+reads_input Translate = true
 
 -- whether words give a command that has an input
 abbrev pub words_read : Option Command → Bool
 words_read None = false
-words_read (Some command) = reads command
+words_read (Some command) = reads_input command

@@ -4,9 +4,9 @@ ghost use Rattle.std.specs.List.{list_any};
 ghost use Rattle.net_base.specs.Ndb.{NdbPair};
 ghost use Rattle.net_base.specs.NdbText.{is_quote, words_of, plain_words_of, pairs_of, lines_of, tuples_of};
 ghost use Rattle.net_base.specs.NdbBundle.{local_file, is_file_line, causes_of, bad_line, reading};
-ghost use Rattle.net_model.specs.NdbFirst.{IsFirstBad};
+ghost use Rattle.net_model.specs.NdbFirst.{IsFirstBadFile};
 ghost use Rattle.net_model.specs.NdbExample.{pair, tuple};
-ghost use Rattle.net_model.specs.NdbWhole.{is_whole, is_first};
+ghost use Rattle.net_model.specs.NdbWhole.{is_file_whole, is_file_first};
 ghost use Rattle.ndb_text.specs.NdbSpelling.{ReadsLine, ReadsFile, ReadsBundle};
 ghost use Rattle.ndb_reader.specs.Written.{db_text};
 
@@ -44,12 +44,12 @@ pub fn bundles_are_spelled()
 
 /// What a text reads as is written as a text that reads as the same, exactly where it is whole.
 pub fn written_databases_read_back()
-    ensures whole { (text : List ℕ) (db : List (List (List NdbPair))) → reading text ≡ Some db → is_whole db ≡ true
+    ensures whole { (text : List ℕ) (db : List (List (List NdbPair))) → reading text ≡ Some db → is_file_whole db ≡ true
         → reading (db_text db) ≡ Some db }
-    ensures not_whole { (text : List ℕ) (db : List (List (List NdbPair))) → reading text ≡ Some db → is_whole db ≡ false
+    ensures not_whole { (text : List ℕ) (db : List (List (List NdbPair))) → reading text ≡ Some db → is_file_whole db ≡ false
         → (db ≢ []) × (reading (db_text db) ≡ Some []) }
     ensures first { (text : List ℕ) (db : List (List (List NdbPair))) → reading text ≡ Some db
-        → is_first (local_file (lines_of text)).tuples ≡ true → is_whole db ≡ true }
+        → is_file_first (local_file (lines_of text)).tuples ≡ true → is_file_whole db ≡ true }
 {}
 
 /// A text reads as one database at most.
@@ -64,7 +64,7 @@ pub fn words_without_quotes()
 
 /// The line that is told is the first with a cause, and the cause is its least.
 pub fn bad_lines_are_first()
-    ensures { (text : List ℕ) (line cause : ℕ) → bad_line text ≡ Some (line, cause) → IsFirstBad causes_of (lines_of text) line cause }
+    ensures { (text : List ℕ) (line cause : ℕ) → bad_line text ≡ Some (line, cause) → IsFirstBadFile causes_of (lines_of text) line cause }
 {}
 
 /// Bad lines, worked by hand.

@@ -5,10 +5,10 @@ ghost use Rattle.std.specs.List.{All};
 ghost use Rattle.net_base.specs.declared.world.Version.{Version};
 ghost use Rattle.net_base.specs.declared.world.World.{World};
 ghost use Rattle.net_base.specs.World.{IsWorld};
-ghost use Rattle.net_model.specs.NdbWhole.{is_whole};
+ghost use Rattle.net_model.specs.NdbWhole.{is_file_whole};
 ghost use Rattle.world_text.specs.WorldSpelling.{IsWorldText};
 ghost use Rattle.world_text.specs.WorldText.{world_reading};
-ghost use Rattle.world_writer.specs.Written.{file_text};
+ghost use Rattle.world_writer.specs.Written.{world_file_text};
 
 use crate::ndb_law::written_databases_read_back;
 use made_world::made_worlds_are_worlds;
@@ -16,8 +16,8 @@ use world_text::{worlds_are_spelled, worlds_have_texts};
 
 /// What is written of a world, with a whole database in each version, says this world, and is read back as it.
 pub fn written_worlds_read_back()
-    ensures spelled { (w : World) → IsWorld w → All (λ (v : Version). is_whole v.db ≡ true) w.dbs → IsWorldText (file_text w) w }
-    ensures read { (w : World) → IsWorld w → All (λ (v : Version). is_whole v.db ≡ true) w.dbs → world_reading (file_text w) ≡ Ok w }
+    ensures spelled { (w : World) → IsWorld w → All (λ (v : Version). is_file_whole v.db ≡ true) w.dbs → IsWorldText (world_file_text w) w }
+    ensures read { (w : World) → IsWorld w → All (λ (v : Version). is_file_whole v.db ≡ true) w.dbs → world_reading (world_file_text w) ≡ Ok w }
 {
     written_databases_read_back();
     worlds_have_texts();
@@ -26,7 +26,7 @@ pub fn written_worlds_read_back()
 
 /// What is written of a made world is read back as it.
 pub fn made_worlds_read_back()
-    ensures { (n : ℕ) → n < 2 ^ 64 → world_reading (file_text (made_world n)) ≡ Ok (made_world n) }
+    ensures { (n : ℕ) → n < 2 ^ 64 → world_reading (world_file_text (made_world n)) ≡ Ok (made_world n) }
 {
     made_worlds_are_worlds();
     written_worlds_read_back();

@@ -11,7 +11,7 @@ use Rattle.net_base.specs.declared.names.FileName.{FileName}
 use Rattle.net_base.specs.declared.names.Node.{Node}
 use Rattle.net_base.specs.declared.names.Node.TheVariants as node
 use Rattle.net_base.specs.Paths.{proto_named, node_in_range, node_of, checked_node, walk, path_of, file_name}
-use Rattle.net_tree.specs.Guess.{kept, under_proto}
+use Rattle.net_tree.specs.Guess.{kept_node, under_proto}
 
 abbrev parts : List ℕ → List (List ℕ)
 parts path = slice_split (λ b. b == 47) path
@@ -30,9 +30,9 @@ node_under_parts root net name p (n ∷ f ∷ g ∷ ps) more is = refl
 
 -- behind a protocol and a slash
 pub node_under : (root net name rest path : List ℕ) (p : Proto) → parts path ≡ name ∷ parts rest → proto_named name ≡ Some p
-    → kept (under_proto p (parts rest)) ≡ kept (node_of (root ∷ net ∷ parts path))
+    → kept_node (under_proto p (parts rest)) ≡ kept_node (node_of (root ∷ net ∷ parts path))
 node_under root net name rest path p cut is =
-    sym (ap (λ ps. kept (node_of (root ∷ net ∷ ps))) cut ∙ ap kept (node_under_parts root net name p (parts rest) (some_part rest) is))
+    sym (ap (λ ps. kept_node (node_of (root ∷ net ∷ ps))) cut ∙ ap kept_node (node_under_parts root net name p (parts rest) (some_part rest) is))
 
 no_node_under_parts : (root net name : List ℕ) (ps : List (List ℕ)) → 0 < length ps → proto_named name ≡ None → node_of (root ∷ net ∷ name ∷ ps) ≡ None
 no_node_under_parts root net name [] more is = absurd (omega (arith, more))
@@ -42,22 +42,22 @@ no_node_under_parts root net name (n ∷ f ∷ g ∷ ps) more is = refl
 
 -- behind another name
 pub no_node_under : (root net name rest path : List ℕ) → parts path ≡ name ∷ parts rest → proto_named name ≡ None
-    → None ≡ kept (node_of (root ∷ net ∷ parts path))
+    → None ≡ kept_node (node_of (root ∷ net ∷ parts path))
 no_node_under root net name rest path cut is =
-    sym (ap (λ ps. kept (node_of (root ∷ net ∷ ps))) cut ∙ ap kept (no_node_under_parts root net name (parts rest) (some_part rest) is))
+    sym (ap (λ ps. kept_node (node_of (root ∷ net ∷ ps))) cut ∙ ap kept_node (no_node_under_parts root net name (parts rest) (some_part rest) is))
 
 too_many : (p : Proto) (a b : List ℕ) (ps : List (List ℕ)) → 0 < length ps → under_proto p (a ∷ b ∷ ps) ≡ None
 too_many p a b [] more = absurd (omega (arith, more))
 too_many p a b (c ∷ ps) more = refl
 
 -- behind the file of a slot and a slash
-pub no_node_behind : (p : Proto) (path rest more a b : List ℕ) → parts path ≡ a ∷ parts rest → parts rest ≡ b ∷ parts more → None ≡ kept (under_proto p (parts path))
+pub no_node_behind : (p : Proto) (path rest more a b : List ℕ) → parts path ≡ a ∷ parts rest → parts rest ≡ b ∷ parts more → None ≡ kept_node (under_proto p (parts path))
 no_node_behind p path rest more a b first second =
-    sym (ap (λ ps. kept (under_proto p ps)) (first ∙ ap (λ ps. a ∷ ps) second) ∙ ap kept (too_many p a b (parts more) (some_part more)))
+    sym (ap (λ ps. kept_node (under_proto p ps)) (first ∙ ap (λ ps. a ∷ ps) second) ∙ ap kept_node (too_many p a b (parts more) (some_part more)))
 
 -- Checks.
 
-kept_fits : (o : Option Node) (n : Node) → kept o ≡ Some n → node_in_range n ≡ true
+kept_fits : (o : Option Node) (n : Node) → kept_node o ≡ Some n → node_in_range n ≡ true
 kept_fits None n is = absurd (none-some n is)
 kept_fits (Some m) n is = by (node_in_range m) refl is
   where
@@ -65,7 +65,7 @@ kept_fits (Some m) n is = by (node_in_range m) refl is
     by true fits same = subst (λ (x : Node). node_in_range x ≡ true) (same_Some m n same) fits
     by false fits same = absurd (none-some n same)
 
-checked_kept : (path : List ℕ) (o : Option Node) → checked_node path (kept o) ≡ checked_node path o
+checked_kept : (path : List ℕ) (o : Option Node) → checked_node path (kept_node o) ≡ checked_node path o
 checked_kept path None = refl
 checked_kept path (Some n) = by (node_in_range n) refl
   where
@@ -74,7 +74,7 @@ checked_kept path (Some n) = by (node_in_range n) refl
     by false fits = refl
 
 -- what is guessed is kept where its path is the path
-pub walk_kept : (path : List ℕ) (n : Node) → kept (node_of (parts path)) ≡ Some n → walk path ≡ (if bytes_eq path (path_of n) then Some n else None)
+pub walk_kept : (path : List ℕ) (n : Node) → kept_node (node_of (parts path)) ≡ Some n → walk path ≡ (if bytes_eq path (path_of n) then Some n else None)
 walk_kept path n is =
     sym (checked_kept path (node_of (parts path)))
     ∙ (ap (λ o. checked_node path o) is ∙ ap (λ b. if b && bytes_eq path (path_of n) then Some n else None) (kept_fits (node_of (parts path)) n is))

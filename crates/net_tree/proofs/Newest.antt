@@ -7,7 +7,7 @@ use Rattle.std.proofs.lemmas.Slice.Eq.{bytes_eq-Decides}
 use Rattle.net_base.specs.Steps as steps
 use Rattle.net_base.specs.Steps.{Bound, Fid as File, fid_among, is_among}
 use Rattle.net_tree.specs.declared.fids.Fid.{Fid}
-use Rattle.net_tree.specs.Bindings.{with_name, bindings, file_of, bound_of, newest_onto, AreApart}
+use Rattle.net_tree.specs.Bindings.{name_in_front, bindings, bound_file, bound_of, newest_onto, AreApart}
 use Rattle.net_base.proofs.Shared.{or_true}
 
 abbrev or_else : Option File → Option File → Option File
@@ -59,21 +59,21 @@ module _ {Z : Type 0} where
   not_removed c (e ∷ es) all = rw (all.0) (ap (λ (xs : List (Vec ℕ Z × Fid)). e ∷ xs) (not_removed c es all.1))
 
   fid_newest : (c : List ℕ) (names : List Bound) (es : List (Vec ℕ Z × Fid)) → AreApart es
-      → fid_among c (newest_onto names es) ≡ or_else (option_map file_of (lookup (has c) es)) (fid_among c names)
+      → fid_among c (newest_onto names es) ≡ or_else (option_map bound_file (lookup (has c) es)) (fid_among c names)
   fid_newest c names [] apart = refl
   fid_newest c names (e ∷ es) apart =
       fid_newest c (bound_of e ∷ names) es (rest_apart e es apart)
       ∙ by (has c e.0) refl (λ is. not_found c es (without c e.0 (keys_of es) is (first_apart e es apart)))
     where
       by : (b : Bool) → has c e.0 ≡ b → (has c e.0 ≡ true → lookup (has c) es ≡ None)
-          → or_else (option_map file_of (lookup (has c) es)) (if b then Some (file_of e.1) else fid_among c names)
-          ≡ or_else (option_map file_of (if b then Some e.1 else lookup (has c) es)) (fid_among c names)
+          → or_else (option_map bound_file (lookup (has c) es)) (if b then Some (bound_file e.1) else fid_among c names)
+          ≡ or_else (option_map bound_file (if b then Some e.1 else lookup (has c) es)) (fid_among c names)
       by true is none = rw (none is) refl
       by false is none = refl
 
   -- what the newest binding of a name is bound to
-  pub fid_found : (c : List ℕ) (es : List (Vec ℕ Z × Fid)) → AreApart es → option_map file_of (lookup (has c) es) ≡ fid_among c (newest_onto [] es)
-  fid_found c es apart = sym (fid_newest c [] es apart ∙ by (option_map file_of (lookup (has c) es)))
+  pub fid_found : (c : List ℕ) (es : List (Vec ℕ Z × Fid)) → AreApart es → option_map bound_file (lookup (has c) es) ≡ fid_among c (newest_onto [] es)
+  fid_found c es apart = sym (fid_newest c [] es apart ∙ by (option_map bound_file (lookup (has c) es)))
     where
       by : (o : Option File) → or_else o None ≡ o
       by None = refl
@@ -120,7 +120,7 @@ module _ {Z : Type 0} where
   not_bound c k es same free = none_of _ (bound_found (vec_items k) es ∙ (ap (λ (x : List ℕ). is_among (newest_onto [] es) x) same ∙ free))
 
   -- a name that is bound last is the newest
-  pub bound_more : (c : List ℕ) (k : Vec ℕ Z) (f : Fid) (es fs : List (Vec ℕ Z × Fid)) → vec_items k ≡ c → fs ≡ es ++ (k, f) ∷ [] → newest_onto [] fs ≡ with_name c (file_of f) (newest_onto [] es)
+  pub bound_more : (c : List ℕ) (k : Vec ℕ Z) (f : Fid) (es fs : List (Vec ℕ Z × Fid)) → vec_items k ≡ c → fs ≡ es ++ (k, f) ∷ [] → newest_onto [] fs ≡ name_in_front c (bound_file f) (newest_onto [] es)
   bound_more c k f es fs same is =
       ap (λ (xs : List (Vec ℕ Z × Fid)). newest_onto [] xs) is
-      ∙ (newest_last [] es (k, f) ∙ ap (λ (x : List ℕ). with_name x (file_of f) (newest_onto [] es)) same)
+      ∙ (newest_last [] es (k, f) ∙ ap (λ (x : List ℕ). name_in_front x (bound_file f) (newest_onto [] es)) same)

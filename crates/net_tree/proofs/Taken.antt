@@ -3,7 +3,7 @@ use Rattle.std.proofs.Common.{◌≡◌, ℕ, zero, suc, ◌+◌, Bool, true, fa
 use Rattle.std.specs.Prelude.{decimal}
 use Rattle.std.specs.List.{range_with_len}
 use Rattle.std.proofs.lemmas.List.{map-append}
-use Rattle.net_tree.specs.Slots.{is_taken, taken_at, taken_below}
+use Rattle.net_tree.specs.Slots.{is_slot_taken, taken_at, taken_below}
 
 filter_more : (p : ℕ → Bool) (a n k : ℕ) → a + n ≡ k → filter p (range_with_len a (suc n)) ≡ filter p (range_with_len a n) ++ (if p k then k ∷ [] else [])
 filter_more p a zero k is = ap (λ (j : ℕ). if p j then j ∷ [] else []) (omega (arith, is))
@@ -25,8 +25,8 @@ none_below slots = refl
 taken_next : (slots n : ℕ) → map decimal (taken_below (n + 1) slots) ≡ map decimal (taken_below n slots) ++ map decimal (taken_at slots n)
 unfolding taken_below
 taken_next slots n =
-    ap (λ (ns : List ℕ). map decimal ns) (number_more (is_taken slots) n)
-    ∙ map-append decimal (filter (is_taken slots) (range_with_len 0 n)) (taken_at slots n)
+    ap (λ (ns : List ℕ). map decimal ns) (number_more (is_slot_taken slots) n)
+    ∙ map-append decimal (filter (is_slot_taken slots) (range_with_len 0 n)) (taken_at slots n)
 
 -- one slot more
 pub taken_more : (slots n : ℕ) (first : List ℕ) (lines more : List (List ℕ)) → more ≡ lines ++ map decimal (taken_at slots n)

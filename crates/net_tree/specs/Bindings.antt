@@ -14,16 +14,16 @@ abbrev pub bindings : List Bound → Option (List ℕ) → Bindings
 bindings names reserved = record { names = names; reserved = reserved }
 
 -- the open file of the definitions
-abbrev pub file_of : Fid → File
-file_of f = record { proto = f.proto; slot = f.slot; generation = f.generation; file = f.file; mode = f.mode }
+abbrev pub bound_file : Fid → File
+bound_file f = record { proto = f.proto; slot = f.slot; generation = f.generation; file = f.file; mode = f.mode }
 
 -- a name that is bound stands first
-abbrev pub with_name : List ℕ → File → List Bound → List Bound
-with_name called fid names = record { called = called; fid = fid } ∷ names
+abbrev pub name_in_front : List ℕ → File → List Bound → List Bound
+name_in_front called fid names = record { called = called; fid = fid } ∷ names
 
 module _ {Z : Type 0} where
   abbrev pub bound_of : Vec ℕ Z × Fid → Bound
-  bound_of e = record { called = vec_items e.0; fid = file_of e.1 }
+  bound_of e = record { called = vec_items e.0; fid = bound_file e.1 }
 
   -- these names, before which stand those of the entries, the last first
   abbrev pub newest_onto : List Bound → List (Vec ℕ Z × Fid) → List Bound

@@ -4,8 +4,8 @@ use Rattle.net_tree.specs.declared.fault.TreeError.{TreeError}
 use Rattle.net_tree.specs.declared.fault.TreeError.TheVariants.{NoFile, BadMode, BadFid, Memory}
 
 -- the number of a refusal, and 0 for want of memory
-abbrev pub number_of : TreeError → ℕ
-number_of NoFile = 1
-number_of BadMode = 2
-number_of BadFid = 3
-number_of Memory = 0
+abbrev pub tree_fault_number : TreeError → ℕ
+tree_fault_number NoFile = 1
+tree_fault_number BadMode = 2
+tree_fault_number BadFid = 3
+tree_fault_number Memory = 0

@@ -9,9 +9,9 @@ use Rattle.net_base.specs.declared.names.Node.TheVariants as node
 use Rattle.net_base.specs.Paths.{node_in_range, clone_or_dir, file_named}
 
 -- the node, where its slot is below 32
-abbrev pub kept : Option Node → Option Node
-kept None = None
-kept (Some n) = if node_in_range n then Some n else None
+abbrev pub kept_node : Option Node → Option Node
+kept_node None = None
+kept_node (Some n) = if node_in_range n then Some n else None
 
 -- what the parts behind a protocol would name
 abbrev pub under_proto : Proto → List (List ℕ) → Option Node

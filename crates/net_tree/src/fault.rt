@@ -1,6 +1,6 @@
 //! What is refused of a path, a mode or a name.
 ghost use Rattle.std.specs.Prelude.{◌≡◌};
-ghost use Rattle.net_tree.specs.Fault.{number_of};
+ghost use Rattle.net_tree.specs.Fault.{tree_fault_number};
 
 use std::alloc::AllocError;
 
@@ -20,7 +20,7 @@ pub enum TreeError {
 impl TreeError {
     /// Its number in a reply, and 0 for want of memory.
     pub fn number(self) -> u32
-        ensures { result ≡ number_of self }
+        ensures { result ≡ tree_fault_number self }
     {
         match self {
             TreeError::NoFile => 1,

@@ -1,7 +1,7 @@
 //! Names bound to open files.
 ghost use Rattle.std.specs.Prelude.{◌≡◌, ◌≢◌, ◌↔◌, ◌⊎◌, [], None, Some, Err, true, false, IsTrue, IsErrOf, IfErr, OnOk, OnErr, option_map};
 ghost use Rattle.net_base.specs.Steps as steps;
-ghost use Rattle.net_tree.specs.Bindings.{file_of, with_name};
+ghost use Rattle.net_tree.specs.Bindings.{bound_file, name_in_front};
 ghost use Rattle.net_tree.specs.declared.fault.TreeError.TheVariants.{BadFid, Memory};
 
 use crate::fault::TreeError;
@@ -56,7 +56,7 @@ impl Fids {
 
     /// The file that the name is bound to.
     pub fn get(&self, name: &[u8]) -> Option<Fid>
-        ensures { option_map file_of result ≡ steps.fid_among name.now self.now.names }
+        ensures { option_map bound_file result ≡ steps.fid_among name.now self.now.names }
     {
         self.entries.get(name).copied()
     }
@@ -81,7 +81,7 @@ impl Fids {
 
     /// Binds a name that isn't bound.
     pub fn bind(&mut self, name: &[u8], fid: Fid) -> Result<(), TreeError>
-        ensures ok { OnOk result (self.new ≡ record { names = with_name name.now (file_of fid) self.old.names; reserved = None }) }
+        ensures ok { OnOk result (self.new ≡ record { names = name_in_front name.now (bound_file fid) self.old.names; reserved = None }) }
         ensures err { OnErr result (self.new ≡ self.old) }
         ensures bad_fid { IsErrOf result BadFid ↔ (steps.is_among self.old.names name.now ≡ true) }
         ensures causes { IfErr result (λ e. (e ≡ BadFid) ⊎ (e ≡ Memory)) }
@@ -100,7 +100,7 @@ impl Fids {
 
     /// Unbinds the name, and gives the file that it was bound to.
     pub fn unbind(&mut self, name: &[u8]) -> Option<Fid>
-        ensures found { option_map file_of result ≡ steps.fid_among name.now self.old.names }
+        ensures found { option_map bound_file result ≡ steps.fid_among name.now self.old.names }
         ensures rest { self.new ≡ record self.old { names = steps.without name.now self.old.names } }
     {
         self.entries.shift_remove(name)
@@ -120,7 +120,7 @@ impl Fids {
     fn bind_reserved(&mut self, name: &[u8], fid: Fid)
         requires free { steps.is_among self.old.names name.now ≡ false }
         requires room { self.old.reserved ≡ Some name.now }
-        ensures { self.new ≡ record { names = with_name name.now (file_of fid) self.old.names; reserved = None } }
+        ensures { self.new ≡ record { names = name_in_front name.now (bound_file fid) self.old.names; reserved = None } }
     {
         if let Some(text) = self.kept.take() {
             // there is room for it
@@ -131,7 +131,7 @@ impl Fids {
     // Binds a copy of the name.
     fn bind_copied(&mut self, name: &[u8], fid: Fid) -> Result<(), AllocError>
         requires free { steps.is_among self.old.names name.now ≡ false }
-        ensures ok { OnOk result (self.new ≡ record { names = with_name name.now (file_of fid) self.old.names; reserved = None }) }
+        ensures ok { OnOk result (self.new ≡ record { names = name_in_front name.now (bound_file fid) self.old.names; reserved = None }) }
         ensures err { OnErr result (self.new ≡ self.old) }
     {
         let text = Vec::from_slice(self.alloc, name)?;

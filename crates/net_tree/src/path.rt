@@ -5,7 +5,7 @@ ghost use Rattle.std.specs.Str.Parse.{digits_value};
 ghost use Rattle.net_base.specs.declared.names.Node.TheVariants as node;
 ghost use Rattle.net_base.specs.Paths as spec;
 ghost use Rattle.net_tree.specs.declared.fault.TreeError.TheVariants.{NoFile};
-ghost use Rattle.net_tree.specs.Guess.{Begins, kept, kept_slot, under_proto};
+ghost use Rattle.net_tree.specs.Guess.{Begins, kept_node, kept_slot, under_proto};
 
 use crate::fault::TreeError;
 use itoa::Buffer;
@@ -30,7 +30,7 @@ pub fn walk(path: &[u8]) -> Result<Node, TreeError>
 
 // The node that the parts of a path would name, where its slot is below 32.
 fn node_of(path: &[u8]) -> Option<Node>
-    ensures { result ≡ kept (spec.node_of (slice_split (λ b. b == 47) path.now)) }
+    ensures { result ≡ kept_node (spec.node_of (slice_split (λ b. b == 47) path.now)) }
 {
     let (_, rest) = split_first(path, b'/');
     let (_, rest) = split_first(rest?, b'/');
@@ -42,7 +42,7 @@ fn node_of(path: &[u8]) -> Option<Node>
 
 // What the parts behind `/net/` would name.
 fn under_net(path: &[u8]) -> Option<Node>
-    ensures { (root net : List ℕ) → result ≡ kept (spec.node_of (root ∷ net ∷ slice_split (λ b. b == 47) path.now)) }
+    ensures { (root net : List ℕ) → result ≡ kept_node (spec.node_of (root ∷ net ∷ slice_split (λ b. b == 47) path.now)) }
 {
     let (name, rest) = split_first(path, b'/');
     match rest {
@@ -68,7 +68,7 @@ fn cs_or_proto(name: &[u8]) -> Option<Node>
 
 // What the parts behind a protocol would name.
 fn under_proto(proto: Proto, path: &[u8]) -> Option<Node>
-    ensures { result ≡ kept (under_proto proto (slice_split (λ b. b == 47) path.now)) }
+    ensures { result ≡ kept_node (under_proto proto (slice_split (λ b. b == 47) path.now)) }
 {
     let (name, rest) = split_first(path, b'/');
     match rest {
@@ -81,7 +81,7 @@ fn under_proto(proto: Proto, path: &[u8]) -> Option<Node>
 }
 
 fn clone_or_dir(proto: Proto, name: &[u8]) -> Option<Node>
-    ensures { result ≡ kept (Some (spec.clone_or_dir name.now proto)) }
+    ensures { result ≡ kept_node (Some (spec.clone_or_dir name.now proto)) }
 {
     if name == b"clone".as_slice() {
         return Some(Node::Clone(proto));
@@ -93,7 +93,7 @@ fn clone_or_dir(proto: Proto, name: &[u8]) -> Option<Node>
 }
 
 fn file_of_slot(proto: Proto, slot: &[u8], file: &[u8]) -> Option<Node>
-    ensures { result ≡ kept (under_proto proto (slot.now ∷ file.now ∷ [])) }
+    ensures { result ≡ kept_node (under_proto proto (slot.now ∷ file.now ∷ [])) }
 {
     match (file_named(file), slot_of(slot)) {
         (Some(file), Some(slot)) => Some(Node::File(proto, slot, file)),

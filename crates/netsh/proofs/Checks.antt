@@ -6,14 +6,14 @@ use Rattle.net_model.specs.Answers.{Answer, all_kept, rule_broken}
 use Rattle.net_model.specs.Words.{Check}
 use Rattle.world_text.specs.WorldText.{world_reading}
 use Rattle.commands.specs.Built.{asking, IsAnswer, IsFirstBad, IsJudged}
-use Rattle.checked_input.specs.Input.{bad_world, no_history, parts_of, Handed, IsBadFrom, IsBadHanded, IsBadHistory, Parts}
+use Rattle.checked_input.specs.Input.{bad_world, no_history, parts_of, Handed, IsBadFrom, IsBadHanded, IsBadHistory, InputParts}
 use Rattle.commands.specs.Checked.{BreaksOne, IsChecked, KeepsAll}
-use Rattle.command_line.specs.Asking.{IsGiven, is_over}
+use Rattle.command_line.specs.Asking.{IsGiven, is_input_over}
 use Rattle.command_line.proofs.Shared.{given_good, told_of}
 
 -- an input of which no line is bad hands in a world and a history
 
-world_handed : (input : List ℕ) (parts : Parts) → parts_of input ≡ Some parts → (read : Result World (ℕ × ℕ)) → world_reading parts.world ≡ read
+world_handed : (input : List ℕ) (parts : InputParts) → parts_of input ≡ Some parts → (read : Result World (ℕ × ℕ)) → world_reading parts.world ≡ read
     → IsBadFrom (bad_world read) (IsBadHistory (parts.lines + 1) parts.history) None → Handed input
 world_handed input parts are (Err bad) is told = absurd (none-some bad told)
 world_handed input parts are (Ok w) is told =
@@ -23,14 +23,14 @@ no_world_handed : (input : List ℕ) (bad : Option (ℕ × ℕ)) → IsBadFrom b
 no_world_handed input None told = absurd (none-some (no_history input) told)
 no_world_handed input (Some bad) told = absurd (none-some bad told)
 
-parts_handed : (input : List ℕ) (parts : Option Parts) → parts_of input ≡ parts → IsBadHanded parts input None → Handed input
+parts_handed : (input : List ℕ) (parts : Option InputParts) → parts_of input ≡ parts → IsBadHanded parts input None → Handed input
 parts_handed input None are told = no_world_handed input (bad_world (world_reading input)) told
 parts_handed input (Some parts) are told = world_handed input parts are (world_reading parts.world) refl told
 
 pub handed_in : (input : List ℕ) → IsFirstBad Check input None → Handed input
-handed_in input good = by (is_over asking Check input) refl
+handed_in input good = by (is_input_over asking Check input) refl
   where
-    by : (over : Bool) → is_over asking Check input ≡ over → Handed input
+    by : (over : Bool) → is_input_over asking Check input ≡ over → Handed input
     by true is = absurd (none-some (0, 9) (told_of _ asking Check input true is None good))
     by false is = parts_handed input (parts_of input) refl (told_of _ asking Check input false is None good)
 

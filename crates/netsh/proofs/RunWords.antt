@@ -4,7 +4,7 @@ use Rattle.std.specs.Prelude.{bytes_eq, codes}
 use Rattle.std.specs.Option.{option_and_then, option_map}
 use Rattle.std.proofs.lemmas.Bool.Decides.{nat_tests}
 use Rattle.net_base.specs.Addresses.{is_padded, read_digits, within}
-use Rattle.net_model.specs.Words.{Check, Command, Cs, Query, Dns, Run, Make, Big, Export, Translate, is_message, is_word, messages_in, workers_in, command_of}
+use Rattle.net_model.specs.Words.{Check, Command, Cs, Query, Dns, Run, Make, Big, Export, Translate, is_message, is_any_word, messages_in_words, workers_in, command_of}
 
 -- The workers of a command.
 
@@ -83,11 +83,11 @@ said_words (name ∷ []) workers is = absurd (one_run (bytes_eq name (codes "che
 said_words (name ∷ number ∷ []) workers is =
     said_within number workers
     (two_run (bytes_eq name (codes "run")) (bytes_eq name (codes "make")) (bytes_eq name (codes "big")) (bytes_eq name (codes "export")) (bytes_eq name (codes "dns") && is_message number)
-    (workers_in number) (messages_in number) number workers is)
+    (workers_in number) (messages_in_words number) number workers is)
 said_words (name ∷ sys ∷ query ∷ []) workers is =
-    absurd (three_run (is_word sys && is_word query) (bytes_eq name (codes "cs")) (bytes_eq name (codes "query")) sys query workers is)
+    absurd (three_run (is_any_word sys && is_any_word query) (bytes_eq name (codes "cs")) (bytes_eq name (codes "query")) sys query workers is)
 said_words (name ∷ attr ∷ value ∷ other ∷ []) workers is =
-    absurd (four_run (bytes_eq name (codes "query") && is_word attr && is_word value && is_word other) attr value other workers is)
+    absurd (four_run (bytes_eq name (codes "query") && is_any_word attr && is_any_word value && is_any_word other) attr value other workers is)
 said_words (name ∷ attr ∷ value ∷ other ∷ more ∷ words) workers is = absurd (nothing workers is)
 
 pub workers_within : (words : List (List ℕ)) (workers : ℕ) → command_of words ≡ Some (Run workers) → (1 ≤ workers) × (workers ≤ 16)

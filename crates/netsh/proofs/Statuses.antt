@@ -9,7 +9,7 @@ use Rattle.net_base.specs.Calm as calm
 use Rattle.net_base.specs.Cs.{CsAnswer, Lines, Refused}
 use Rattle.net_base.specs.Legal.{IsLegal, IsTimed}
 use Rattle.net_base.specs.Net.{Net, after}
-use Rattle.net_model.specs.Words.{Command, Cs, Query, Dns, Run, Make, Big, Check, Export, Translate, may_wait, reads, words_read, words_wait}
+use Rattle.net_model.specs.Words.{Command, Cs, Query, Dns, Run, Make, Big, Check, Export, Translate, may_wait, reads_input, words_read, words_wait}
 use Rattle.commands.specs.Built.{asking, made, IsBadLine, IsStatus, IsWorldOf, IsFound, IsFirstBad, IsAnswer}
 use Rattle.checked_input.specs.Input.{Handed}
 use Rattle.commands.specs.Checked.{BreaksOne, IsChecked, KeepsAll}
@@ -150,7 +150,7 @@ eight_ill true n eight = inr (inr (inr eight))
 eight_ill false n eight = inr eight
 
 -- a command with a bad line has an input
-bad_reads : (asked : Command) (input : List ℕ) (bad : ℕ × ℕ) → IsBadLine asked input (Some bad) → reads asked ≡ true
+bad_reads : (asked : Command) (input : List ℕ) (bad : ℕ × ℕ) → IsBadLine asked input (Some bad) → reads_input asked ≡ true
 bad_reads (Cs sys query) input bad is = refl
 bad_reads (Query attr value other) input bad is = refl
 bad_reads (Dns word) input bad is = refl
@@ -179,13 +179,13 @@ sound = record {
 
 -- an answer ends well, or with its first bad line
 given_ends : (asked : Command) (input : List ℕ) (answer : Answer) (bad : Option (ℕ × ℕ)) → IsFirstBad asked input bad → IsGiven asking bad asked input answer
-    → EndsWell asked answer.status ⊎ EndsIll (reads asked) answer.status
+    → EndsWell asked answer.status ⊎ EndsIll (reads_input asked) answer.status
 given_ends asked input answer None is given = inl (found_well asked input answer is given)
 given_ends asked input answer (Some bad) is given =
-    inr (two_ill (reads asked) answer.status (calls.bad_reads Command asking sound asked input bad is) (ap (λ (a : Answer). a.status) given))
+    inr (two_ill (reads_input asked) answer.status (calls.bad_reads Command asking sound asked input bad is) (ap (λ (a : Answer). a.status) given))
 
 -- without an input it ends well
-unread_well : (asked : Command) (input : List ℕ) (answer : Answer) → reads asked ≡ false → IsAnswer asked input answer → EndsWell asked answer.status
+unread_well : (asked : Command) (input : List ℕ) (answer : Answer) → reads_input asked ≡ false → IsAnswer asked input answer → EndsWell asked answer.status
 unread_well asked input answer none is = by is.found is.first is.given
   where
     by : (bad : Option (ℕ × ℕ)) → IsFirstBad asked input bad → IsGiven asking bad asked input answer → EndsWell asked answer.status
@@ -200,7 +200,7 @@ module _ (command : Option Command) (intake : Intake) where
   it_of n no_two of =
       let good = calls.good_of Command asking sound command intake n no_two of in of_found of.asked of.answers.input of.answer good.0 good.1
 
-  took_all : (n : ℕ) → (n ≡ 2 → ⊥) → (of : IsStatusOf command n intake) → TookAll (reads of.asked) intake of.answers.input
+  took_all : (n : ℕ) → (n ≡ 2 → ⊥) → (of : IsStatusOf command n intake) → TookAll (reads_input of.asked) intake of.answers.input
   took_all n no_two of =
       calls.took_all Command asking sound of.asked of.answers.input intake of.answers.read (calls.good_of Command asking sound command intake n no_two of).0
 
@@ -243,17 +243,17 @@ module _ (command : Option Command) (intake : Intake) where
 
 module _ (command : Option Command) (status : ℕ) (intake : Intake) (output : Output) (ends : Ends command status intake output) where
   -- how a call with a command ends
-  each : (asked : Command) → command ≡ Some asked → Ends command status intake output → EndsWell asked status ⊎ EndsIll (reads asked) status
+  each : (asked : Command) → command ≡ Some asked → Ends command status intake output → EndsWell asked status ⊎ EndsIll (reads_input asked) status
   each asked is (no_row none unread_source told) = absurd (some_none asked (sym is ∙ none))
   each asked is (answered other answer is_other answers (inl t)) =
-      subst (λ (c : Command). EndsWell c status ⊎ EndsIll (reads c) status)
+      subst (λ (c : Command). EndsWell c status ⊎ EndsIll (reads_input c) status)
       (calls.same_command Command asking sound command status intake output asked other is is_other)
-      (subst (λ (n : ℕ). EndsWell other n ⊎ EndsIll (reads other) n) (sym t.0)
+      (subst (λ (n : ℕ). EndsWell other n ⊎ EndsIll (reads_input other) n) (sym t.0)
       (given_ends other answers.input answer answers.right.found answers.right.first answers.right.given))
-  each asked is (answered other answer is_other answers (inr t)) = inr (seven_ill (reads asked) status t.0)
-  each asked is (unread other is_other has rose (inl t)) = inr (six_ill (reads asked) status (ap words_read (sym is ∙ is_other) ∙ has) t.0)
-  each asked is (unread other is_other has rose (inr t)) = inr (seven_ill (reads asked) status t.0)
-  each asked is (no_memory other is_other eight took kept) = inr (eight_ill (reads asked) status eight)
+  each asked is (answered other answer is_other answers (inr t)) = inr (seven_ill (reads_input asked) status t.0)
+  each asked is (unread other is_other has rose (inl t)) = inr (six_ill (reads_input asked) status (ap words_read (sym is ∙ is_other) ∙ has) t.0)
+  each asked is (unread other is_other has rose (inr t)) = inr (seven_ill (reads_input asked) status t.0)
+  each asked is (no_memory other is_other eight took kept) = inr (eight_ill (reads_input asked) status eight)
 
   of_status : (n : ℕ) → status ≡ n → (n ≡ 1 → ⊥) → (n ≡ 6 → ⊥) → (n ≡ 7 → ⊥) → (n ≡ 8 → ⊥) → IsStatusOf command n intake
   of_status n is = calls.status_of Command asking sound command status intake output n ends is
@@ -284,10 +284,10 @@ module _ (command : Option Command) (status : ℕ) (intake : Intake) (output : O
 
   -- without a fault a call ends well, where its input is good
   well : ¬ Rose intake.before intake.after → ¬ Rose output.before output.after → (asked : Command) → command ≡ Some asked
-      → HasGood (reads asked) asked intake → EndsWell asked status ⊎ (status ≡ 8)
-  well no_read no_write asked is good = by (reads asked) refl good
+      → HasGood (reads_input asked) asked intake → EndsWell asked status ⊎ (status ≡ 8)
+  well no_read no_write asked is good = by (reads_input asked) refl good
     where
-      by : (has : Bool) → reads asked ≡ has → HasGood has asked intake → EndsWell asked status ⊎ (status ≡ 8)
+      by : (has : Bool) → reads_input asked ≡ has → HasGood has asked intake → EndsWell asked status ⊎ (status ≡ 8)
       by true has (input, left, none) =
           elim (calls.told_input Command asking sound command status intake output ends no_read no_write asked input has is left) [
             | inl eight ↦ inr eight

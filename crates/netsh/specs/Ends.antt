@@ -7,7 +7,7 @@ use Rattle.net_model.specs.Answers.{Answer}
 use Rattle.net_base.specs.Calm as calm
 use Rattle.net_base.specs.Legal.{IsLegal, IsTimed}
 use Rattle.net_base.specs.Net.{Net, after}
-use Rattle.net_model.specs.Words.{Command, Cs, Query, Dns, Run, Make, Big, Check, reads, words_read, words_wait, Export, Translate}
+use Rattle.net_model.specs.Words.{Command, Cs, Query, Dns, Run, Make, Big, Check, reads_input, words_read, words_wait, Export, Translate}
 use Rattle.outside.specs.Streams.{Rose}
 use Rattle.outside.specs.declared.fault.TakeError.{TakeError}
 use Rattle.commands.specs.Built.{IsFirstBad, IsWorldOf, asking}
@@ -41,7 +41,7 @@ pub record HasRun (command : Option Command) (so : World → Net → Bool) (inta
   pub world : World
   pub history : List Entry
   pub is_asked : command ≡ Some asked
-  pub took : TookAll (reads asked) intake input
+  pub took : TookAll (reads_input asked) intake input
   pub is_world : IsWorldOf asked input world
   pub legal : IsLegal world history
   pub timed : IsTimed world history
@@ -97,12 +97,12 @@ pub record Causes (command : Option Command) (status : ℕ) (intake : Intake) (o
   pub check_kept : command ≡ Some Check → status ≡ 0 → HasChecked command KeepsAll intake
   pub check_broken : command ≡ Some Check → status ≡ 5 → HasChecked command BreaksOne intake
   -- each command has its own statuses, whatever fails
-  pub each : (asked : Command) → command ≡ Some asked → EndsWell asked status ⊎ EndsIll (reads asked) status
+  pub each : (asked : Command) → command ≡ Some asked → EndsWell asked status ⊎ EndsIll (reads_input asked) status
   -- the answer was made from the whole input, where the command has one
   pub end : words_read command ≡ true → (status ≡ 0) ⊎ (status ≡ 3) ⊎ (status ≡ 4) ⊎ (status ≡ 5) → IsAtEnd intake.rest
   -- without a fault each command ends well where its input, if it has one, is good
   pub well : ¬ Rose intake.before intake.after → ¬ Rose output.before output.after → (asked : Command) → command ≡ Some asked
-      → HasGood (reads asked) asked intake → EndsWell asked status ⊎ (status ≡ 8)
+      → HasGood (reads_input asked) asked intake → EndsWell asked status ⊎ (status ≡ 8)
   -- of check 0 comes wherever all rules hold, and 5 wherever one is broken
   pub keeps : (input : List ℕ) → IsHanded command intake output input → (handed : Handed input) → KeepsAll handed.world handed.history handed.told
       → (status ≡ 0) ⊎ (status ≡ 8)

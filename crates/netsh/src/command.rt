@@ -1,7 +1,7 @@
 //! The words of the command line.
 ghost use Rattle.std.specs.Prelude.{◌≡◌, ◌∷◌, ◌&&◌, [], is_some, length, map, nat_le, option_map, string_bytes};
 ghost use Rattle.net_base.specs.Hexadecimal.{hex_bytes, hex_value};
-ghost use Rattle.net_model.specs.Words.{command_of, is_message, is_word, messages_in, reads, workers_in};
+ghost use Rattle.net_model.specs.Words.{command_of, is_message, is_any_word, messages_in_words, reads_input, workers_in};
 ghost use Rattle.netsh.specs.Commands.{command_read, question_read};
 
 use words::number_in;
@@ -40,7 +40,7 @@ pub enum Command<'a> {
 
 /// Whether a command that never waits has an input.
 pub fn has_input(question: Question<'_>) -> bool
-    ensures { result ≡ reads (question_read question.entry) }
+    ensures { result ≡ reads_input (question_read question.entry) }
 {
     match question {
         Question::Cs(_, _) => true,
@@ -153,9 +153,9 @@ fn read_workers(word: &[u8]) -> Option<u32>
 }
 
 /// The number of messages that a word says, 1 to 9000.
-#[tactic(auto, unfolding(net_model::specs::Words::messages_in))]
+#[tactic(auto, unfolding(net_model::specs::Words::messages_in_words))]
 fn read_messages(word: &[u8]) -> Option<u32>
-    ensures { result ≡ messages_in word.now }
+    ensures { result ≡ messages_in_words word.now }
 {
     let messages = number_in(1, 9000, word)?;
     Some(messages as u32)
@@ -195,7 +195,7 @@ fn read_four<'a>(
 
 /// Whether a word has bytes.
 fn is_word(word: &[u8]) -> bool
-    ensures { result ≡ is_word word.now }
+    ensures { result ≡ is_any_word word.now }
 {
     !word.is_empty()
 }

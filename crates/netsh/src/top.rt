@@ -1,6 +1,6 @@
 //! The top call: words and an input in, a status and a text out.
 ghost use Rattle.std.specs.Prelude.{◌≡◌, ◌≢◌, ◌<◌, ◌≤◌, ◌↔◌, ◌⊎◌, ◌+◌, ℕ, map, string_bytes, length, IsNone, IfNone, IfSome, IfOk, IsTrue, Some, None, false};
-ghost use Rattle.net_model.specs.Words.{Big as AnyBig, Command as AnyCommand, Export as AnyExport, Run as AnyRun, command_of, reads, words_wait};
+ghost use Rattle.net_model.specs.Words.{Big as AnyBig, Command as AnyCommand, Export as AnyExport, Run as AnyRun, command_of, reads_input, words_wait};
 ghost use Rattle.command_line.specs.Calls.{Intake, IsUnread};
 ghost use Rattle.netsh.specs.Ends.{Causes, Ends, EndsWell, HasGood, IsAnswered, most_reads};
 ghost use Rattle.net_model.specs.Answers.{input_limit};
@@ -251,7 +251,7 @@ pub fn netsh_surely<R: Threads + Wait + Sync, G: Gate + Sync>(
         (record { held = None; holds = None; before = 0; after = 0 }) }
     ensures surely { (result ≢ 6) × (result ≢ 7) }
     ensures well { (asked : AnyCommand) → command_of (map string_bytes words.now) ≡ Some asked
-        → HasGood (reads asked) asked (record { left = Some source.old; rest = Some source.new; before = 0; after = 0 })
+        → HasGood (reads_input asked) asked (record { left = Some source.old; rest = Some source.new; before = 0; after = 0 })
         → EndsWell asked result ⊎ (result ≡ 8) }
 {
     netsh(rt, alloc, words, source, sink, gate)

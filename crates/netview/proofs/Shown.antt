@@ -5,10 +5,10 @@ use Rattle.net_base.specs.declared.world.World.{World}
 use Rattle.net_base.specs.Legal.{IsFault, IsLegal, IsTimed, Rule, rule_number}
 use Rattle.net_model.specs.Answers.{Answer, bad_input, rule_broken}
 use Rattle.netcheck.specs.Judged.{HasFault}
-use Rattle.checked_input.specs.Told.{HandsIn, IsFirst, Refuses}
+use Rattle.checked_input.specs.Told.{HandsIn, IsFirstTold, RefusesInput}
 use Rattle.checked_input.specs.declared.fault.InputError.TheVariants as error
 use Rattle.net_base.specs.NdbBundle.{bad_line}
-use Rattle.netview.specs.Views.{asking, input_limit, view, whole, IsAnswer, IsShown}
+use Rattle.netview.specs.Views.{asking, input_limit, command_view, whole_view, IsAnswer, IsShown}
 use Rattle.netview.specs.Words.{Lint, Show, View}
 use Rattle.command_line.specs.Asking.{IsGiven}
 use Rattle.command_line.proofs.Shared.{answer_within, within_limit}
@@ -21,7 +21,7 @@ abbrev pub OneFault : Type 0
 OneFault = (w : World) (h : List Entry) (s t : ℕ) (r q : Rule) → IsFault w h s r → IsFault w h t q → (s ≡ t) × (r ≡ q)
 
 module _ (asked : View) (input : List ℕ) (w : World) (h : List Entry) (answer : Answer) (not_legal : NotLegal) where
-  shown_kept : IsLegal w h → IsTimed w h → answer ≡ view asked input w h → IsShown asked input w h answer
+  shown_kept : IsLegal w h → IsTimed w h → answer ≡ command_view asked input w h → IsShown asked input w h answer
   shown_kept legal timed is = record {
     kept = λ l t. is;
     broken = λ stamp rule fault. absurd (not_legal w h stamp fault.0 fault.2 legal timed);
@@ -51,18 +51,18 @@ answer_good asked input w h told answer fits hands shown =
     )
 
 pub answers_view : (asked : View) (input : List ℕ) (w : World) (h : List Entry) (told : Option (List ℕ)) (answer : Answer) → NotLegal
-    → length input ≤ input_limit (Show asked) → HandsIn input w h told → IsLegal w h → IsTimed w h → answer ≡ view asked input w h → IsAnswer (Show asked) input answer
+    → length input ≤ input_limit (Show asked) → HandsIn input w h told → IsLegal w h → IsTimed w h → answer ≡ command_view asked input w h → IsAnswer (Show asked) input answer
 answers_view asked input w h told answer not_legal fits hands legal timed is =
     answer_good asked input w h told answer fits hands (shown_kept asked input w h answer not_legal legal timed is)
 
 pub answers_bad : (asked : View) (input : List ℕ) (line cause : ℕ) (answer : Answer) → length input ≤ input_limit (Show asked)
-    → IsFirst input (Some (line, cause))
+    → IsFirstTold input (Some (line, cause))
     → answer ≡ bad_input line cause → IsAnswer (Show asked) input answer
 answers_bad asked input line cause answer fits first is =
     answer_within _ asking (Show asked) input answer (Some (line, cause)) (within_limit _ asking (Show asked) input fits) first.is first.only is
 
 pub answers_fault : (asked : View) (input : List ℕ) (stamp rule : ℕ) (answer : Answer) → NotLegal → OneFault → length input ≤ input_limit (Show asked)
-    → Refuses input (error.Fault stamp rule) → answer ≡ rule_broken stamp rule → IsAnswer (Show asked) input answer
+    → RefusesInput input (error.Fault stamp rule) → answer ≡ rule_broken stamp rule → IsAnswer (Show asked) input answer
 answers_fault asked input stamp rule answer not_legal one fits (w, h, told, hands, fault) is =
     answer_good asked input w h told answer fits hands (shown_broken asked input w h answer not_legal one stamp rule fault is)
 
@@ -75,7 +75,7 @@ bundle_told : (input : List ℕ) (found : Option (ℕ × ℕ)) (answer : Answer)
 bundle_told input found answer fits is given =
     answer_within _ asking Lint input answer found (within_limit _ asking Lint input fits) (sym is) (λ other told. told ∙ is) given
 
-pub answers_notes : (input notes : List ℕ) (answer : Answer) → length input ≤ input_limit Lint → bad_line input ≡ None → answer ≡ whole notes
+pub answers_notes : (input notes : List ℕ) (answer : Answer) → length input ≤ input_limit Lint → bad_line input ≡ None → answer ≡ whole_view notes
     → IsAnswer Lint input answer
 answers_notes input notes answer fits good is = bundle_told input None answer fits good (notes, is)
 

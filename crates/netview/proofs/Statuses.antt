@@ -5,7 +5,7 @@ use Rattle.net_base.specs.declared.world.World.{World}
 use Rattle.net_base.specs.Legal.{IsLegal, IsTimed}
 use Rattle.net_model.specs.Answers.{Answer}
 use Rattle.checked_input.specs.Input.{Handed}
-use Rattle.netview.specs.Views.{asking, capture_on, medium_named, view, IsAnswer, IsFirstBad, IsGood as IsGoodOf, IsShown, IsShownOf}
+use Rattle.netview.specs.Views.{asking, capture_on, medium_named, command_view, IsAnswer, IsFirstBad, IsGood as IsGoodOf, IsShown, IsShownOf}
 use Rattle.netview.specs.Words.{Command, Lint, Show, View, Chart, ChartOfTalks, Pcap, Steps, Words}
 use Rattle.command_line.specs.Calls.{Intake, Output}
 use Rattle.command_line.specs.Ends.{IsStatusOf, TookAll}
@@ -22,7 +22,7 @@ words_ended asked command status intake output is ends = subst (λ (k : Option C
 -- What an answer says.
 
 -- what is shown has the status 0 or 5
-shown_status : (asked : View) (input : List ℕ) (w : World) (h : List Entry) → ((view asked input w h).status ≡ 0) ⊎ ((view asked input w h).status ≡ 5)
+shown_status : (asked : View) (input : List ℕ) (w : World) (h : List Entry) → ((command_view asked input w h).status ≡ 0) ⊎ ((command_view asked input w h).status ≡ 5)
 shown_status (Pcap None) input w h = inl refl
 shown_status (Pcap (Some name)) input w h = by (medium_named name w.media)
   where
@@ -36,8 +36,8 @@ shown_status Words input w h = inl refl
 
 -- what the status of an answer to a good input says of the command
 pub data Of (asked : Command) (input : List ℕ) (answer : Answer) : Type 0 where
-  of_view : (view : View) (handed : Handed input) → asked ≡ Show view → answer.status ≡ 0 → IsShownWith 0 view input handed → Of asked input answer
-  of_refusal : (view : View) (handed : Handed input) → asked ≡ Show view → answer.status ≡ 5 → IsRefused view input handed → Of asked input answer
+  of_view : (command_view : View) (handed : Handed input) → asked ≡ Show command_view → answer.status ≡ 0 → IsShownWith 0 command_view input handed → Of asked input answer
+  of_refusal : (command_view : View) (handed : Handed input) → asked ≡ Show command_view → answer.status ≡ 5 → IsRefused command_view input handed → Of asked input answer
   of_notes : asked ≡ Lint → answer.status ≡ 0 → Of asked input answer
 
 of_shown : (asked : View) (input : List ℕ) (answer : Answer) (handed : Handed input) → IsShown asked input handed.world handed.history answer
@@ -48,7 +48,7 @@ of_shown asked input answer handed shown = elim shown.judged [
 ]
   where
     by_status : IsLegal handed.world handed.history → IsTimed handed.world handed.history
-        → ((view asked input handed.world handed.history).status ≡ 0) ⊎ ((view asked input handed.world handed.history).status ≡ 5) → Of (Show asked) input answer
+        → ((command_view asked input handed.world handed.history).status ≡ 0) ⊎ ((command_view asked input handed.world handed.history).status ≡ 5) → Of (Show asked) input answer
     by_status legal timed (inl zero) =
         of_view asked handed refl (ap (λ (a : Answer). a.status) (shown.kept legal timed) ∙ zero) (record { legal = legal; timed = timed; status_is = zero })
     by_status legal timed (inr five) =
@@ -59,8 +59,8 @@ of_found (Show asked) input answer given = of_shown asked input answer given.0 (
 of_found Lint input answer given = of_notes refl (ap (λ (a : Answer). a.status) given.1)
 
 of_good : (asked : Command) (input : List ℕ) (answer : Answer) → Of asked input answer → IsGood answer.status
-of_good asked input answer (of_view view handed is zero shown) = inl zero
-of_good asked input answer (of_refusal view handed is five refused) = inr (inr (inr five))
+of_good asked input answer (of_view command_view handed is zero shown) = inl zero
+of_good asked input answer (of_refusal command_view handed is five refused) = inr (inr (inr five))
 of_good asked input answer (of_notes is zero) = inl zero
 
 sound : Sound asking
@@ -90,15 +90,15 @@ module _ (command : Option Command) (status : ℕ) (intake : Intake) (output : O
   of_it n no_two of = of_found of.asked of.answers.input of.answer (calls.good_of Command asking sound command intake n no_two of).1
 
   done_of : (of : IsStatusOf asking command 0 intake) → Of of.asked of.answers.input of.answer → HasHanded command (IsShownWith 0) intake ⊎ HasBundle command intake
-  done_of of (of_view view handed is zero shown) = inl (record {
-    asked = view;
+  done_of of (of_view command_view handed is zero shown) = inl (record {
+    asked = command_view;
     input = of.answers.input;
     is_asked = of.is_asked ∙ ap Some is;
     took = took_it 0 (λ e. omega (arith, e)) of;
     handed = handed;
     right = shown;
   })
-  done_of of (of_refusal view handed is five refused) = absurd (omega (arith, of.right, five))
+  done_of of (of_refusal command_view handed is five refused) = absurd (omega (arith, of.right, five))
   done_of of (of_notes is zero) = inr (record {
     input = of.answers.input;
     is_asked = of.is_asked ∙ ap Some is;
@@ -107,10 +107,10 @@ module _ (command : Option Command) (status : ℕ) (intake : Intake) (output : O
   })
 
   refused_of : (of : IsStatusOf asking command 5 intake) → Of of.asked of.answers.input of.answer → HasHanded command IsRefused intake
-  refused_of of (of_view view handed is zero shown) = absurd (omega (arith, of.right, zero))
+  refused_of of (of_view command_view handed is zero shown) = absurd (omega (arith, of.right, zero))
   refused_of of (of_notes is zero) = absurd (omega (arith, of.right, zero))
-  refused_of of (of_refusal view handed is five refused) = record {
-    asked = view;
+  refused_of of (of_refusal command_view handed is five refused) = record {
+    asked = command_view;
     input = of.answers.input;
     is_asked = of.is_asked ∙ ap Some is;
     took = took_it 5 (λ e. omega (arith, e)) of;

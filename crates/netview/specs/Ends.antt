@@ -9,7 +9,7 @@ use Rattle.command_line.specs.Asking as asks
 use Rattle.command_line.specs.Calls.{Intake, IsInput, Output}
 use Rattle.command_line.specs.Ends as calls
 use Rattle.checked_input.specs.Input.{Handed}
-use Rattle.netview.specs.Views.{IsFirstBad, asking, view}
+use Rattle.netview.specs.Views.{IsFirstBad, asking, command_view}
 use Rattle.netview.specs.Words.{Command, Lint, Show, View}
 
 -- what became of a command and its input before anything was written
@@ -48,7 +48,7 @@ pub record HasBundle (command : Option Command) (intake : Intake) : Type 0 where
 pub record IsShownWith (status : ℕ) (asked : View) (input : List ℕ) (handed : Handed input) : Type 0 where
   pub legal : IsLegal handed.world handed.history
   pub timed : IsTimed handed.world handed.history
-  pub status_is : (view asked input handed.world handed.history).status ≡ status
+  pub status_is : (command_view asked input handed.world handed.history).status ≡ status
 
 -- a history that breaks a rule
 abbrev pub IsBroken : View → (input : List ℕ) → Handed input → Type 0

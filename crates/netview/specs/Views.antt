@@ -37,8 +37,8 @@ IsBadLine Lint input found = found ≡ bad_line input
 -- Views.
 
 -- a text that is shown
-abbrev pub whole : List ℕ → Answer
-whole text = record { status = 0; text = text }
+abbrev pub whole_view : List ℕ → Answer
+whole_view text = record { status = 0; text = text }
 
 -- the world has no medium of the name
 abbrev pub no_medium : Answer
@@ -52,22 +52,22 @@ medium_named name (s ∷ ss) = if bytes_eq s.name name then Some s.number else m
 -- the capture of one medium, if there is one
 abbrev pub capture_on : Option ℕ → World → List Entry → Answer
 capture_on None w h = no_medium
-capture_on (Some medium) w h = whole (capture w h (Some medium))
+capture_on (Some medium) w h = whole_view (capture w h (Some medium))
 
 -- of steps it is where they stand in the text of the world, too
-abbrev pub view : View → List ℕ → World → List Entry → Answer
-view (Pcap None) input w h = whole (capture w h None)
-view (Pcap (Some name)) input w h = capture_on (medium_named name w.media) w h
-view Chart input w h = whole (chart w h)
-view ChartOfTalks input w h = whole (talk_chart w h)
-view Steps input w h = whole (steps_text input w h)
-view Words input w h = whole (history_words w h)
+abbrev pub command_view : View → List ℕ → World → List Entry → Answer
+command_view (Pcap None) input w h = whole_view (capture w h None)
+command_view (Pcap (Some name)) input w h = capture_on (medium_named name w.media) w h
+command_view Chart input w h = whole_view (chart w h)
+command_view ChartOfTalks input w h = whole_view (talk_chart w h)
+command_view Steps input w h = whole_view (steps_text input w h)
+command_view Words input w h = whole_view (history_words w h)
 
 -- Answers.
 
 -- what is shown of a legal and timed history, or the first stamp that breaks a rule and the least rule there
 pub record IsShown (asked : View) (input : List ℕ) (w : World) (h : List Entry) (answer : Answer) : Type 0 where
-  pub kept : IsLegal w h → IsTimed w h → answer ≡ view asked input w h
+  pub kept : IsLegal w h → IsTimed w h → answer ≡ command_view asked input w h
   pub broken : (stamp rule : ℕ) → HasFault w h stamp rule → answer ≡ rule_broken stamp rule
   -- and one of both it is
   pub judged : (IsLegal w h × IsTimed w h) ⊎ ((stamp : ℕ) × (rule : ℕ) × HasFault w h stamp rule)
@@ -79,7 +79,7 @@ IsShownOf asked input answer = (handed : Handed input) → IsShown asked input h
 -- an answer to an input without a bad line: what is shown of what it hands in, or some notes
 abbrev pub IsGood : Command → List ℕ → Answer → Type 0
 IsGood (Show asked) input answer = Handed input × IsShownOf asked input answer
-IsGood Lint input answer = (notes : List ℕ) × (answer ≡ whole notes)
+IsGood Lint input answer = (notes : List ℕ) × (answer ≡ whole_view notes)
 
 -- what is asked of the program
 abbrev pub asking : Asking Command

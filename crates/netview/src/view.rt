@@ -3,7 +3,7 @@ ghost use Rattle.std.specs.Prelude.{◌≡◌, ◌≤◌, IfOk, length};
 ghost use Rattle.net_base.specs.Legal.{IsLegal, IsTimed};
 ghost use Rattle.net_base.specs.World.{IsWorld};
 ghost use Rattle.netview.specs.Commands.{view_read};
-ghost use Rattle.netview.specs.Views.{IsAnswer, input_limit, medium_named, view};
+ghost use Rattle.netview.specs.Views.{IsAnswer, input_limit, medium_named, command_view};
 ghost use Rattle.netview.specs.Words.{Show};
 
 use crate::command::View;
@@ -50,7 +50,7 @@ fn show(
     requires world { IsWorld world.now }
     requires legal { IsLegal world.now history.now }
     requires timed { IsTimed world.now history.now }
-    ensures { IfOk result (λ answer. answer ≡ view (view_read asked.entry) input.now world.now history.now) }
+    ensures { IfOk result (λ answer. answer ≡ command_view (view_read asked.entry) input.now world.now history.now) }
 {
     match asked {
         View::Capture => Ok(Answer::whole(capture_of(alloc, world, history, None)?)),

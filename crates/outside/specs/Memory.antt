@@ -17,5 +17,5 @@ pub record Store : Type 0 where
   pub faults : ℕ
 
 -- one more, up to the last value that 64 bits have
-abbrev pub counted : ℕ → ℕ
-counted n = min (n + 1) 18446744073709551615
+abbrev pub one_more_counted : ℕ → ℕ
+one_more_counted n = min (n + 1) 18446744073709551615

@@ -3,7 +3,7 @@ ghost use Rattle.std.specs.Prelude.{◌≡◌, ◌↔◌, ◌⊎◌, [], Some, �
 ghost use Rattle.std.specs.List.{Contains};
 ghost use Rattle.std.specs.Io.KnownBytes.{Appends, Consumes, IsAtEnd, Keeps};
 ghost use Rattle.outside.specs.Streams.{Rose};
-ghost use Rattle.outside.specs.Memory.{counted};
+ghost use Rattle.outside.specs.Memory.{one_more_counted};
 
 use crate::fault::Failed;
 use crate::sink::Sink;
@@ -65,12 +65,12 @@ impl Source for MemSource {
         ensures once { self.new.calls ≤ self.old.calls + 1 }
 
         // What this source does at each call.
-        ensures listed { IsErr result ↔ Contains self.old.fails (counted self.old.calls) }
+        ensures listed { IsErr result ↔ Contains self.old.fails (one_more_counted self.old.calls) }
         ensures most { IfOk result (λ n. n ≡ min (length into.old) (length self.old.left)) }
         ensures ok { IfOk result (λ n. self.new
-            ≡ record self.old { left = drop n self.old.left; calls = counted self.old.calls }) }
+            ≡ record self.old { left = drop n self.old.left; calls = one_more_counted self.old.calls }) }
         ensures err { OnErr result (self.new
-            ≡ record self.old { calls = counted self.old.calls; faults = counted self.old.faults }) }
+            ≡ record self.old { calls = one_more_counted self.old.calls; faults = one_more_counted self.old.faults }) }
     {
         self.calls = self.calls.saturating_add(1);
         if self.fail.as_slice().contains(&self.calls) {
@@ -144,13 +144,13 @@ impl Sink for MemSink {
         ensures kept { OnErr result (Keeps (Some self.old.held) (Some self.new.held)) }
 
         // What this sink does at each call.
-        ensures refused { IsErr result ↔ (Contains self.old.fails (counted self.old.calls)
+        ensures refused { IsErr result ↔ (Contains self.old.fails (one_more_counted self.old.calls)
             ⊎ ((self.old.room ≤ length self.old.held) × (0 < length bytes.now))) }
         ensures most { IfOk result (λ n. n ≡ min (length bytes.now) (self.old.room - length self.old.held)) }
         ensures ok { IfOk result (λ n. self.new
-            ≡ record self.old { held = self.old.held ++ take n bytes.now; calls = counted self.old.calls }) }
+            ≡ record self.old { held = self.old.held ++ take n bytes.now; calls = one_more_counted self.old.calls }) }
         ensures err { OnErr result (self.new
-            ≡ record self.old { calls = counted self.old.calls; faults = counted self.old.faults }) }
+            ≡ record self.old { calls = one_more_counted self.old.calls; faults = one_more_counted self.old.faults }) }
     {
         self.calls = self.calls.saturating_add(1);
         let room = self.room - self.bytes.len();

@@ -19,7 +19,7 @@ use Rattle.net_base.specs.Legal.{IsAsked, IsInTime, IsMove, cites_of}
 use Rattle.net_base.specs.Net.{WorkAt, after, moment, owed, played, stepped_to, with_of, works}
 use Rattle.net_base.specs.Next.{by, next_recorded}
 use Rattle.history_laws.proofs.Shared.{state_is_fold}
-use Rattle.plain_runner.specs.Callers.{IsCaller, IsTurning}
+use Rattle.plain_runner.specs.Callers.{IsCallerKept, IsTurning}
 use Rattle.plain_runner.specs.Tracks.{IsBefore, Tracks}
 use Rattle.plain_runner.specs.Turns.{IsMoving}
 use Rattle.plain_runner.specs.declared.caller.Caller.{Caller}
@@ -74,7 +74,7 @@ clock_before w r c t m s at nothing moves may to room = record {
   moment_is = s.moment_is;
 }
   where
-    turning : (k : Caller) → IsCaller w r.history.entries c k → IsTurning w r.history.entries c t.cites k
+    turning : (k : Caller) → IsCallerKept w r.history.entries c k → IsTurning w r.history.entries c t.cites k
     turning k is = record {
       turns = record {
         role_is = is.stands.role_is;

@@ -20,8 +20,8 @@ use Rattle.script_player.specs.Players.{IsAt, Playing, next_after}
 use Rattle.script_task.specs.Fitting.{fits}
 use Rattle.plain_runner.specs.declared.caller.Caller.{Caller}
 use Rattle.plain_runner.specs.declared.turn.Turn.{Turn}
-use Rattle.plain_runner.specs.Callers.{IsCaller, IsEntryOf, IsScriptAt}
-use Rattle.plain_runner.specs.Turns.{AreOwn, IsOwn, asks_of, may_turn, may_turn_by}
+use Rattle.plain_runner.specs.Callers.{IsCallerKept, IsEntryOf, IsScriptAt}
+use Rattle.plain_runner.specs.Turns.{AreOwn, IsOwnTurn, asks_of, may_turn, may_turn_by}
 use Rattle.plain_runner.proofs.Replies.{before_last, next_replies}
 use Rattle.net_base.proofs.Shared.{script_is}
 use Rattle.net_base.proofs.Members.{first_of, none_first}
@@ -33,47 +33,47 @@ next_of_script w h c s is = ap (λ (k : Called). next_of w k h c) (script_is w c
 
 -- Whether it may record.
 
-pub owes_first : (w : World) (h : List Entry) (c : ℕ) (k : Caller) (d : Duty) → IsCaller w h c k → slice_get k.owed.list 0 ≡ Some d
+pub owes_first : (w : World) (h : List Entry) (c : ℕ) (k : Caller) (d : Duty) → IsCallerKept w h c k → slice_get k.owed.list 0 ≡ Some d
     → owed w h c ≡ d ∷ drop 1 k.owed.list
 owes_first w h c k d kept is = sym kept.owes ∙ first_of k.owed.list d is
 
-pub owes_none : (w : World) (h : List Entry) (c : ℕ) (k : Caller) → IsCaller w h c k → slice_get k.owed.list 0 ≡ None → owed w h c ≡ []
+pub owes_none : (w : World) (h : List Entry) (c : ℕ) (k : Caller) → IsCallerKept w h c k → slice_get k.owed.list 0 ≡ None → owed w h c ≡ []
 owes_none w h c k kept is = sym kept.owes ∙ none_first k.owed.list is
 
-pub may_duty : (w : World) (h : List Entry) (c : ℕ) (k : Caller) (d : Duty) (now : ℕ) → IsCaller w h c k → slice_get k.owed.list 0 ≡ Some d
+pub may_duty : (w : World) (h : List Entry) (c : ℕ) (k : Caller) (d : Duty) (now : ℕ) → IsCallerKept w h c k → slice_get k.owed.list 0 ≡ Some d
     → now ≡ (after w h).moment
     → is_some (actor_step w d.actor ((after w h).actors d.actor) now (record { event = d.event; with = d.with })) ≡ may_turn w h c
 may_duty w h c k d now kept is now_is =
     ap (λ (m : ℕ). is_some (actor_step w d.actor ((after w h).actors d.actor) m (record { event = d.event; with = d.with }))) now_is
     ∙ sym (ap (λ (ds : List Duty). may_turn_by w (after w h) c ds) (owes_first w h c k d kept is))
 
-may_next : (w : World) (h : List Entry) (c : ℕ) (k : Caller) → (after w h).past ≡ h → IsCaller w h c k → slice_get k.owed.list 0 ≡ None
+may_next : (w : World) (h : List Entry) (c : ℕ) (k : Caller) → (after w h).past ≡ h → IsCallerKept w h c k → slice_get k.owed.list 0 ≡ None
     → may_turn w h c ≡ is_ready w (after w h) (asks_of k.next)
 may_next w h c k past kept is =
     ap (λ (ds : List Duty). may_turn_by w (after w h) c ds) (owes_none w h c k kept is)
     ∙ ap (λ (l : List Entry). is_ready w (after w h) (next_of w (caller_of w c) l c)) past
     ∙ ap (λ (o : Option Ask). is_ready w (after w h) o) (sym kept.stands.next_is)
 
-own_work : (t : Turn) → IsOwn t → t.work ≡ record { event = t.work.event; with = given.Nothing }
+own_work : (t : Turn) → IsOwnTurn t → t.work ≡ record { event = t.work.event; with = given.Nothing }
 own_work t own = ap (λ (g : _). record { event = t.work.event; with = g }) own.nothing
 
-pub may_own : (w : World) (h : List Entry) (c : ℕ) (k : Caller) (t : Turn) (now : ℕ) → (after w h).past ≡ h → IsCaller w h c k
+pub may_own : (w : World) (h : List Entry) (c : ℕ) (k : Caller) (t : Turn) (now : ℕ) → (after w h).past ≡ h → IsCallerKept w h c k
     → slice_get k.owed.list 0 ≡ None → k.next ≡ Some t → now ≡ (after w h).moment
     → is_some (actor_step w t.actor ((after w h).actors t.actor) now t.work) ≡ may_turn w h c
 may_own w h c k t now past kept is next_recorded now_is =
-    let own : IsOwn t = subst (λ (o : Option Turn). AreOwn o) next_recorded kept.stands.own in
+    let own : IsOwnTurn t = subst (λ (o : Option Turn). AreOwn o) next_recorded kept.stands.own in
     ap (λ (m : ℕ). is_some (actor_step w t.actor ((after w h).actors t.actor) m t.work)) now_is
     ∙ ap (λ (work : Work). is_some (actor_step w t.actor ((after w h).actors t.actor) (after w h).moment work)) (own_work t own)
     ∙ sym (may_next w h c k past kept is ∙ ap (λ (o : Option Turn). is_ready w (after w h) (asks_of o)) next_recorded)
 
-pub may_not : (w : World) (h : List Entry) (c : ℕ) (k : Caller) → (after w h).past ≡ h → IsCaller w h c k → slice_get k.owed.list 0 ≡ None → k.next ≡ None
+pub may_not : (w : World) (h : List Entry) (c : ℕ) (k : Caller) → (after w h).past ≡ h → IsCallerKept w h c k → slice_get k.owed.list 0 ≡ None → k.next ≡ None
     → false ≡ may_turn w h c
 may_not w h c k past kept is next_recorded = sym (may_next w h c k past kept is ∙ ap (λ (o : Option Turn). is_ready w (after w h) (asks_of o)) next_recorded)
 
 -- Its turn is taken.
 
 -- it may record only where there is a turn
-pub some_next : (w : World) (h : List Entry) (c : ℕ) (k : Caller) → (after w h).past ≡ h → IsCaller w h c k → slice_get k.owed.list 0 ≡ None
+pub some_next : (w : World) (h : List Entry) (c : ℕ) (k : Caller) → (after w h).past ≡ h → IsCallerKept w h c k → slice_get k.owed.list 0 ≡ None
     → may_turn w h c ≡ true → IsSome k.next
 some_next w h c k past kept is may = by_next k.next refl
   where

@@ -17,7 +17,7 @@ use Rattle.net_base.specs.Versions.{Tuples}
 use Rattle.script_player.specs.Players.{IsAt, Playing, position_after}
 use Rattle.history_laws.proofs.Shared.{past_after}
 use Rattle.plain_runner.specs.Callers.{HasRole, IsScriptAt}
-use Rattle.plain_runner.specs.Waiting.{could}
+use Rattle.plain_runner.specs.Waiting.{could_go}
 use Rattle.plain_runner.specs.Tracks.{Tracks}
 use Rattle.plain_runner.specs.Turns.{may_turn}
 use Rattle.plain_runner.specs.declared.caller.Caller.{Caller}
@@ -35,34 +35,34 @@ past_is w h = past_after w (opening_net w) h
 -- One caller.
 
 pub could_owing : (w : World) (r : Runner) (c : ℕ) (k : Caller) (b : Bool) → Tracks w r → slice_get r.callers.items c ≡ Some k
-    → b ≡ (length k.owed.list == 0) → b ≡ false → true ≡ could w r.history.entries c
+    → b ≡ (length k.owed.list == 0) → b ≡ false → true ≡ could_go w r.history.entries c
 could_owing w r c k b s at empty some = by_owed k.owed.list refl (s.callers_are.each c k at).owes (sym empty ∙ some)
   where
-    by_owed : (ds : List Duty) → k.owed.list ≡ ds → k.owed.list ≡ (after w r.history.entries).owed c → (length k.owed.list == 0) ≡ false → true ≡ could w r.history.entries c
+    by_owed : (ds : List Duty) → k.owed.list ≡ ds → k.owed.list ≡ (after w r.history.entries).owed c → (length k.owed.list == 0) ≡ false → true ≡ could_go w r.history.entries c
     by_owed [] same owed some = let e : true ≡ false = sym (ap (λ (ds : List Duty). length ds == 0) same) ∙ some in absurd (true≢false e)
     by_owed (d ∷ ds) same owed some = rw (sym owed ∙ same, lt-ltb 0 (length (d ∷ ds)) (omega arith)) refl
 
 pub could_free : (w : World) (r : Runner) (c : ℕ) (k : Caller) (b may : Bool) → Tracks w r → slice_get r.callers.items c ≡ Some k
     → b ≡ (length k.owed.list == 0) → b ≡ true
-    → may ≡ may_turn w r.history.entries c → may ≡ could w r.history.entries c
+    → may ≡ may_turn w r.history.entries c → may ≡ could_go w r.history.entries c
 could_free w r c k b may s at empty none is = by_owed ((after w r.history.entries).owed c) refl
   where
     nothing : length ((after w r.history.entries).owed c) ≡ 0
     nothing = ap (λ (ds : List Duty). length ds) (sym (s.callers_are.each c k at).owes) ∙ eqb-true (length k.owed.list) 0 (sym empty ∙ none)
 
-    by_owed : (ds : List Duty) → (after w r.history.entries).owed c ≡ ds → may ≡ could w r.history.entries c
+    by_owed : (ds : List Duty) → (after w r.history.entries).owed c ≡ ds → may ≡ could_go w r.history.entries c
     by_owed [] same = is ∙ rw same refl
     by_owed (d ∷ ds) same = absurd (omega (arith, ap (λ (es : List Duty). length es) same, nothing))
 
 -- All callers.
 
-pub busy_so : (w : World) (r : Runner) (b : Bool) → b ≡ list_any (could w r.history.entries) (callers w) → b ≡ true → calm w (after w r.history.entries) ≡ false
+pub busy_so : (w : World) (r : Runner) (b : Bool) → b ≡ list_any (could_go w r.history.entries) (callers w) → b ≡ true → calm w (after w r.history.entries) ≡ false
 busy_so w r b is goes =
-    let p = passed_range (could w r.history.entries) (caller_count w) 0 (sym is ∙ goes) in
+    let p = passed_range (could_go w r.history.entries) (caller_count w) 0 (sym is ∙ goes) in
     is_busy w (after w r.history.entries) p.number (omega (arith, p.below)) p.passes
 
-pub idle_so : (w : World) (r : Runner) (b : Bool) → b ≡ list_any (could w r.history.entries) (callers w) → b ≡ false → NobodyCould w (after w r.history.entries)
-idle_so w r b is none = record { none = λ c lt. unpassed (could w r.history.entries) (caller_count w) c (sym is ∙ none) lt }
+pub idle_so : (w : World) (r : Runner) (b : Bool) → b ≡ list_any (could_go w r.history.entries) (callers w) → b ≡ false → NobodyCould w (after w r.history.entries)
+idle_so w r b is none = record { none = λ c lt. unpassed (could_go w r.history.entries) (caller_count w) c (sym is ∙ none) lt }
 
 pub full_is : (w : World) (h : List Entry) (c : ℕ) (b : Bool) → b ≡ (length (by h c) == most_entries) → (length (by (after w h).past c) == most_entries) ≡ b
 full_is w h c b is = ap (λ (p : List Entry). length (by p c) == most_entries) (past_is w h) ∙ sym is
@@ -70,28 +70,28 @@ full_is w h c b is = ap (λ (p : List Entry). length (by p c) == most_entries) (
 -- The word.
 
 pub limit_told : (w : World) (r : Runner) (c : ℕ) (full may : Bool) → Tracks w r → calm w (after w r.history.entries) ≡ false → c < length r.callers.items
-    → full ≡ (length (by r.history.entries c) == most_entries) → full ≡ true → may ≡ could w r.history.entries c → may ≡ true → codes "limit" ≡ end_word w (after w r.history.entries)
+    → full ≡ (length (by r.history.entries c) == most_entries) → full ≡ true → may ≡ could_go w r.history.entries c → may ≡ true → codes "limit" ≡ end_word w (after w r.history.entries)
 limit_told w r c full may s busy lt full_so is_full may_so may_is =
     limit_word w (after w r.history.entries) c busy (omega (arith, lt, s.callers_are.count)) (full_is w r.history.entries c full full_so ∙ is_full) (sym may_so ∙ may_is)
 
 pub none_told : (w : World) (r : Runner) (n : ℕ) → Tracks w r → calm w (after w r.history.entries) ≡ false → caller_count w ≤ n
-    → ((c : ℕ) → c < n → ((length (by r.history.entries c) == most_entries) && could w r.history.entries c) ≡ false) → codes "unfinished" ≡ end_word w (after w r.history.entries)
+    → ((c : ℕ) → c < n → ((length (by r.history.entries c) == most_entries) && could_go w r.history.entries c) ≡ false) → codes "unfinished" ≡ end_word w (after w r.history.entries)
 none_told w r n s busy le none =
     busy_unfinished w (after w r.history.entries) busy (λ c lt.
-    ap (λ (p : List Entry). (length (by p c) == most_entries) && could w r.history.entries c) (past_is w r.history.entries) ∙ none c (omega (arith, lt, le)))
+    ap (λ (p : List Entry). (length (by p c) == most_entries) && could_go w r.history.entries c) (past_is w r.history.entries) ∙ none c (omega (arith, lt, le)))
 
-pub done_told : (w : World) (r : Runner) (goes more : Bool) → goes ≡ list_any (could w r.history.entries) (callers w) → goes ≡ false
+pub done_told : (w : World) (r : Runner) (goes more : Bool) → goes ≡ list_any (could_go w r.history.entries) (callers w) → goes ≡ false
     → more ≡ unfinished w (after w r.history.entries) → more ≡ false
     → codes "done" ≡ end_word w (after w r.history.entries)
 done_told w r goes more goes_so idle more_so none = done_word w (after w r.history.entries) (idle_so w r goes goes_so idle) (sym more_so ∙ none)
 
-pub stopped_told : (w : World) (r : Runner) (goes more : Bool) → Tracks w r → goes ≡ list_any (could w r.history.entries) (callers w) → goes ≡ false
+pub stopped_told : (w : World) (r : Runner) (goes more : Bool) → Tracks w r → goes ≡ list_any (could_go w r.history.entries) (callers w) → goes ≡ false
     → more ≡ unfinished w (after w r.history.entries) → more ≡ true
     → r.moment ≡ w.end → codes "stopped" ≡ end_word w (after w r.history.entries)
 stopped_told w r goes more s goes_so idle more_so some ends =
     stopped_word w (after w r.history.entries) (idle_so w r goes goes_so idle) (sym more_so ∙ some) (sym s.moment_is ∙ ends)
 
-pub full_told : (w : World) (r : Runner) (goes more full : Bool) (n : ℕ) → Tracks w r → goes ≡ list_any (could w r.history.entries) (callers w) → goes ≡ false
+pub full_told : (w : World) (r : Runner) (goes more full : Bool) (n : ℕ) → Tracks w r → goes ≡ list_any (could_go w r.history.entries) (callers w) → goes ≡ false
     → more ≡ unfinished w (after w r.history.entries) → more ≡ true
     → (r.moment ≡ w.end → ⊥) → n ≡ clock_number w → full ≡ (length (by r.history.entries n) == most_entries) → full ≡ true
     → codes "limit" ≡ end_word w (after w r.history.entries)
@@ -100,7 +100,7 @@ full_told w r goes more full n s goes_so idle more_so some apart at full_so is_f
     ∙ some) (λ e. apart (s.moment_is ∙ e)) (moment_within w r.history.entries s.history.legal s.history.timed)
     (subst (λ (k : ℕ). (length (by (after w r.history.entries).past k) == most_entries) ≡ true) at (full_is w r.history.entries n full full_so ∙ is_full))
 
-pub other_told : (w : World) (r : Runner) (goes more full : Bool) (n : ℕ) → Tracks w r → goes ≡ list_any (could w r.history.entries) (callers w) → goes ≡ false
+pub other_told : (w : World) (r : Runner) (goes more full : Bool) (n : ℕ) → Tracks w r → goes ≡ list_any (could_go w r.history.entries) (callers w) → goes ≡ false
     → more ≡ unfinished w (after w r.history.entries) → more ≡ true
     → (r.moment ≡ w.end → ⊥) → n ≡ clock_number w → full ≡ (length (by r.history.entries n) == most_entries) → full ≡ false
     → codes "unfinished" ≡ end_word w (after w r.history.entries)
@@ -110,14 +110,14 @@ other_told w r goes more full n s goes_so idle more_so some apart at full_so few
 
 -- Whether the clock may move.
 
-pub moves_busy : (w : World) (r : Runner) (goes : Bool) → goes ≡ list_any (could w r.history.entries) (callers w) → goes ≡ true → false ≡ movable w (after w r.history.entries)
+pub moves_busy : (w : World) (r : Runner) (goes : Bool) → goes ≡ list_any (could_go w r.history.entries) (callers w) → goes ≡ true → false ≡ movable w (after w r.history.entries)
 moves_busy w r goes goes_so busy = sym (and_left (calm w (after w r.history.entries)) _ (busy_so w r goes goes_so busy))
 
 pub moves_finished : (w : World) (r : Runner) (more : Bool) → more ≡ unfinished w (after w r.history.entries) → more ≡ false → false ≡ movable w (after w r.history.entries)
 moves_finished w r more more_so none =
     sym (and_right (calm w (after w r.history.entries)) _ (and_left (unfinished w (after w r.history.entries)) _ (sym more_so ∙ none)))
 
-pub moves_told : (w : World) (r : Runner) (goes more : Bool) → Tracks w r → goes ≡ list_any (could w r.history.entries) (callers w) → goes ≡ false
+pub moves_told : (w : World) (r : Runner) (goes more : Bool) → Tracks w r → goes ≡ list_any (could_go w r.history.entries) (callers w) → goes ≡ false
     → more ≡ unfinished w (after w r.history.entries) → more ≡ true → nat_lt r.moment w.end ≡ movable w (after w r.history.entries)
 moves_told w r goes more s goes_so idle more_so some =
     ap (λ (m : ℕ). nat_lt m w.end) s.moment_is

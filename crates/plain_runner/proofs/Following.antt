@@ -25,9 +25,9 @@ use Rattle.net_base.specs.Next.{next_recorded, next_of}
 use Rattle.net_base.specs.Steps.{Ask}
 use Rattle.history_laws.proofs.Shared.{at_push, one_more, Each}
 use Rattle.progress_law.proofs.Shared.{steady_after, OfKind}
-use Rattle.plain_runner.specs.Followed.{Followed, Follows as FollowsOn, GoesOnWith, IsOf}
+use Rattle.plain_runner.specs.Followed.{Followed, FollowsRun as FollowsOn, GoesOnWith, IsOf}
 use Rattle.plain_runner.specs.Recording.{IsHistory}
-use Rattle.plain_runner.specs.Tracks.{Grows, IsBefore, IsReady, RecordedSo, Tracks}
+use Rattle.plain_runner.specs.Tracks.{Grows, IsBefore, IsCallerReady, RecordedSo, Tracks}
 use Rattle.plain_runner.specs.Turns.{IsMoving, may_turn_by}
 use Rattle.plain_runner.specs.declared.runner.Runner.{Runner}
 use Rattle.plain_runner.specs.declared.turn.Turn.{Turn}
@@ -143,7 +143,7 @@ turn_of w net h k c [] x past is other asked ready =
     by_kind (IsCourier m) asked = subst (λ (o : Option Ask). is_ready w net o ≡ true) (sym asked) ready
     by_kind IsNobody asked = subst (λ (o : Option Ask). is_ready w net o ≡ true) (sym asked) ready
 
-ready_to_follow : (w : World) (r : Runner) (x : Entry) → FollowsOn w r x → ((m : ℕ) → x.event ≡ event.Move m → ⊥) → IsReady w r x.caller
+ready_to_follow : (w : World) (r : Runner) (x : Entry) → FollowsOn w r x → ((m : ℕ) → x.event ≡ event.Move m → ⊥) → IsCallerReady w r x.caller
 ready_to_follow w r x f other = record {
   room = f.may.has_room;
   ready = turn_of w (after w r.history.entries) r.history.entries (caller_of w x.caller) x.caller (owed w r.history.entries x.caller) x (past_is w r.history.entries) refl
@@ -223,8 +223,8 @@ pub moved_of : (w : World) (r new : Runner) (x y : Entry) (c m : ℕ) (e : Event
 moved_of w r new x y c m e t of f is moves rec =
     move_follows w r new x y m t f (of.event_is ∙ is) moves (subst (λ (k : ℕ). RecordedSo w r new k t y) (sym of.caller_is) rec)
 
-pub ready_of : (w : World) (r : Runner) (x : Entry) (c : ℕ) (e : Event) → IsOf x c e → FollowsOn w r x → ((m : ℕ) → e ≡ event.Move m → ⊥) → IsReady w r c
-ready_of w r x c e of f other = subst (λ (k : ℕ). IsReady w r k) of.caller_is (ready_to_follow w r x f (λ m is. other m (sym of.event_is ∙ is)))
+pub ready_of : (w : World) (r : Runner) (x : Entry) (c : ℕ) (e : Event) → IsOf x c e → FollowsOn w r x → ((m : ℕ) → e ≡ event.Move m → ⊥) → IsCallerReady w r c
+ready_of w r x c e of f other = subst (λ (k : ℕ). IsCallerReady w r k) of.caller_is (ready_to_follow w r x f (λ m is. other m (sym of.event_is ∙ is)))
 
 pub grown_of : (w : World) (r new : Runner) (x y : Entry) (c : ℕ) (e : Event) → IsOf x c e → FollowsOn w r x → ((m : ℕ) → e ≡ event.Move m → ⊥)
     → Grows w r new c y → GoesOnWith w r new x y

@@ -21,15 +21,15 @@ use Rattle.net_base.specs.Net.{Net, actors_after, after, moment, net_after, next
 use Rattle.net_base.specs.Next.{by, next_recorded}
 use Rattle.net_base.specs.Steps.{Ask}
 use Rattle.duties.specs.declared.due.Due.{Due}
-use Rattle.duties.specs.Owing.{Gives, without_copy}
+use Rattle.duties.specs.Owing.{GivesStep, without_copy}
 use Rattle.duties.specs.Queue.{Queue}
 use Rattle.duties.specs.Showing.{shown_entry, shows}
-use Rattle.net_actors.specs.Together.{AreActors, Numbered, Steps, StepsIn}
+use Rattle.net_actors.specs.Together.{AreActors, Numbered, StepsTogether, StepsIn}
 use Rattle.script_task.specs.Fitting.{fits}
 use Rattle.plain_runner.specs.declared.caller.Caller.{Caller}
 use Rattle.plain_runner.specs.declared.turn.Turn.{Turn}
-use Rattle.plain_runner.specs.Callers.{GoesOn, IsCaller, IsEntryOf}
-use Rattle.plain_runner.specs.Recording.{Comes, DuesOf, OwesAll, Records}
+use Rattle.plain_runner.specs.Callers.{WentOn, IsCallerKept, IsEntryOf}
+use Rattle.plain_runner.specs.Recording.{ComesNext, DuesOf, OwesAll, Records}
 use Rattle.plain_runner.specs.Turns.{IsReadyTurn}
 use Rattle.plain_runner.proofs.Replies.{one_entry_more}
 
@@ -63,7 +63,7 @@ pub record IsStepped (w : World) (h : List Entry) (c : ℕ) (t : Turn) (o : Outc
 
 stepped : (w : World) (h : List Entry) (c : ℕ) (t : Turn) (k : Caller) (net : Numbered) (ways : List HostWays) (stamp now : ℕ) (o : Outcome) (s : Actor)
     (x : Entry)
-    → Comes w h c t k net ways stamp now → x.caller ≡ c → x.actor ≡ t.actor → x.event ≡ t.work.event
+    → ComesNext w h c t k net ways stamp now → x.caller ≡ c → x.actor ≡ t.actor → x.event ≡ t.work.event
     → actor_step w t.actor ((after w h).actors t.actor) now t.work ≡ Some (record { state = s; outcome = o })
     → IsStepped w h c t o s x
 stepped w h c t k net ways stamp now o s x comes caller actor event step =
@@ -90,10 +90,10 @@ RepliesFit = (w : World) (h : List Entry) (a : ActorName) (now : ℕ) (work : Wo
 module _ {Z : Type 0} (grows : Grows) (pasts : HavePasts) (replies : RepliesFit)
     (c : ℕ) (t : Turn) (old new : Caller) (net net_new : Numbered) (ways : List HostWays) (stamp now : ℕ) (d : Option (Vec Due Z)) (o : Outcome)
     (owed_new : Queue) (x : Entry)
-    (steps : Steps net net_new t.actor now t.work o)
+    (steps : StepsTogether net net_new t.actor now t.work o)
     (dues : (w : World) (states : ActorName → Actor) → AreActors w net states → DuesOf w states t.actor t.work.event d)
     (owes_all : OwesAll ways t.actor stamp t.work (without_copy o) d old.owed owed_new)
-    (goes : GoesOn (record old { owed = owed_new }) new t.cites o.reply)
+    (goes : WentOn (record old { owed = owed_new }) new t.cites o.reply)
     (entry_is : x ≡ shown_entry t.actor c now t.cites (shows t.work.event (without_copy o)))
   where
     caller_so : x.caller ≡ c
@@ -106,20 +106,20 @@ module _ {Z : Type 0} (grows : Grows) (pasts : HavePasts) (replies : RepliesFit)
     event_so = ap (λ (y : Entry). y.event) entry_is
 
     -- the step in a world
-    stepped_in : (w : World) (h : List Entry) → Comes w h c t old net ways stamp now → StepsIn w (after w h).actors net_new t.actor now t.work o
+    stepped_in : (w : World) (h : List Entry) → ComesNext w h c t old net ways stamp now → StepsIn w (after w h).actors net_new t.actor now t.work o
     stepped_in w h comes = steps w (after w h).actors comes.are (ready_has w h c t comes.ready)
 
-    step_so : (w : World) (h : List Entry) (comes : Comes w h c t old net ways stamp now) → IsStepped w h c t o (stepped_in w h comes).state x
+    step_so : (w : World) (h : List Entry) (comes : ComesNext w h c t old net ways stamp now) → IsStepped w h c t o (stepped_in w h comes).state x
     step_so w h comes = stepped w h c t old net ways stamp now o (stepped_in w h comes).state x comes caller_so actor_so event_so (stepped_in w h comes).step
 
-    after_so : (w : World) (h : List Entry) (comes : Comes w h c t old net ways stamp now)
+    after_so : (w : World) (h : List Entry) (comes : ComesNext w h c t old net ways stamp now)
         → after w (h ++ x ∷ []) ≡ net_after w (after w h) x (Some (record { state = (stepped_in w h comes).state; outcome = o }))
     after_so w h comes = grows w h x ∙ ap (net_after w (after w h) x) (step_so w h comes).step
 
-    outcome_so : (w : World) (h : List Entry) → Comes w h c t old net ways stamp now → outcome_in w (after w h) x ≡ Some o
+    outcome_so : (w : World) (h : List Entry) → ComesNext w h c t old net ways stamp now → outcome_in w (after w h) x ≡ Some o
     outcome_so w h comes = ap (option_map (λ (s : Step Actor). s.outcome)) (step_so w h comes).step
 
-    follows_so : (w : World) (h : List Entry) → Comes w h c t old net ways stamp now → MayFollow w h x
+    follows_so : (w : World) (h : List Entry) → ComesNext w h c t old net ways stamp now → MayFollow w h x
     follows_so w h comes =
         record {
           answers = subst (λ (p : Option Outcome). Shows p x) (sym (outcome_so w h comes)) (ap shown_by entry_is);
@@ -134,7 +134,7 @@ module _ {Z : Type 0} (grows : Grows) (pasts : HavePasts) (replies : RepliesFit)
           has_room = subst (λ (e : ℕ). length (by h e) < most_entries) (sym caller_so) comes.ready.room;
         }
 
-    is_entry : (w : World) (h : List Entry) → Comes w h c t old net ways stamp now → IsEntryOf w h c t.cites o.reply x
+    is_entry : (w : World) (h : List Entry) → ComesNext w h c t old net ways stamp now → IsEntryOf w h c t.cites o.reply x
     is_entry w h comes =
         record {
           caller_is = caller_so;
@@ -146,7 +146,7 @@ module _ {Z : Type 0} (grows : Grows) (pasts : HavePasts) (replies : RepliesFit)
         }
 
     -- what it owes then
-    new_duties : (w : World) (h : List Entry) (comes : Comes w h c t old net ways stamp now)
+    new_duties : (w : World) (h : List Entry) (comes : ComesNext w h c t old net ways stamp now)
         → duties w (after w h).actors t.actor stamp t.work (record { state = (stepped_in w h comes).state; outcome = o })
         ≡ duties w (after w h).actors x.actor (length (after w h).past) (work_of (after w h) x)
         (record { state = (stepped_in w h comes).state; outcome = o })
@@ -156,10 +156,10 @@ module _ {Z : Type 0} (grows : Grows) (pasts : HavePasts) (replies : RepliesFit)
         ∙ ap (λ (n : ℕ). duties w (after w h).actors x.actor n t.work s) (comes.stamp_is ∙ ap length (sym (pasts w h)))
         ∙ ap (λ (work : Work). duties w (after w h).actors x.actor (length (after w h).past) work s) (sym (step_so w h comes).work)
 
-    owes_so : (w : World) (h : List Entry) → Comes w h c t old net ways stamp now → new.owed.list ≡ owed w (h ++ x ∷ []) c
+    owes_so : (w : World) (h : List Entry) → ComesNext w h c t old net ways stamp now → new.owed.list ≡ owed w (h ++ x ∷ []) c
     owes_so w h comes =
         let s : Step Actor = record { state = (stepped_in w h comes).state; outcome = o } in
-        let gives : Gives w t.actor t.work (without_copy o) s =
+        let gives : GivesStep w t.actor t.work (without_copy o) s =
         record { before = (after w h).actors t.actor; now = now; gives = (stepped_in w h comes).step; outcome = refl } in
         let adds : owed_new.list ≡ old.owed.list ++ duties w (after w h).actors t.actor stamp t.work s =
         owes_all w (after w h).actors s comes.ways_are (dues w (after w h).actors comes.are) gives in
@@ -170,7 +170,7 @@ module _ {Z : Type 0} (grows : Grows) (pasts : HavePasts) (replies : RepliesFit)
         ∙ sym (own_owed (after w h).owed x.caller c (duties w (after w h).actors x.actor (length (after w h).past) (work_of (after w h) x) s) caller_so)
         ∙ sym (ap (λ (n : Net). n.owed c) (after_so w h comes))
 
-    kept_so : (w : World) (h : List Entry) → Comes w h c t old net ways stamp now → IsCaller w (h ++ x ∷ []) c new
+    kept_so : (w : World) (h : List Entry) → ComesNext w h c t old net ways stamp now → IsCallerKept w (h ++ x ∷ []) c new
     kept_so w h comes =
         let turns = comes.turning.turns in
         record {
@@ -179,7 +179,7 @@ module _ {Z : Type 0} (grows : Grows) (pasts : HavePasts) (replies : RepliesFit)
           entries_is = goes.entries_is ∙ ap (λ (n : ℕ). n + 1) comes.turning.entries_is ∙ sym (one_entry_more h x c caller_so);
         }
 
-    are_so : (w : World) (h : List Entry) → Comes w h c t old net ways stamp now → AreActors w net_new (after w (h ++ x ∷ [])).actors
+    are_so : (w : World) (h : List Entry) → ComesNext w h c t old net ways stamp now → AreActors w net_new (after w (h ++ x ∷ [])).actors
     are_so w h comes =
         subst (λ (n : Net). AreActors w net_new n.actors) (sym (after_so w h comes))
         (subst (λ (a : ActorName). AreActors w net_new (actors_after (after w h).actors a (stepped_in w h comes).state)) (sym actor_so)

@@ -9,7 +9,7 @@ use Rattle.net_base.specs.Callers.{caller_count}
 use Rattle.net_base.specs.World.{IsWorld}
 use Rattle.duties.specs.WaysOf.{AreWaysOfWorld}
 use Rattle.net_actors.specs.Together.{AreActors}
-use Rattle.plain_runner.specs.Callers.{IsCaller}
+use Rattle.plain_runner.specs.Callers.{IsCallerKept}
 use Rattle.plain_runner.specs.Tracks.{AreCallers, Tracks}
 use Rattle.plain_runner.specs.declared.caller.Caller.{Caller}
 use Rattle.plain_runner.specs.declared.runner.Runner.{Runner}
@@ -17,7 +17,7 @@ use Rattle.plain_runner.specs.declared.runner.Runner.{Runner}
 -- these are the first n callers
 pub record AreFirst (w : World) (n : ℕ) (ks : List Caller) : Type 0 where
   pub count : length ks ≡ n
-  pub each : (c : ℕ) (k : Caller) → slice_get ks c ≡ Some k → IsCaller w [] c k
+  pub each : (c : ℕ) (k : Caller) → slice_get ks c ≡ Some k → IsCallerKept w [] c k
 
 pub none_yet : (w : World) (ks : List Caller) → ks ≡ [] → AreFirst w 0 ks
 none_yet w ks is = record { count = ap length is; each = λ c k at. absurd (none-some k (sym (ap (λ xs. slice_get xs c) is) ∙ at)) }
@@ -29,7 +29,7 @@ last_or_before [] x y (suc i) same is at other = absurd (none-some y at)
 last_or_before (z ∷ xs) x y zero same is at other = at
 last_or_before (z ∷ xs) x y (suc i) same is at other = last_or_before xs x y i (i == length xs) refl at (λ p. other (ap suc p.0, p.1))
 
-pub one_more : (w : World) (n : ℕ) (ks : List Caller) (k : Caller) → AreFirst w n ks → IsCaller w [] n k → AreFirst w (n + 1) (ks ++ k ∷ [])
+pub one_more : (w : World) (n : ℕ) (ks : List Caller) (k : Caller) → AreFirst w n ks → IsCallerKept w [] n k → AreFirst w (n + 1) (ks ++ k ∷ [])
 one_more w n ks k first is = record {
   count = omega (arith, length-append ks (k ∷ []), first.count);
   each = λ c e at. by_place c e (c == n) refl at;
@@ -39,11 +39,11 @@ one_more w n ks k first is = record {
     at_last [] x y at = same_Some x y at
     at_last (z ∷ xs) x y at = at_last xs x y at
 
-    by_place : (c : ℕ) (e : Caller) (same : Bool) → (c == n) ≡ same → slice_get (ks ++ k ∷ []) c ≡ Some e → IsCaller w [] c e
+    by_place : (c : ℕ) (e : Caller) (same : Bool) → (c == n) ≡ same → slice_get (ks ++ k ∷ []) c ≡ Some e → IsCallerKept w [] c e
     by_place c e true same at =
         let here : c ≡ n = eqb-true c n same in
         let there : k ≡ e = at_last ks k e (ap (slice_get (ks ++ k ∷ [])) (first.count ∙ sym here) ∙ at) in
-        subst (λ (m : ℕ). IsCaller w [] m e) (sym here) (subst (IsCaller w [] n) there is)
+        subst (λ (m : ℕ). IsCallerKept w [] m e) (sym here) (subst (IsCallerKept w [] n) there is)
     by_place c e false same at = first.each c e (last_or_before ks k e c (c == length ks) refl at (λ p. eqb-false c n same (p.0 ∙ first.count)))
 
 pub all_callers : (w : World) (n : ℕ) (ks : List Caller) → n ≡ caller_count w → AreFirst w n ks → AreCallers w [] ks

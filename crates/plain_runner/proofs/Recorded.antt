@@ -19,8 +19,8 @@ use Rattle.net_actors.specs.Together.{AreActors}
 use Rattle.script_player.specs.Players.{IsAt}
 use Rattle.history_laws.specs.Apart.{StandsStill}
 use Rattle.history_laws.proofs.Shared.{stands_still, after_push, legal_push, timed_push}
-use Rattle.plain_runner.specs.Callers.{HasRole, IsCaller}
-use Rattle.plain_runner.specs.Recording.{Comes, IsHistory, Recorded}
+use Rattle.plain_runner.specs.Callers.{HasRole, IsCallerKept}
+use Rattle.plain_runner.specs.Recording.{ComesNext, IsHistory, Recorded}
 use Rattle.plain_runner.specs.Tracks.{IsBefore, RecordedSo}
 use Rattle.plain_runner.specs.declared.caller.Caller.{Caller}
 use Rattle.plain_runner.specs.declared.caller.Role.{Role}
@@ -48,7 +48,7 @@ role_stays w h l c (role.Script s p) before same is =
       before_is = is.before_is ∙ ap (λ (rs : List Reply). finished_by (zone_of w) (take (length rs - 1) rs) s.now) (sym replies);
     }
 
-pub caller_stays : (w : World) (h : List Entry) (c : ℕ) (k : Caller) (x : Entry) → (x.caller ≡ c → ⊥) → IsCaller w h c k → IsCaller w (h ++ x ∷ []) c k
+pub caller_stays : (w : World) (h : List Entry) (c : ℕ) (k : Caller) (x : Entry) → (x.caller ≡ c → ⊥) → IsCallerKept w h c k → IsCallerKept w (h ++ x ∷ []) c k
 caller_stays w h c k x other is = record {
   stands = record {
     role_is = role_stays w h (h ++ x ∷ []) c k.role k.before still.recorded is.stands.role_is;
@@ -67,7 +67,7 @@ caller_stays w h c k x other is = record {
 -- The run.
 
 pub come : (w : World) (r : Runner) (c : ℕ) (t : Turn) (k : Caller) → IsBefore w r c t → slice_get r.callers.items c ≡ Some k
-    → Comes w r.history.entries c t k r.net r.ways r.count r.moment
+    → ComesNext w r.history.entries c t k r.net r.ways r.count r.moment
 come w r c t k b at = record {
   history = b.history;
   turning = b.turning k at;
@@ -91,7 +91,7 @@ recorded_so w old new c t k x lt b rec history count callers ways now = record {
     count_is = omega (arith, count, b.count_is, ap length history, length-append old.history.entries (x ∷ []));
     callers_are = record {
       count = ap length callers ∙ length-set old.callers.items c k ∙ b.count;
-      each = λ d e at. subst (λ (h : List Entry). IsCaller w h d e) (sym history) (kept d e (c == d) refl (sym (ap (λ ks. slice_get ks d) callers) ∙ at));
+      each = λ d e at. subst (λ (h : List Entry). IsCallerKept w h d e) (sym history) (kept d e (c == d) refl (sym (ap (λ ks. slice_get ks d) callers) ∙ at));
     };
     are = subst (λ (h : List Entry). AreActors w new.net (after w h).actors) (sym history) rec.are;
     ways_are = subst (AreWaysOfWorld w) (sym ways) b.ways_are;
@@ -106,11 +106,11 @@ recorded_so w old new c t k x lt b rec history count callers ways now = record {
 }
   where
     kept : (d : ℕ) (e : Caller) (same : Bool) → (c == d) ≡ same → slice_get (slice_set old.callers.items c k) d ≡ Some e
-        → IsCaller w (old.history.entries ++ x ∷ []) d e
+        → IsCallerKept w (old.history.entries ++ x ∷ []) d e
     kept d e true is at =
         let here : k ≡ e = same_Some k e (sym (get_set old.callers.items c k lt) ∙ ap (slice_get (slice_set old.callers.items c k)) (eqb-true c d is)
         ∙ at) in
-        subst (λ (n : ℕ). IsCaller w (old.history.entries ++ x ∷ []) n e) (eqb-true c d is) (subst (IsCaller w (old.history.entries ++ x ∷ []) c) here rec.kept)
+        subst (λ (n : ℕ). IsCallerKept w (old.history.entries ++ x ∷ []) n e) (eqb-true c d is) (subst (IsCallerKept w (old.history.entries ++ x ∷ []) c) here rec.kept)
     kept d e false is at =
         let other : c ≡ d → ⊥ = eqb-false c d is in
         caller_stays w old.history.entries d e x (λ s. other (sym rec.caller_is ∙ s)) (b.others d e other (sym (get_set_other old.callers.items c d k other) ∙ at))

@@ -6,8 +6,8 @@ use Rattle.std.proofs.lemmas.Option.{same_Some}
 use Rattle.net_base.specs.declared.history.Entry.{Entry}
 use Rattle.net_base.specs.declared.world.World.{World}
 use Rattle.net_base.specs.Net.{moment}
-use Rattle.plain_runner.specs.Callers.{IsCaller, IsTurning, Takes, TakesIf}
-use Rattle.plain_runner.specs.Tracks.{Grows, IsBefore, IsReady, RecordedSo, Tracks}
+use Rattle.plain_runner.specs.Callers.{IsCallerKept, IsTurning, Takes, TakesIf}
+use Rattle.plain_runner.specs.Tracks.{Grows, IsBefore, IsCallerReady, RecordedSo, Tracks}
 use Rattle.plain_runner.specs.Turns.{IsReadyTurn, IsTurn}
 use Rattle.plain_runner.specs.Recording.{IsHistory}
 use Rattle.plain_runner.specs.declared.caller.Caller.{Caller}
@@ -25,13 +25,13 @@ pub record IsTaken (old mid : Runner) (c : ℕ) (k : Caller) : Type 0 where
   pub ways : mid.ways ≡ old.ways
   pub callers : mid.callers.items ≡ slice_set old.callers.items c k
 
-pub taken_before : (w : World) (r mid : Runner) (c : ℕ) (old new : Caller) (t : Turn) → c < length r.callers.items → Tracks w r → IsReady w r c
+pub taken_before : (w : World) (r mid : Runner) (c : ℕ) (old new : Caller) (t : Turn) → c < length r.callers.items → Tracks w r → IsCallerReady w r c
     → slice_get r.callers.items c ≡ Some old → Takes old new (Some t) → IsTaken r mid c new → IsBefore w mid c t
 taken_before w r mid c old new t lt s ready at takes is = record {
   history = subst (IsHistory w) (sym is.history) s.history;
   count_is = is.counted ∙ s.count_is ∙ ap length (sym is.history);
   count = ap length is.callers ∙ length-set r.callers.items c new ∙ s.callers_are.count;
-  others = λ d k apart there. subst (λ (h : List Entry). IsCaller w h d k) (sym is.history)
+  others = λ d k apart there. subst (λ (h : List Entry). IsCallerKept w h d k) (sym is.history)
       (s.callers_are.each d k (sym (get_set_other r.callers.items c d new apart) ∙ sym (ap (λ ks. slice_get ks d) is.callers) ∙ there));
   turning = λ k there. subst (λ (h : List Entry). IsTurning w h c t.cites k) (sym is.history)
       (subst (λ (e : Caller). IsTurning w r.history.entries c t.cites e) (same_Some new k (sym (get_set r.callers.items c new lt)
@@ -55,7 +55,7 @@ grows w old mid new c t x same rec = record {
 }
 
 -- a caller that may record has a turn
-pub some_taken : (w : World) (r : Runner) (c : ℕ) (k : Caller) (t : Option Turn) → Tracks w r → IsReady w r c → slice_get r.callers.items c ≡ Some k
+pub some_taken : (w : World) (r : Runner) (c : ℕ) (k : Caller) (t : Option Turn) → Tracks w r → IsCallerReady w r c → slice_get r.callers.items c ≡ Some k
     → TakesIf k t → IsSome t
 some_taken w r c k t s ready at takes = takes w r.history.entries c (s.callers_are.each c k at) ready.ready
 

@@ -14,7 +14,7 @@ use Rattle.net_base.specs.Actors.{Actor, actor_step}
 use Rattle.net_base.specs.Duties.{Duty, duties}
 use Rattle.net_base.specs.Legal.{IsMove}
 use Rattle.duties.specs.declared.due.Due.{Due}
-use Rattle.duties.specs.Queue.{Adds, Queue}
+use Rattle.duties.specs.Queue.{AddsDuty, Queue}
 use Rattle.duties.specs.Ticking.{MoveOwes, dues_of, ticks_of}
 use Rattle.plain_runner.specs.Recording.{OwesAll}
 
@@ -26,15 +26,15 @@ owes_ticks : MovesOwe
     → (w : World) (actors : ActorName → Actor) (a : ActorName) (stamp : ℕ) (e : Event) (with : With) (step : Step Actor) (before : Actor) (now : ℕ)
     → (old new : Queue) (dues : List Due) → IsMove a e
     → actor_step w a before now (record { event = e; with = with }) ≡ Some step → dues ≡ dues_of w actors
-    → ((m : ℕ) → e ≡ event.Move m → Adds old new (ticks_of stamp m dues))
-    → Adds old new (duties w actors a stamp (record { event = e; with = with }) step)
+    → ((m : ℕ) → e ≡ event.Move m → AddsDuty old new (ticks_of stamp m dues))
+    → AddsDuty old new (duties w actors a stamp (record { event = e; with = with }) step)
 owes_ticks law w actors name.Clock stamp (event.Move m) with step before now old new dues is gives same adds =
-    subst (λ (ds : List Duty). Adds old new ds) (ap (ticks_of stamp m) same ∙ sym (law w actors stamp m with before now step gives)) (adds m refl)
+    subst (λ (ds : List Duty). AddsDuty old new ds) (ap (ticks_of stamp m) same ∙ sym (law w actors stamp m with before now step gives)) (adds m refl)
 owes_ticks law w actors _ stamp _ with step before now old new dues is gives same adds = absurd is
 
 module _ {Z : Type 0} where
   pub move_owes : MovesOwe → (ways : List HostWays) (a : ActorName) (stamp : ℕ) (work : Work) (o : Outcome) (dues : Vec Due Z) (old new : Queue)
-      → ((m : ℕ) → work.event ≡ event.Move m → Adds old new (ticks_of stamp m dues.items))
+      → ((m : ℕ) → work.event ≡ event.Move m → AddsDuty old new (ticks_of stamp m dues.items))
       → OwesAll ways a stamp work o (Some dues) old new
   move_owes law ways a stamp work o dues old new adds = λ w actors step are due gives.
       owes_ticks law w actors a stamp work.event work.with step gives.before gives.now old new dues.items due.0 gives.gives due.1 adds

@@ -43,7 +43,7 @@ pub record Turns (w : World) (h : List Entry) (c : ℕ) (cites : Option ℕ) (k 
   pub own : IsSome cites → AreOwn k.next
 
 -- what is kept of a caller after a history
-pub record IsCaller (w : World) (h : List Entry) (c : ℕ) (k : Caller) : Type 0 where
+pub record IsCallerKept (w : World) (h : List Entry) (c : ℕ) (k : Caller) : Type 0 where
   pub stands : Stands w h c k
   pub owes : k.owed.list ≡ owed w h c
   pub entries_is : k.entries ≡ length (by h c)
@@ -58,11 +58,11 @@ pub record IsTurning (w : World) (h : List Entry) (c : ℕ) (cites : Option ℕ)
 abbrev pub Takes : Caller → Caller → Option Turn → Type 0
 Takes old new None = Unit {0}
 Takes old new (Some t) =
-    (w : World) (h : List Entry) (c : ℕ) → IsCaller w h c old → IsTurn w h c t × IsTurning w h c t.cites new
+    (w : World) (h : List Entry) (c : ℕ) → IsCallerKept w h c old → IsTurn w h c t × IsTurning w h c t.cites new
 
 -- where it may record, there is a turn
 abbrev pub TakesIf : Caller → Option Turn → Type 0
-TakesIf old t = (w : World) (h : List Entry) (c : ℕ) → IsCaller w h c old → may_turn w h c ≡ true → IsSome t
+TakesIf old t = (w : World) (h : List Entry) (c : ℕ) → IsCallerKept w h c old → may_turn w h c ≡ true → IsSome t
 
 -- the entry is the caller's, cites this and has this reply, which fits its event; where it cites nothing, it came next
 pub record IsEntryOf (w : World) (h : List Entry) (c : ℕ) (cites : Option ℕ) (reply : Reply) (x : Entry) : Type 0 where
@@ -73,7 +73,7 @@ pub record IsEntryOf (w : World) (h : List Entry) (c : ℕ) (cites : Option ℕ)
   pub came_next : cites ≡ None → IsNext (caller_of w c) (next_recorded w h c) x
 
 -- the caller went on after an entry of its turn
-pub record GoesOn (old new : Caller) (cites : Option ℕ) (reply : Reply) : Type 0 where
+pub record WentOn (old new : Caller) (cites : Option ℕ) (reply : Reply) : Type 0 where
   pub owed_stays : new.owed ≡ old.owed
   pub entries_is : new.entries ≡ old.entries + 1
   pub goes :

@@ -14,7 +14,7 @@ pub record Followed (w : World) (h : List Entry) (r : Runner) : Type 0 where
   pub history_is : r.history.entries ≡ h
 
 -- the entry may come next in a run of this world, and in time
-pub record Follows (w : World) (r : Runner) (x : Entry) : Type 0 where
+pub record FollowsRun (w : World) (r : Runner) (x : Entry) : Type 0 where
   pub tracks : Tracks w r
   pub may : MayFollow w r.history.entries x
   pub in_time : IsInTime (after w r.history.entries) w x.event
@@ -29,7 +29,7 @@ pub record MayFollowOn (r : Runner) (c : ℕ) (e : Event) : Type 0 where
   pub world : World
   pub entry : Entry
   pub is : IsOf entry c e
-  pub follows : Follows world r entry
+  pub follows : FollowsRun world r entry
 
 -- the run recorded this entry, too, and gave it
 pub record GoesOnWith (w : World) (old new : Runner) (x given : Entry) : Type 0 where
@@ -38,4 +38,4 @@ pub record GoesOnWith (w : World) (old new : Runner) (x given : Entry) : Type 0 
 
 -- so with the entry of this event of this caller that may come next
 abbrev pub FollowedBy : Runner → Runner → ℕ → Event → Entry → Type 0
-FollowedBy old new c e given = (w : World) (x : Entry) → IsOf x c e → Follows w old x → GoesOnWith w old new x given
+FollowedBy old new c e given = (w : World) (x : Entry) → IsOf x c e → FollowsRun w old x → GoesOnWith w old new x given

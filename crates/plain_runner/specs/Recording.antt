@@ -14,12 +14,12 @@ use Rattle.net_base.specs.Legal.{IsLegal, IsMove, IsTimed, MayFollow}
 use Rattle.net_base.specs.Net.{after, moment}
 use Rattle.net_base.specs.World.{IsWorld}
 use Rattle.duties.specs.declared.due.Due.{Due}
-use Rattle.duties.specs.Owing.{Gives}
-use Rattle.duties.specs.Queue.{Adds, Queue}
+use Rattle.duties.specs.Owing.{GivesStep}
+use Rattle.duties.specs.Queue.{AddsDuty, Queue}
 use Rattle.duties.specs.Ticking.{dues_of}
 use Rattle.duties.specs.WaysOf.{AreWaysOfWorld}
 use Rattle.net_actors.specs.Together.{AreActors, Numbered}
-use Rattle.plain_runner.specs.Callers.{IsCaller, IsTurning}
+use Rattle.plain_runner.specs.Callers.{IsCallerKept, IsTurning}
 use Rattle.plain_runner.specs.Turns.{IsReadyTurn}
 use Rattle.plain_runner.specs.declared.caller.Caller.{Caller}
 use Rattle.plain_runner.specs.declared.turn.Turn.{Turn}
@@ -31,7 +31,7 @@ pub record IsHistory (w : World) (h : List Entry) : Type 0 where
   pub timed : IsTimed w h
 
 -- the turn of a caller comes after this history, and what is kept is of it
-pub record Comes
+pub record ComesNext
     (w : World) (h : List Entry) (c : ℕ) (t : Turn) (k : Caller) (net : Numbered) (ways : List HostWays) (stamp now : ℕ)
     : Type 0 where
   pub history : IsHistory w h
@@ -47,7 +47,7 @@ pub record CanRecord (c : ℕ) (t : Turn) (k : Caller) (net : Numbered) (ways : 
     : Type 0 where
   pub world : World
   pub past : List Entry
-  pub comes : Comes world past c t k net ways stamp now
+  pub comes : ComesNext world past c t k net ways stamp now
 
 -- the entry of the turn, and what is kept after it
 pub record Recorded (w : World) (h : List Entry) (c : ℕ) (t : Turn) (k : Caller) (net : Numbered) (x : Entry)
@@ -56,12 +56,12 @@ pub record Recorded (w : World) (h : List Entry) (c : ℕ) (t : Turn) (k : Calle
   pub caller_is : x.caller ≡ c
   pub actor_is : x.actor ≡ t.actor
   pub event_is : x.event ≡ t.work.event
-  pub kept : IsCaller w (h ++ x ∷ []) c k
+  pub kept : IsCallerKept w (h ++ x ∷ []) c k
   pub are : AreActors w net (after w (h ++ x ∷ [])).actors
 
 abbrev pub Records : ℕ → Turn → Caller → Caller → Numbered → Numbered → List HostWays → ℕ → ℕ → Entry → Type 0
 Records c t old new net after ways stamp now x =
-    (w : World) (h : List Entry) → Comes w h c t old net ways stamp now → Recorded w h c t new after x
+    (w : World) (h : List Entry) → ComesNext w h c t old net ways stamp now → Recorded w h c t new after x
 
 -- What a turn owes.
 
@@ -75,5 +75,5 @@ abbrev pub OwesAll : {Z : Type 0} → List HostWays → ActorName → ℕ → Wo
     → Type 0
 OwesAll ways a stamp work o dues old new =
     (w : World) (actors : ActorName → Actor) (step : Step Actor)
-    → AreWaysOfWorld w ways → DuesOf w actors a work.event dues → Gives w a work o step
-    → Adds old new (duties w actors a stamp work step)
+    → AreWaysOfWorld w ways → DuesOf w actors a work.event dues → GivesStep w a work o step
+    → AddsDuty old new (duties w actors a stamp work step)

@@ -8,7 +8,7 @@ use Rattle.net_base.specs.Net.{after, moment}
 use Rattle.net_base.specs.Next.{by}
 use Rattle.duties.specs.WaysOf.{AreWaysOfWorld}
 use Rattle.net_actors.specs.Together.{AreActors}
-use Rattle.plain_runner.specs.Callers.{IsCaller, IsTurning}
+use Rattle.plain_runner.specs.Callers.{IsCallerKept, IsTurning}
 use Rattle.plain_runner.specs.Recording.{IsHistory}
 use Rattle.plain_runner.specs.Turns.{IsReadyTurn, may_turn}
 use Rattle.plain_runner.specs.declared.turn.Turn.{Turn}
@@ -18,7 +18,7 @@ use Rattle.plain_runner.specs.declared.runner.Runner.{Runner}
 -- each caller of the world is kept, as it is after the history
 pub record AreCallers (w : World) (h : List Entry) (ks : List Caller) : Type 0 where
   pub count : length ks ≡ caller_count w
-  pub each : (c : ℕ) (k : Caller) → slice_get ks c ≡ Some k → IsCaller w h c k
+  pub each : (c : ℕ) (k : Caller) → slice_get ks c ≡ Some k → IsCallerKept w h c k
 
 -- a run of this world
 pub record Tracks (w : World) (r : Runner) : Type 0 where
@@ -30,8 +30,8 @@ pub record Tracks (w : World) (r : Runner) : Type 0 where
   pub moment_is : r.moment ≡ moment w r.history.entries
 
 -- a run of some world
-abbrev pub IsRun : Runner → Type 0
-IsRun r = (w : World) × Tracks w r
+abbrev pub IsRunOfWorld : Runner → Type 0
+IsRunOfWorld r = (w : World) × Tracks w r
 
 -- this entry of the turn was recorded
 pub record RecordedSo (w : World) (old new : Runner) (c : ℕ) (t : Turn) (x : Entry) : Type 0 where
@@ -48,20 +48,20 @@ pub record Grows (w : World) (old new : Runner) (c : ℕ) (x : Entry) : Type 0 w
   pub caller_is : x.caller ≡ c
 
 -- the caller has room, and what it owes first is ready, or its next event
-pub record IsReady (w : World) (r : Runner) (c : ℕ) : Type 0 where
+pub record IsCallerReady (w : World) (r : Runner) (c : ℕ) : Type 0 where
   pub room : length (by r.history.entries c) < most_entries
   pub ready : may_turn w r.history.entries c ≡ true
 
 -- so in some world
 abbrev pub IsReadyRun : Runner → ℕ → Type 0
-IsReadyRun r c = (w : World) × Tracks w r × IsReady w r c
+IsReadyRun r c = (w : World) × Tracks w r × IsCallerReady w r c
 
 -- a run of this world while the turn of a caller, which is ready, is recorded: it was taken from what is kept of it
 pub record IsBefore (w : World) (r : Runner) (c : ℕ) (t : Turn) : Type 0 where
   pub history : IsHistory w r.history.entries
   pub count_is : r.count ≡ length r.history.entries
   pub count : length r.callers.items ≡ caller_count w
-  pub others : (d : ℕ) (k : Caller) → (c ≡ d → ⊥) → slice_get r.callers.items d ≡ Some k → IsCaller w r.history.entries d k
+  pub others : (d : ℕ) (k : Caller) → (c ≡ d → ⊥) → slice_get r.callers.items d ≡ Some k → IsCallerKept w r.history.entries d k
   pub turning : (k : Caller) → slice_get r.callers.items c ≡ Some k → IsTurning w r.history.entries c t.cites k
   pub ready : IsReadyTurn w r.history.entries c t
   pub are : AreActors w r.net (after w r.history.entries).actors
@@ -69,8 +69,8 @@ pub record IsBefore (w : World) (r : Runner) (c : ℕ) (t : Turn) : Type 0 where
   pub moment_is : r.moment ≡ moment w r.history.entries
 
 -- so of some world
-abbrev pub MayRecord : Runner → ℕ → Turn → Type 0
-MayRecord r c t = (w : World) × IsBefore w r c t
+abbrev pub MayRecordTurn : Runner → ℕ → Turn → Type 0
+MayRecordTurn r c t = (w : World) × IsBefore w r c t
 
 -- the entry of the turn was recorded
 abbrev pub Recording : Runner → Runner → ℕ → Turn → Entry → Type 0

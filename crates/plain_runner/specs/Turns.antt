@@ -36,20 +36,20 @@ pub record IsReadyTurn (w : World) (h : List Entry) (c : ℕ) (t : Turn) : Type 
   pub in_time : IsInTime (after w h) w t.work.event
 
 -- the event of a turn
-abbrev pub ask_of : Turn → Ask
-ask_of t = record { actor = t.actor; event = t.work.event }
+abbrev pub turn_ask : Turn → Ask
+turn_ask t = record { actor = t.actor; event = t.work.event }
 
 abbrev pub asks_of : Option Turn → Option Ask
-asks_of t = option_map ask_of t
+asks_of t = option_map turn_ask t
 
 -- nothing was owed to it
-pub record IsOwn (t : Turn) : Type 0 where
+pub record IsOwnTurn (t : Turn) : Type 0 where
   pub nothing : t.work.with ≡ given.Nothing
   pub none : t.cites ≡ None
 
 abbrev pub AreOwn : Option Turn → Type 0
 AreOwn None = Unit {0}
-AreOwn (Some t) = IsOwn t
+AreOwn (Some t) = IsOwnTurn t
 
 -- a duty, as it is recorded, is ready
 abbrev pub is_duty_ready : World → Net → Duty → Bool
@@ -74,4 +74,4 @@ pub record OfDuty (d : Duty) (t : Turn) : Type 0 where
 pub record IsMoving (t : Turn) (m : ℕ) : Type 0 where
   pub actor : t.actor ≡ name.Clock
   pub event : t.work.event ≡ event.Move m
-  pub own : IsOwn t
+  pub own : IsOwnTurn t

@@ -8,8 +8,8 @@ use Rattle.net_base.specs.Net.{after}
 use Rattle.net_base.specs.Next.{next_recorded}
 
 -- a caller could record, if it had room; a move of the clock aside
-abbrev pub could : World → List Entry → ℕ → Bool
-could w h c = owes (after w h) c || can_go_on w (after w h) c
+abbrev pub could_go : World → List Entry → ℕ → Bool
+could_go w h c = owes (after w h) c || can_go_on w (after w h) c
 
 -- the moments for which callers wait
 abbrev pub awaited_moments : World → List Entry → List ℕ

@@ -9,9 +9,9 @@ ghost use Rattle.net_actors.specs.Together.{AreActors};
 ghost use Rattle.net_base.specs.declared.actor.ActorName.TheVariants as name;
 ghost use Rattle.net_base.specs.declared.event.Event.TheVariants as event;
 ghost use Rattle.std.specs.Option.{option_map};
-ghost use Rattle.script_player.specs.Players.{asked as ask};
-ghost use Rattle.plain_runner.specs.Callers.{GoesOn, IsCaller, Takes, TakesIf};
-ghost use Rattle.plain_runner.specs.Turns.{AreOwn, IsOwn, OfDuty, ask_of, asks_of, may_turn};
+ghost use Rattle.script_player.specs.Players.{asked_event as ask};
+ghost use Rattle.plain_runner.specs.Callers.{WentOn, IsCallerKept, Takes, TakesIf};
+ghost use Rattle.plain_runner.specs.Turns.{AreOwn, IsOwnTurn, OfDuty, turn_ask, asks_of, may_turn};
 
 use crate::turn::Turn;
 use duties::{Duties, Duty};
@@ -53,7 +53,7 @@ impl<'a> Caller<'a> {
     ) -> Result<Caller<'a>, AllocError>
         requires some { 0 < length (arc_value dbs) }
         ensures { IfOk result (λ k. (w : AnyWorld) (c : ℕ) → w.dbs ≡ arc_value dbs
-            → slice_get w.scripts c ≡ Some script.now → IsCaller w [] c k) }
+            → slice_get w.scripts c ≡ Some script.now → IsCallerKept w [] c k) }
     {
         let mut player = Player::new(alloc, dbs);
         let next = asked(player.next(script)?);
@@ -69,7 +69,7 @@ impl<'a> Caller<'a> {
 
     /// The courier of a medium before anything is recorded.
     pub fn courier(alloc: Global, medium: u32) -> Caller<'a>
-        ensures { (w : AnyWorld) (c : ℕ) → caller_of w c ≡ IsCourier medium → IsCaller w [] c result }
+        ensures { (w : AnyWorld) (c : ℕ) → caller_of w c ≡ IsCourier medium → IsCallerKept w [] c result }
     {
         Caller {
             role: Role::Courier(medium),
@@ -82,7 +82,7 @@ impl<'a> Caller<'a> {
 
     /// The clock before anything is recorded.
     pub fn clock(alloc: Global) -> Caller<'a>
-        ensures { (w : AnyWorld) (c : ℕ) → caller_of w c ≡ IsClock → IsCaller w [] c result }
+        ensures { (w : AnyWorld) (c : ℕ) → caller_of w c ≡ IsClock → IsCallerKept w [] c result }
     {
         Caller {
             role: Role::Clock,
@@ -95,7 +95,7 @@ impl<'a> Caller<'a> {
 
     /// Whether what it owes first is ready, or its next event where it owes nothing.
     pub fn may_record(&self, net: &Actors, now: u64) -> bool
-        ensures { (w : AnyWorld) (h : List AnyEntry) (c : ℕ) → IsCaller w h c self.now
+        ensures { (w : AnyWorld) (h : List AnyEntry) (c : ℕ) → IsCallerKept w h c self.now
             → AreActors w net.now (after w h).actors → now ≡ moment w h → result ≡ may_turn w h c }
     {
         histories_grow();
@@ -123,7 +123,7 @@ impl<'a> Caller<'a> {
     /// Goes on after an entry of its turn, which had this reply.
     pub fn recorded(&mut self, cites: Option<u64>, reply: Reply) -> Result<(), AllocError>
         requires room { self.old.entries + 1 < 2 ^ 32 }
-        ensures { OnOk result (GoesOn self.old self.new cites reply) }
+        ensures { OnOk result (WentOn self.old self.new cites reply) }
     {
         self.entries += 1;
         if cites.is_some() {
@@ -162,8 +162,8 @@ fn asked(event: Option<(ActorName, Event)>) -> Option<Turn>
 
 // A courier takes at its medium.
 fn taking(medium: u32) -> Turn
-    ensures asks { ask_of result ≡ record { actor = name.Medium medium; event = event.Take } }
-    ensures own { IsOwn result }
+    ensures asks { turn_ask result ≡ record { actor = name.Medium medium; event = event.Take } }
+    ensures own { IsOwnTurn result }
 {
     Turn {
         actor: ActorName::Medium(medium),

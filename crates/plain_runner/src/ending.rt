@@ -7,8 +7,8 @@ ghost use Rattle.net_base.specs.Calm as calm;
 ghost use Rattle.net_base.specs.Net.{after};
 ghost use Rattle.net_base.specs.Next.{finished_by, is_unfinished, own_replies, zone_of};
 ghost use Rattle.net_base.specs.Summary.{answered_by, answered_steps, end_word};
-ghost use Rattle.transcript.specs.RunStatus.{word_of};
-ghost use Rattle.plain_runner.specs.Waiting.{awaited_moments, could, due_moments};
+ghost use Rattle.transcript.specs.RunStatus.{run_end_word};
+ghost use Rattle.plain_runner.specs.Waiting.{awaited_moments, could_go, due_moments};
 ghost use Rattle.plain_runner.specs.Tracks.{Tracks};
 ghost use Rattle.plain_runner.specs.Turns.{asks_of};
 
@@ -24,7 +24,7 @@ impl<'a> Runner<'a> {
     /// How the run has ended, if it has.
     pub fn end(&self, world: &World) -> Option<RunEnd>
         requires { Tracks world.now self.now }
-        ensures { word_of result ≡ end_word world.now (after world.now self.now.history.entries) }
+        ensures { run_end_word result ≡ end_word world.now (after world.now self.now.history.entries) }
     {
         if self.goes_on() {
             return self.busy_end();
@@ -58,7 +58,7 @@ impl<'a> Runner<'a> {
     // How a run ends where a caller owes a duty or its next event is ready.
     fn busy_end(&self) -> Option<RunEnd>
         ensures { (w : AnyWorld) → Tracks w self.now → calm.calm w (after w self.now.history.entries) ≡ false
-            → word_of result ≡ end_word w (after w self.now.history.entries) }
+            → run_end_word result ≡ end_word w (after w self.now.history.entries) }
     {
         for caller in 0..self.callers.len() {
             if self.is_full(caller) && self.could(caller) {
@@ -71,14 +71,14 @@ impl<'a> Runner<'a> {
     // Whether a caller owes a duty, or its next event is ready.
     fn could(&self, caller: usize) -> bool
         requires { caller < length self.now.callers.items }
-        ensures { (w : AnyWorld) → Tracks w self.now → result ≡ could w self.now.history.entries caller }
+        ensures { (w : AnyWorld) → Tracks w self.now → result ≡ could_go w self.now.history.entries caller }
     {
         !self.callers[caller].owed.is_empty() || self.may_turn(caller)
     }
 
     // Whether some caller could record.
     fn goes_on(&self) -> bool
-        ensures { (w : AnyWorld) → Tracks w self.now → result ≡ list_any (could w self.now.history.entries) (calm.callers w) }
+        ensures { (w : AnyWorld) → Tracks w self.now → result ≡ list_any (could_go w self.now.history.entries) (calm.callers w) }
     {
         for caller in 0..self.callers.len() {
             if self.could(caller) {

@@ -4,7 +4,7 @@ ghost use Rattle.net_base.specs.declared.actor.ActorName.{ActorName as Name};
 ghost use Rattle.net_base.specs.declared.world.World.{World as AnyWorld};
 ghost use Rattle.net_base.specs.Actors.{Actor};
 ghost use Rattle.net_base.specs.declared.event.Event.TheVariants as event;
-ghost use Rattle.duties.specs.Queue.{Adds};
+ghost use Rattle.duties.specs.Queue.{AddsDuty};
 ghost use Rattle.duties.specs.Showing.{shows};
 ghost use Rattle.duties.specs.Ticking.{ticks_of};
 ghost use Rattle.net_actors.specs.Together.{AreActors};
@@ -90,7 +90,7 @@ fn owe_ticks(
 ) -> Result<Shown, AllocError>
     ensures shown { IfOk result (λ s. s ≡ shows work.event outcome) }
     ensures owes { OnOk result ((moment : ℕ) → work.event ≡ event.Move moment
-        → Adds owed.old owed.new (ticks_of stamp moment dues.now)) }
+        → AddsDuty owed.old owed.new (ticks_of stamp moment dues.now)) }
 {
     owed.reserve(dues.len())?;
     if let Event::Move { moment } = &work.event {

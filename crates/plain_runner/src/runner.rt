@@ -6,7 +6,7 @@ ghost use Rattle.net_base.specs.Calm.{most_entries};
 ghost use Rattle.net_base.specs.Net.{moment_after as spec_moment_after};
 ghost use Rattle.net_base.specs.Next.{by};
 ghost use Rattle.net_base.specs.World.{IsWorld};
-ghost use Rattle.plain_runner.specs.Tracks.{AreCallers, Grows, IsReady, IsReadyRun, MayRecord, Recording};
+ghost use Rattle.plain_runner.specs.Tracks.{AreCallers, Grows, IsCallerReady, IsReadyRun, MayRecordTurn, Recording};
 ghost use Rattle.plain_runner.specs.Tracks.{Tracks};
 ghost use Rattle.plain_runner.specs.Turns.{may_turn};
 
@@ -86,7 +86,7 @@ impl<'a> Runner<'a> {
     /// Records a turn of a caller, which was taken from it and is ready, and gives the entry.
     pub fn record(&mut self, caller: usize, turn: Turn) -> Result<Entry, AllocError>
         requires caller { caller < length self.old.callers.items }
-        requires ready { MayRecord self.old caller turn }
+        requires ready { MayRecordTurn self.old caller turn }
         ensures { IfOk result (Recording self.old self.new caller turn) }
     {
         histories_are_short();
@@ -110,7 +110,7 @@ impl<'a> Runner<'a> {
     pub fn record_next(&mut self, caller: usize) -> Result<Entry, AllocError>
         requires caller { caller < length self.old.callers.items }
         requires ready { IsReadyRun self.old caller }
-        ensures { IfOk result (λ entry. (w : AnyWorld) → Tracks w self.old → IsReady w self.old caller
+        ensures { IfOk result (λ entry. (w : AnyWorld) → Tracks w self.old → IsCallerReady w self.old caller
             → Grows w self.old self.new caller entry) }
     {
         let turn = self.callers[caller].take_turn().unwrap();

@@ -17,7 +17,7 @@ use Rattle.script_task.specs.Holdings.{Holdings, holdings}
 use Rattle.script_task.specs.declared.effect.Effect.{Effect}
 use Rattle.script_task.specs.declared.effect.Effect.TheVariants.{Opens, Closes, Hears, Keeps}
 use Rattle.net_base.specs.declared.request.Request.{Request}
-use Rattle.script_task.specs.Effects.{effect_of, opened, settles}
+use Rattle.script_task.specs.Effects.{effect_of, opened_file, settles_effect}
 use Rattle.script_task.specs.Fitting.{fits}
 use Rattle.net_base.specs.Requests.{head, settled}
 use Rattle.script_task.specs.Task.{Heads, follow, fits_play}
@@ -26,7 +26,7 @@ use Rattle.step_task.specs.declared.step.StepTask.{StepTask}
 use Rattle.step_task.specs.Leaving.{after_one, leaves_so}
 use Rattle.step_task.specs.StepTasks.{StandsFor, asks, after, after_all, begun, leaves, left_by as left_by_task}
 use Rattle.step_task.specs.StepLaws.{asks_alike, asks_so, begun_asks, begun_stands, moves_so}
-use Rattle.script_player.specs.Players.{Playing, kept, position_after, next_after, Plays, Knows, InStep, Between, IsAtBy, IsAt, begun_by, begun_in, request_by, request_of, asked_by, asked_at, with_room, prepared_by, prepared, expected_by, expected_in, heard_by, heard, left_by, left}
+use Rattle.script_player.specs.Players.{Playing, playing_kept, position_after, next_after, PlaysLeft, KnowsPlaying, IsInStep, Between, IsAtBy, IsAt, playing_begun_by, begun_in, request_by, request_of, asked_as, asked_at, with_room, prepared_by, prepared, expected_by, expected_in, heard_by, playing_heard, left_by_playing, left}
 use Rattle.net_base.proofs.Members.{append_one, none_is}
 
 -- Lists.
@@ -63,17 +63,17 @@ length_drop (suc k) (x ∷ ss) le = omega (arith, length_drop k ss (omega (arith
 -- A step begins.
 
 begins : (zone : Tuples) (s : Script) (rs : List Reply) (p : Playing) (at : Step) → slice_get s.steps p.finished ≡ Some at → Between zone s rs p
-    → InStep zone s rs (record p { task = Some (begun p.left at); effect = None }) (begun p.left at)
+    → IsInStep zone s rs (record p { task = Some (begun p.left at); effect = None }) (begun p.left at)
 begins zone s rs p at is between =
     let behind : drop p.finished s.steps ≡ at ∷ drop (suc p.finished) s.steps = drop_at p.finished s.steps at is in
     record {
-      play = step_play s.host (kept p) at;
+      play = step_play s.host (playing_kept p) at;
       step = at;
       rest = drop (suc p.finished) s.steps;
       said = [];
       told = refl;
       behind = behind;
-      plays = λ more. subst (λ (ss : List Step). position_after zone s (rs ++ more) ≡ position s.host ss (kept p) more) behind (between.leaves more);
+      plays = λ more. subst (λ (ss : List Step). position_after zone s (rs ++ more) ≡ position s.host ss (playing_kept p) more) behind (between.leaves more);
       stands_for = begun_stands (begun p.left at) p.left at refl s.host p.holdings.names between.slots;
       goes_on = begun_asks p.left at p.holdings.names;
       knows = tt;
@@ -83,7 +83,7 @@ begins zone s rs p at is between =
 abbrev AtIts : Tuples → Script → List Reply → Playing → Type 0
 AtIts zone s rs p = IsAtBy zone s rs p p.task
 
-begun_is : (zone : Tuples) (s : Script) (rs : List Reply) (p : Playing) (t : Option StepTask) (o : Option Step) → p.task ≡ t → slice_get s.steps p.finished ≡ o → IsAtBy zone s rs p t → AtIts zone s rs (begun_by p t o)
+begun_is : (zone : Tuples) (s : Script) (rs : List Reply) (p : Playing) (t : Option StepTask) (o : Option Step) → p.task ≡ t → slice_get s.steps p.finished ≡ o → IsAtBy zone s rs p t → AtIts zone s rs (playing_begun_by p t o)
 begun_is zone s rs p (Some t) o task is at = subst (λ (u : Option StepTask). IsAtBy zone s rs p u) (sym task) at
 begun_is zone s rs p None None task is at = subst (λ (u : Option StepTask). IsAtBy zone s rs p u) (sym task) at
 begun_is zone s rs p None (Some step) task is at = begins zone s rs p step is at
@@ -94,11 +94,11 @@ begun_at zone s rs p at = begun_is zone s rs p p.task (slice_get s.steps p.finis
 
 -- The next event.
 
-heads : (zone : Tuples) (s : Script) (rs : List Reply) (p : Playing) (t : StepTask) (q : Request) (step : InStep zone s rs p t) → asks t p.holdings.names ≡ Some q → Heads s.host p.holdings.names (Some q) step.play
+heads : (zone : Tuples) (s : Script) (rs : List Reply) (p : Playing) (t : StepTask) (q : Request) (step : IsInStep zone s rs p t) → asks t p.holdings.names ≡ Some q → Heads s.host p.holdings.names (Some q) step.play
 heads zone s rs p t q step is = subst (λ (o : Option Request). Heads s.host p.holdings.names o step.play) is (asks_so s.host p.holdings.names t step.play step.stands_for)
 
 -- a play that asks stands at its event, and its step is left
-at_event : (zone : Tuples) (s : Script) (rs said : List Reply) (l : Left) (play : Play) (at : Step) (rest : List Step) (ask : Ask) → head play ≡ Some ask → Plays zone s rs said l play at rest
+at_event : (zone : Tuples) (s : Script) (rs said : List Reply) (l : Left) (play : Play) (at : Step) (rest : List Step) (ask : Ask) → head play ≡ Some ask → PlaysLeft zone s rs said l play at rest
     → position_after zone s rs ≡ record { next = Some ask; left = at ∷ rest }
 at_event zone s rs said l (Asks a e next) at rest ask is plays =
     ap (λ (xs : List Reply). position_after zone s xs) (sym (append-nil rs)) ∙ plays [] ∙ ap (λ (o : Option Ask). record { next = o; left = at ∷ rest }) is
@@ -109,21 +109,21 @@ some_request : (o : Option Request) → is_none o ≡ false → (q : Request) ×
 some_request None is = absurd (true≢false is)
 some_request (Some q) is = (q, refl)
 
-step_next : (zone : Tuples) (s : Script) (rs : List Reply) (p : Playing) (t : StepTask) → InStep zone s rs p t → asked_by s.host p.holdings.names (asks t p.holdings.names) ≡ next_after zone s rs
+step_next : (zone : Tuples) (s : Script) (rs : List Reply) (p : Playing) (t : StepTask) → IsInStep zone s rs p t → asked_as s.host p.holdings.names (asks t p.holdings.names) ≡ next_after zone s rs
 step_next zone s rs p t step =
     let found = some_request (asks t p.holdings.names) step.goes_on in
     let heading = heads zone s rs p t found.0 step found.1 in
-    ap (λ (o : Option Request). asked_by s.host p.holdings.names o) found.1 ∙ heading.2 ∙ sym (ap (λ (at : Position). at.next) (at_event zone s rs step.said p.left step.play step.step step.rest heading.0 heading.1 step.plays))
+    ap (λ (o : Option Request). asked_as s.host p.holdings.names o) found.1 ∙ heading.2 ∙ sym (ap (λ (at : Position). at.next) (at_event zone s rs step.said p.left step.play step.step step.rest heading.0 heading.1 step.plays))
 
 -- no step is left
 none_left : (zone : Tuples) (s : Script) (rs : List Reply) (p : Playing) → Between zone s rs p → slice_get s.steps p.finished ≡ None → position_after zone s rs ≡ record { next = None; left = [] }
 none_left zone s rs p between is =
-    ap (λ (xs : List Reply). position_after zone s xs) (sym (append-nil rs)) ∙ between.leaves [] ∙ ap (λ (ss : List Step). position s.host ss (kept p) []) (drop_none p.finished s.steps is)
+    ap (λ (xs : List Reply). position_after zone s xs) (sym (append-nil rs)) ∙ between.leaves [] ∙ ap (λ (ss : List Step). position s.host ss (playing_kept p) []) (drop_none p.finished s.steps is)
 
-next_is : (zone : Tuples) (s : Script) (rs : List Reply) (p : Playing) (t : Option StepTask) (o : Option Step) → p.task ≡ t → slice_get s.steps p.finished ≡ o → IsAtBy zone s rs p t → asked_at s.host (begun_by p t o) ≡ next_after zone s rs
-next_is zone s rs p (Some t) o task is at = ap (λ (u : Option StepTask). asked_by s.host p.holdings.names (request_by p.holdings.names u)) task ∙ step_next zone s rs p t at
+next_is : (zone : Tuples) (s : Script) (rs : List Reply) (p : Playing) (t : Option StepTask) (o : Option Step) → p.task ≡ t → slice_get s.steps p.finished ≡ o → IsAtBy zone s rs p t → asked_at s.host (playing_begun_by p t o) ≡ next_after zone s rs
+next_is zone s rs p (Some t) o task is at = ap (λ (u : Option StepTask). asked_as s.host p.holdings.names (request_by p.holdings.names u)) task ∙ step_next zone s rs p t at
 next_is zone s rs p None None task is at =
-    ap (λ (u : Option StepTask). asked_by s.host p.holdings.names (request_by p.holdings.names u)) task ∙ sym (ap (λ (at : Position). at.next) (none_left zone s rs p at is))
+    ap (λ (u : Option StepTask). asked_as s.host p.holdings.names (request_by p.holdings.names u)) task ∙ sym (ap (λ (at : Position). at.next) (none_left zone s rs p at is))
 next_is zone s rs p None (Some step) task is at = step_next zone s rs (record p { task = Some (begun p.left step); effect = None }) (begun p.left step) (begins zone s rs p step is at)
 
 pub next_right : (zone : Tuples) (s : Script) (rs : List Reply) (p : Playing) → IsAt zone s rs p → asked_at s.host (begun_in s p) ≡ next_after zone s rs
@@ -135,11 +135,11 @@ next_right zone s rs p at = next_is zone s rs p p.task (slice_get s.steps p.fini
 same_names : (e : Effect) (b : Holdings) → (with_room e b).names ≡ b.names
 same_names (Opens called n m) b = refl
 same_names (Closes called) b = refl
-same_names (Hears heard) b = refl
+same_names (Hears playing_heard) b = refl
 same_names Keeps b = refl
 
-step_prepared : (zone : Tuples) (s : Script) (rs : List Reply) (p : Playing) (t : StepTask) (q : Request) → InStep zone s rs p t → asks t p.holdings.names ≡ Some q → (names : Names) (b : Holdings) → p.holdings.names ≡ names → b.names ≡ names
-    → InStep zone s rs (record p { holdings = b; effect = Some (effect_of p.holdings.names q) }) t
+step_prepared : (zone : Tuples) (s : Script) (rs : List Reply) (p : Playing) (t : StepTask) (q : Request) → IsInStep zone s rs p t → asks t p.holdings.names ≡ Some q → (names : Names) (b : Holdings) → p.holdings.names ≡ names → b.names ≡ names
+    → IsInStep zone s rs (record p { holdings = b; effect = Some (effect_of p.holdings.names q) }) t
 step_prepared zone s rs p t q step is names b old new =
     let back : p.holdings.names ≡ b.names = old ∙ sym new in
     record {
@@ -180,7 +180,7 @@ expected_at zone s rs p at = by p.effect
     by (Some e) = at
 
 -- where there is an event its effect is known
-prepared_knows : (h : ℕ) (p : Playing) (o : Option Request) (ask : Ask) → asked_by h p.holdings.names o ≡ Some ask → (e : Effect) × ((prepared_by p o).effect ≡ Some e)
+prepared_knows : (h : ℕ) (p : Playing) (o : Option Request) (ask : Ask) → asked_as h p.holdings.names o ≡ Some ask → (e : Effect) × ((prepared_by p o).effect ≡ Some e)
 prepared_knows h p None ask is = absurd (none-some ask is)
 prepared_knows h p (Some q) ask is = (effect_of p.holdings.names q, refl)
 
@@ -193,8 +193,8 @@ expected_knows zone s rs p ask at is = by p.effect refl
 
 -- A reply.
 
-plays_on : (zone : Tuples) (s : Script) (rs said : List Reply) (l : Left) (play : Play) (at : Step) (rest : List Step) (ask : Ask) (r : Reply) → head play ≡ Some ask → Plays zone s rs said l play at rest
-    → Plays zone s (rs ++ r ∷ []) (said ++ r ∷ []) l (follow play r) at rest
+plays_on : (zone : Tuples) (s : Script) (rs said : List Reply) (l : Left) (play : Play) (at : Step) (rest : List Step) (ask : Ask) (r : Reply) → head play ≡ Some ask → PlaysLeft zone s rs said l play at rest
+    → PlaysLeft zone s (rs ++ r ∷ []) (said ++ r ∷ []) l (follow play r) at rest
 plays_on zone s rs said l (Asks a e next) at rest ask r is plays = λ more.
     ap (λ (xs : List Reply). position_after zone s xs) (append_one rs r more)
     ∙ (plays (r ∷ more)
@@ -207,21 +207,21 @@ play_fits (Asks a e next) ask r is fit = subst (λ (x : Ask). fits x.event r ≡
 play_fits (Ends names) ask r is fit = refl
 
 -- what holds of the task and the play after a reply
-record Moved (zone : Tuples) (s : Script) (rs : List Reply) (p : Playing) (t : StepTask) (step : InStep zone s rs p t) (r : Reply) (names : Names) : Type 0 where
+record Moved (zone : Tuples) (s : Script) (rs : List Reply) (p : Playing) (t : StepTask) (step : IsInStep zone s rs p t) (r : Reply) (names : Names) : Type 0 where
   stands_for : StandsFor s.host names (after t r) (follow step.play r)
   told : after t r ≡ after_all (begun p.left step.step) (step.said ++ r ∷ [])
   leaving_so : leaves (after t r) p.left ≡ left_after p.left step.step (step.said ++ r ∷ [])
-  plays : Plays zone s (rs ++ r ∷ []) (step.said ++ r ∷ []) p.left (follow step.play r) step.step step.rest
+  plays : PlaysLeft zone s (rs ++ r ∷ []) (step.said ++ r ∷ []) p.left (follow step.play r) step.step step.rest
 
-moved : (zone : Tuples) (s : Script) (rs : List Reply) (p : Playing) (t : StepTask) (step : InStep zone s rs p t) (e : Effect) (ask : Ask) (r : Reply) → Knows p.holdings.names t (Some e) → next_after zone s rs ≡ Some ask → fits ask.event r ≡ true
-    → Moved zone s rs p t step r (settles e (opened e r) p.holdings).names
+moved : (zone : Tuples) (s : Script) (rs : List Reply) (p : Playing) (t : StepTask) (step : IsInStep zone s rs p t) (e : Effect) (ask : Ask) (r : Reply) → KnowsPlaying p.holdings.names t (Some e) → next_after zone s rs ≡ Some ask → fits ask.event r ≡ true
+    → Moved zone s rs p t step r (settles_effect e (opened_file e r) p.holdings).names
 moved zone s rs p t step e ask r knows is fit =
     let q : Request = knows.0 in
     let heading = heads zone s rs p t q step knows.1 in
     let same : heading.0 ≡ ask = same_Some heading.0 ask (sym (ap (λ (at : Position). at.next) (at_event zone s rs step.said p.left step.play step.step step.rest heading.0 heading.1 step.plays)) ∙ is) in
     let fits_it : fits_play step.play r ≡ true = play_fits step.play heading.0 r heading.1 (subst (λ (x : Ask). fits x.event r ≡ true) (sym same) fit) in
-    let names_are : settled p.holdings.names q r ≡ (settles e (opened e r) p.holdings).names =
-    sym (ap (λ (x : Effect). (settles x (opened x r) p.holdings).names) knows.2 ∙ settles_so p.holdings q r) in
+    let names_are : settled p.holdings.names q r ≡ (settles_effect e (opened_file e r) p.holdings).names =
+    sym (ap (λ (x : Effect). (settles_effect x (opened_file x r) p.holdings).names) knows.2 ∙ settles_so p.holdings q r) in
     record {
       stands_for = subst (λ (ns : Names). StandsFor s.host ns (after t r) (follow step.play r)) names_are (moves_so s.host p.holdings.names t step.play q r step.stands_for knows.1 fits_it);
       told = ap (λ (u : StepTask). after u r) step.told ∙ after_one (begun p.left step.step) step.said r;
@@ -230,14 +230,14 @@ moved zone s rs p t step e ask r knows is fit =
     }
 
 -- the step goes on, or the next one comes
-goes_on : (zone : Tuples) (s : Script) (rs : List Reply) (p : Playing) (t : StepTask) (step : InStep zone s rs p t) (r : Reply) (b : Holdings) → Moved zone s rs p t step r b.names
+goes_on : (zone : Tuples) (s : Script) (rs : List Reply) (p : Playing) (t : StepTask) (step : IsInStep zone s rs p t) (r : Reply) (b : Holdings) → Moved zone s rs p t step r b.names
     → (through : Bool) → is_none (asks (after t r) b.names) ≡ through → (l : Left) → l ≡ (if through then leaves (after t r) p.left else p.left)
     → AtIts zone s (rs ++ r ∷ [])
     (if through && nat_lt p.finished (length s.steps)
     then record p { holdings = b; effect = None; left = l; finished = p.finished + 1; task = None }
     else record p { holdings = b; task = Some (after t r); effect = None; left = l })
 goes_on zone s rs p t step r b moves false is l same =
-    subst (λ (x : Left). InStep zone s (rs ++ r ∷ []) (record p { holdings = b; task = Some (after t r); effect = None; left = x }) (after t r)) (sym same)
+    subst (λ (x : Left). IsInStep zone s (rs ++ r ∷ []) (record p { holdings = b; task = Some (after t r); effect = None; left = x }) (after t r)) (sym same)
     (record {
       play = follow step.play r;
       step = step.step;
@@ -279,19 +279,19 @@ goes_on zone s rs p t step r b moves true is l same =
     chosen false is next = absurd (false≢true is)
 
 told_is : (zone : Tuples) (s : Script) (rs : List Reply) (p : Playing) (t : Option StepTask) (e : Effect) (ask : Ask) (r : Reply) → p.effect ≡ Some e → IsAtBy zone s rs p t → next_after zone s rs ≡ Some ask → fits ask.event r ≡ true
-    → AtIts zone s (rs ++ r ∷ []) (left_by (length s.steps) (heard_by p t (Some e) r) (heard_by p t (Some e) r).task)
+    → AtIts zone s (rs ++ r ∷ []) (left_by_playing (length s.steps) (heard_by p t (Some e) r) (heard_by p t (Some e) r).task)
 told_is zone s rs p None e ask r known at is fit = absurd (none-some e (sym at.unknown ∙ known))
 told_is zone s rs p (Some t) e ask r known step is fit =
-    let b : Holdings = settles e (opened e r) p.holdings in
-    goes_on zone s rs p t step r b (moved zone s rs p t step e ask r (subst (λ (o : Option Effect). Knows p.holdings.names t o) known step.knows) is fit) (is_none (asks (after t r) b.names)) refl
+    let b : Holdings = settles_effect e (opened_file e r) p.holdings in
+    goes_on zone s rs p t step r b (moved zone s rs p t step e ask r (subst (λ (o : Option Effect). KnowsPlaying p.holdings.names t o) known step.knows) is fit) (is_none (asks (after t r) b.names)) refl
     (left_by_task (after t r) p.left) (ap (λ (c : Bool). if c then leaves (after t r) p.left else p.left) (asks_alike (after t r) (no_names []) b.names))
 
-told_at : (zone : Tuples) (s : Script) (rs : List Reply) (p : Playing) (e : Effect) (ask : Ask) (r : Reply) → p.effect ≡ Some e → AtIts zone s rs p → next_after zone s rs ≡ Some ask → fits ask.event r ≡ true → AtIts zone s (rs ++ r ∷ []) (left (length s.steps) (heard p r))
+told_at : (zone : Tuples) (s : Script) (rs : List Reply) (p : Playing) (e : Effect) (ask : Ask) (r : Reply) → p.effect ≡ Some e → AtIts zone s rs p → next_after zone s rs ≡ Some ask → fits ask.event r ≡ true → AtIts zone s (rs ++ r ∷ []) (left (length s.steps) (playing_heard p r))
 told_at zone s rs p e ask r known at is fit =
-    subst (λ (o : Option Effect). AtIts zone s (rs ++ r ∷ []) (left_by (length s.steps) (heard_by p p.task o r) (heard_by p p.task o r).task)) (sym known) (told_is zone s rs p p.task e ask r known at is fit)
+    subst (λ (o : Option Effect). AtIts zone s (rs ++ r ∷ []) (left_by_playing (length s.steps) (heard_by p p.task o r) (heard_by p p.task o r).task)) (sym known) (told_is zone s rs p p.task e ask r known at is fit)
 
 -- where it is after a reply
-pub told_right : (zone : Tuples) (s : Script) (rs : List Reply) (p : Playing) (ask : Ask) (r : Reply) → IsAt zone s rs p → next_after zone s rs ≡ Some ask → fits ask.event r ≡ true → IsAt zone s (rs ++ r ∷ []) (left (length s.steps) (heard (expected_in s p) r))
+pub told_right : (zone : Tuples) (s : Script) (rs : List Reply) (p : Playing) (ask : Ask) (r : Reply) → IsAt zone s rs p → next_after zone s rs ≡ Some ask → fits ask.event r ≡ true → IsAt zone s (rs ++ r ∷ []) (left (length s.steps) (playing_heard (expected_in s p) r))
 unfolding IsAt
 told_right zone s rs p ask r at is fit =
     let knows = expected_knows zone s rs p ask at is in
@@ -299,7 +299,7 @@ told_right zone s rs p ask r at is fit =
 
 -- Steps that are finished.
 
-step_left : (zone : Tuples) (s : Script) (rs : List Reply) (p : Playing) (t : StepTask) → InStep zone s rs p t → length (position_after zone s rs).left + p.finished ≡ length s.steps
+step_left : (zone : Tuples) (s : Script) (rs : List Reply) (p : Playing) (t : StepTask) → IsInStep zone s rs p t → length (position_after zone s rs).left + p.finished ≡ length s.steps
 step_left zone s rs p t step =
     let found = some_request (asks t p.holdings.names) step.goes_on in
     let heading = heads zone s rs p t found.0 step found.1 in

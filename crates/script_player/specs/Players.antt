@@ -13,7 +13,7 @@ use Rattle.script_task.specs.Holdings.{Holdings, holdings}
 use Rattle.script_task.specs.declared.effect.Effect.{Effect}
 use Rattle.script_task.specs.declared.effect.Effect.TheVariants.{Opens}
 use Rattle.net_base.specs.declared.request.Request.{Request}
-use Rattle.script_task.specs.Effects.{effect_of, opened, settles}
+use Rattle.script_task.specs.Effects.{effect_of, opened_file, settles_effect}
 use Rattle.net_base.specs.Requests.{planned}
 use Rattle.step_task.specs.declared.step.StepTask.{StepTask}
 use Rattle.dial_lib.specs.Slots.{HaveSlots}
@@ -31,8 +31,8 @@ pub record Playing : Type 0 where
   pub left : Left
 
 -- an event at its actor
-abbrev pub asked : ActorName × Event → Ask
-asked e = record { actor = e.0; event = e.1 }
+abbrev pub asked_event : ActorName × Event → Ask
+asked_event e = record { actor = e.0; event = e.1 }
 
 -- where the script stands after the replies to its own events, where `dns` answers from this database
 abbrev pub position_after : Tuples → Script → List Reply → Position
@@ -43,26 +43,26 @@ abbrev pub next_after : Tuples → Script → List Reply → Option Ask
 next_after zone s rs = (position_after zone s rs).next
 
 -- After these replies, the last of them to this step's events, this play is left of it, and these steps behind it; this was left before it.
-abbrev pub Plays : Tuples → Script → List Reply → List Reply → Left → Play → Step → List Step → Type 0
-Plays zone s rs said left p step rest =
+abbrev pub PlaysLeft : Tuples → Script → List Reply → List Reply → Left → Play → Step → List Step → Type 0
+PlaysLeft zone s rs said left p step rest =
     (more : List Reply) → position_after zone s (rs ++ more)
     ≡ position_by (stands p more) (step ∷ rest) (λ (names : Names) (later : List Reply). position s.host rest (record { names = names; left = left_after left step (said ++ heard_in p more) }) later)
 
 -- after these replies these steps are left, where this is kept
-abbrev pub Leaves : Tuples → Script → List Reply → Kept → List Step → Type 0
-Leaves zone s rs k rest = (more : List Reply) → position_after zone s (rs ++ more) ≡ position s.host rest k more
+abbrev pub LeavesSteps : Tuples → Script → List Reply → Kept → List Step → Type 0
+LeavesSteps zone s rs k rest = (more : List Reply) → position_after zone s (rs ++ more) ≡ position s.host rest k more
 
 -- what is kept
-abbrev pub kept : Playing → Kept
-kept p = record { names = p.holdings.names; left = p.left }
+abbrev pub playing_kept : Playing → Kept
+playing_kept p = record { names = p.holdings.names; left = p.left }
 
 -- what is known is the effect of the task's next request
-abbrev pub Knows : Names → StepTask → Option Effect → Type 0
-Knows names t None = Unit {0}
-Knows names t (Some e) = (q : Request) × (asks t names ≡ Some q) × (e ≡ effect_of names q)
+abbrev pub KnowsPlaying : Names → StepTask → Option Effect → Type 0
+KnowsPlaying names t None = Unit {0}
+KnowsPlaying names t (Some e) = (q : Request) × (asks t names ≡ Some q) × (e ≡ effect_of names q)
 
 -- in the midst of a step, which isn't through
-pub record InStep (zone : Tuples) (s : Script) (rs : List Reply) (p : Playing) (t : StepTask) : Type 0 where
+pub record IsInStep (zone : Tuples) (s : Script) (rs : List Reply) (p : Playing) (t : StepTask) : Type 0 where
   pub play : Play
   pub step : Step
   pub rest : List Step
@@ -70,21 +70,21 @@ pub record InStep (zone : Tuples) (s : Script) (rs : List Reply) (p : Playing) (
   pub said : List Reply
   pub told : t ≡ after_all (begun p.left step) said
   pub behind : drop p.finished s.steps ≡ step ∷ rest
-  pub plays : Plays zone s rs said p.left play step rest
+  pub plays : PlaysLeft zone s rs said p.left play step rest
   pub stands_for : StandsFor s.host p.holdings.names t play
   pub goes_on : is_none (asks t p.holdings.names) ≡ false
-  pub knows : Knows p.holdings.names t p.effect
+  pub knows : KnowsPlaying p.holdings.names t p.effect
 
 -- before a step, or at the end
 pub record Between (zone : Tuples) (s : Script) (rs : List Reply) (p : Playing) : Type 0 where
   pub slots : HaveSlots p.holdings.names
-  pub leaves : Leaves zone s rs (kept p) (drop p.finished s.steps)
+  pub leaves : LeavesSteps zone s rs (playing_kept p) (drop p.finished s.steps)
   pub within : p.finished ≤ length s.steps
   pub unknown : p.effect ≡ None
 
 abbrev pub IsAtBy : Tuples → Script → List Reply → Playing → Option StepTask → Type 0
 IsAtBy zone s rs p None = Between zone s rs p
-IsAtBy zone s rs p (Some t) = InStep zone s rs p t
+IsAtBy zone s rs p (Some t) = IsInStep zone s rs p t
 
 -- the player of the script was told these replies to its own events, and no others
 unfoldable pub IsAt : Tuples → Script → List Reply → Playing → Type 0
@@ -92,14 +92,14 @@ IsAt zone s rs p = IsAtBy zone s rs p p.task
 
 -- Moves.
 
-abbrev pub begun_by : Playing → Option StepTask → Option Step → Playing
-begun_by p (Some t) o = p
-begun_by p None None = p
-begun_by p None (Some step) = record p { task = Some (begun p.left step); effect = None }
+abbrev pub playing_begun_by : Playing → Option StepTask → Option Step → Playing
+playing_begun_by p (Some t) o = p
+playing_begun_by p None None = p
+playing_begun_by p None (Some step) = record p { task = Some (begun p.left step); effect = None }
 
 -- its next step has begun
 abbrev pub begun_in : Script → Playing → Playing
-begun_in s p = begun_by p p.task (slice_get s.steps p.finished)
+begun_in s p = playing_begun_by p p.task (slice_get s.steps p.finished)
 
 abbrev pub request_by : Names → Option StepTask → Option Request
 request_by names None = None
@@ -109,13 +109,13 @@ request_by names (Some t) = asks t names
 abbrev pub request_of : Playing → Option Request
 request_of p = request_by p.holdings.names p.task
 
-abbrev pub asked_by : ℕ → Names → Option Request → Option Ask
-asked_by h names None = None
-asked_by h names (Some q) = planned h names q
+abbrev pub asked_as : ℕ → Names → Option Request → Option Ask
+asked_as h names None = None
+asked_as h names (Some q) = planned h names q
 
 -- the event of that request
 abbrev pub asked_at : ℕ → Playing → Option Ask
-asked_at h p = asked_by h p.holdings.names (request_of p)
+asked_at h p = asked_as h p.holdings.names (request_of p)
 
 -- there is room for the name that is opened
 abbrev pub with_room : Effect → Holdings → Holdings
@@ -138,17 +138,17 @@ abbrev pub expected_in : Script → Playing → Playing
 expected_in s p = expected_by s p p.effect
 
 abbrev pub heard_by : Playing → Option StepTask → Option Effect → Reply → Playing
-heard_by p (Some t) (Some e) r = record p { holdings = settles e (opened e r) p.holdings; task = Some (after t r); effect = None; left = left_by_task (after t r) p.left }
+heard_by p (Some t) (Some e) r = record p { holdings = settles_effect e (opened_file e r) p.holdings; task = Some (after t r); effect = None; left = left_by_task (after t r) p.left }
 heard_by p _ _ r = p
 
 -- its task and its names after a reply
-abbrev pub heard : Playing → Reply → Playing
-heard p r = heard_by p p.task p.effect r
+abbrev pub playing_heard : Playing → Reply → Playing
+playing_heard p r = heard_by p p.task p.effect r
 
-abbrev pub left_by : ℕ → Playing → Option StepTask → Playing
-left_by count p None = p
-left_by count p (Some t) = if is_none (asks t p.holdings.names) && nat_lt p.finished count then record p { finished = p.finished + 1; task = None } else p
+abbrev pub left_by_playing : ℕ → Playing → Option StepTask → Playing
+left_by_playing count p None = p
+left_by_playing count p (Some t) = if is_none (asks t p.holdings.names) && nat_lt p.finished count then record p { finished = p.finished + 1; task = None } else p
 
 -- a step that is through is finished
 abbrev pub left : ℕ → Playing → Playing
-left count p = left_by count p p.task
+left count p = left_by_playing count p p.task

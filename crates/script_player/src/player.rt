@@ -35,14 +35,14 @@ pub struct Player {
 
 impl Model for Player {
     ghost use Rattle.std.specs.Prelude.{IfSome};
-    ghost use Rattle.script_task.specs.Effects.{HasRoom};
+    ghost use Rattle.script_task.specs.Effects.{EffectHasRoom};
     ghost use Rattle.script_player.specs.Players.{Playing};
 
     ghost Value = { Playing };
 
     ghost view = { λ p. record { holdings = p.fids; finished = p.finished; task = p.task; effect = p.effect; left = p.left } };
 
-    ghost invariant = { λ p. IfSome p.effect (λ e. HasRoom e p.fids) };
+    ghost invariant = { λ p. IfSome p.effect (λ e. EffectHasRoom e p.fids) };
 }
 
 impl Player {
@@ -73,7 +73,7 @@ impl Player {
     #[tactic(auto, using(crate::proofs::Played::next_right, crate::proofs::Played::begun_at, crate::proofs::Played::prepared_at))]
     pub fn next(&mut self, script: &Script) -> Result<Option<(ActorName, Event)>, AllocError>
         ensures event { (zone : Tuples) (rs : List Reply) → spec.IsAt zone script.now rs self.old
-            → IfOk result (λ o. option_map spec.asked o ≡ spec.next_after zone script.now rs) }
+            → IfOk result (λ o. option_map spec.asked_event o ≡ spec.next_after zone script.now rs) }
         ensures same { (zone : Tuples) (rs : List Reply)
             → spec.IsAt zone script.now rs self.old → spec.IsAt zone script.now rs self.new }
     {
@@ -133,7 +133,7 @@ impl Player {
 
     // The event of the step that it is at. It is then ready for the reply.
     fn ask(&mut self, host: u32) -> Result<Option<(ActorName, Event)>, AllocError>
-        ensures event { IfOk result (λ o. option_map spec.asked o ≡ spec.asked_at host self.old) }
+        ensures event { IfOk result (λ o. option_map spec.asked_event o ≡ spec.asked_at host self.old) }
         ensures ok { OnOk result (self.new ≡ spec.prepared self.old) }
         ensures err { OnErr result (self.new ≡ self.old) }
     {
@@ -179,7 +179,7 @@ impl Player {
 
     // Its task and its names after a reply.
     fn hear(&mut self, reply: Reply) -> Result<(), AllocError>
-        ensures ok { OnOk result (self.new ≡ spec.heard self.old reply) }
+        ensures ok { OnOk result (self.new ≡ spec.playing_heard self.old reply) }
         ensures err { OnErr result (self.new ≡ self.old) }
     {
         let Some(effect) = &self.effect else {

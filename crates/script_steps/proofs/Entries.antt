@@ -4,7 +4,7 @@ use Rattle.net_base.specs.declared.history.Entry.{Entry}
 use Rattle.net_base.specs.declared.world.World.{World}
 use Rattle.net_base.specs.Legal.{IsInTime, IsLegal, IsTimed, MayFollow}
 use Rattle.net_base.specs.Net.{after}
-use Rattle.plain_runner.specs.Followed.{Followed, Follows}
+use Rattle.plain_runner.specs.Followed.{Followed, FollowsRun}
 use Rattle.plain_runner.specs.declared.runner.Runner.{Runner}
 use Rattle.plain_runner.proofs.Recorded.{got}
 
@@ -16,7 +16,7 @@ taken (y ∷ ys) (suc n) x lt is = ap (λ zs. y ∷ zs) (taken ys n x (omega (ar
 
 -- the next entry of a history may come next
 pub may_come : (w : World) (h : List Entry) (r : Runner) (n : ℕ) (x : Entry) → IsLegal w h → IsTimed w h → n < length h → x ≡ get_or h n x
-    → Followed w (take n h) r → Follows w r x
+    → Followed w (take n h) r → FollowsRun w r x
 may_come w h r n x legal timed lt is f = record {
   tracks = f.tracks;
   may = subst (λ (p : List Entry). MayFollow w p x) (sym f.history_is) (legal n x (got h n x lt is));
@@ -34,5 +34,5 @@ one_further w h old new n x lt is before now = record {
 }
 
 -- its caller is one of the run's
-pub has_caller : (w : World) (r : Runner) (x : Entry) → Follows w r x → x.caller < length r.callers.items
+pub has_caller : (w : World) (r : Runner) (x : Entry) → FollowsRun w r x → x.caller < length r.callers.items
 has_caller w r x f = omega (arith, f.may.is_known.1, f.tracks.callers_are.count)

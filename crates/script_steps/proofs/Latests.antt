@@ -5,10 +5,10 @@ use Rattle.net_base.specs.declared.history.Entry.{Entry}
 use Rattle.net_base.specs.declared.world.Script.{Script}
 use Rattle.net_base.specs.declared.world.World.{World}
 use Rattle.script_steps.specs.declared.recorded.Latest.{Latest}
-use Rattle.script_steps.specs.Recorded.{AreLatest, is_of, latest_at, latest_of, noted, same_step, stamps_below, stands_there, with_stamp}
+use Rattle.script_steps.specs.Recorded.{AreLatest, is_of_step, latest_at, latest_of, latest_noted, same_step, stamps_below, stands_there, with_stamp}
 
 -- a stamp more, or not
-latest_with : (own : Bool) (k : ℕ) (stamps : List ℕ) → cond own (noted k (latest_of stamps)) (latest_of stamps) ≡ latest_of (with_stamp own k stamps)
+latest_with : (own : Bool) (k : ℕ) (stamps : List ℕ) → cond own (latest_noted k (latest_of stamps)) (latest_of stamps) ≡ latest_of (with_stamp own k stamps)
 latest_with true k [] = refl
 latest_with true k (j ∷ js) = refl
 latest_with false k stamps = refl
@@ -17,70 +17,70 @@ latest_with false k stamps = refl
 pub latest_more : (w : World) (h past : List Entry) (k : ℕ) (x : Entry) (old new : List ((ℕ × ℕ) × Latest)) → past ≡ take k h → slice_get h k ≡ Some x
     → AreLatest w h k old
     → ((c : ℕ) (s : Script) (n : ℕ) → slice_get w.scripts c ≡ Some s
-    → latest_at new (c, n) ≡ cond (is_of w past c s n x) (noted k (latest_at old (c, n))) (latest_at old (c, n)))
+    → latest_at new (c, n) ≡ cond (is_of_step w past c s n x) (latest_noted k (latest_at old (c, n))) (latest_at old (c, n)))
     → AreLatest w h (k + 1) new
 latest_more w h past k x old new same at are more = λ c s n is.
-    let own : is_of w past c s n x ≡ stands_there w (take k h) c s n (slice_get h k) =
-    ap (λ (p : List Entry). is_of w p c s n x) same ∙ ap (λ (o : Option Entry). stands_there w (take k h) c s n o) (sym at) in
+    let own : is_of_step w past c s n x ≡ stands_there w (take k h) c s n (slice_get h k) =
+    ap (λ (p : List Entry). is_of_step w p c s n x) same ∙ ap (λ (o : Option Entry). stands_there w (take k h) c s n o) (sym at) in
     let e : suc k ≡ k + 1 = omega arith in
     more c s n is
-    ∙ ap (λ (o : Option Latest). cond (is_of w past c s n x) (noted k o) o) (are c s n is)
-    ∙ latest_with (is_of w past c s n x) k (stamps_below w h c s n k)
+    ∙ ap (λ (o : Option Latest). cond (is_of_step w past c s n x) (latest_noted k o) o) (are c s n is)
+    ∙ latest_with (is_of_step w past c s n x) k (stamps_below w h c s n k)
     ∙ ap (λ (b : Bool). latest_of (with_stamp b k (stamps_below w h c s n k))) own
     ∙ ap (λ (m : ℕ). latest_of (stamps_below w h c s n m)) e
 
 -- An entry that nothing owed, of a caller at this step.
 
 one_caller : (kept : List ((ℕ × ℕ) × Latest)) (k caller step n : ℕ) (new : Option Latest)
-    → new ≡ cond (same_step (caller, step) (caller, n)) (noted k (latest_at kept (caller, step))) (latest_at kept (caller, n))
-    → new ≡ cond (((caller == caller) && true) && (step == n)) (noted k (latest_at kept (caller, n))) (latest_at kept (caller, n))
+    → new ≡ cond (same_step (caller, step) (caller, n)) (latest_noted k (latest_at kept (caller, step))) (latest_at kept (caller, n))
+    → new ≡ cond (((caller == caller) && true) && (step == n)) (latest_noted k (latest_at kept (caller, n))) (latest_at kept (caller, n))
 one_caller kept k caller step n new is = by (step == n) refl
   where
     whole : (caller == caller) ≡ true
     whole = eq-eqb caller caller refl
 
-    left : (b : Bool) → (step == n) ≡ b → new ≡ cond b (noted k (latest_at kept (caller, step))) (latest_at kept (caller, n))
+    left : (b : Bool) → (step == n) ≡ b → new ≡ cond b (latest_noted k (latest_at kept (caller, step))) (latest_at kept (caller, n))
     left b e =
         is
-        ∙ ap (λ (v : Bool). cond (v && (step == n)) (noted k (latest_at kept (caller, step))) (latest_at kept (caller, n))) whole
-        ∙ ap (λ (v : Bool). cond v (noted k (latest_at kept (caller, step))) (latest_at kept (caller, n))) e
+        ∙ ap (λ (v : Bool). cond (v && (step == n)) (latest_noted k (latest_at kept (caller, step))) (latest_at kept (caller, n))) whole
+        ∙ ap (λ (v : Bool). cond v (latest_noted k (latest_at kept (caller, step))) (latest_at kept (caller, n))) e
 
     right : (b : Bool) → (step == n) ≡ b
-        → cond (((caller == caller) && true) && (step == n)) (noted k (latest_at kept (caller, n))) (latest_at kept (caller, n))
-        ≡ cond b (noted k (latest_at kept (caller, n))) (latest_at kept (caller, n))
+        → cond (((caller == caller) && true) && (step == n)) (latest_noted k (latest_at kept (caller, n))) (latest_at kept (caller, n))
+        ≡ cond b (latest_noted k (latest_at kept (caller, n))) (latest_at kept (caller, n))
     right b e =
-        ap (λ (v : Bool). cond ((v && true) && (step == n)) (noted k (latest_at kept (caller, n))) (latest_at kept (caller, n))) whole
-        ∙ ap (λ (v : Bool). cond v (noted k (latest_at kept (caller, n))) (latest_at kept (caller, n))) e
+        ap (λ (v : Bool). cond ((v && true) && (step == n)) (latest_noted k (latest_at kept (caller, n))) (latest_at kept (caller, n))) whole
+        ∙ ap (λ (v : Bool). cond v (latest_noted k (latest_at kept (caller, n))) (latest_at kept (caller, n))) e
 
     by : (b : Bool) → (step == n) ≡ b
-        → new ≡ cond (((caller == caller) && true) && (step == n)) (noted k (latest_at kept (caller, n))) (latest_at kept (caller, n))
-    by true e = left true e ∙ ap (λ (m : ℕ). noted k (latest_at kept (caller, m))) (eqb-true step n e) ∙ sym (right true e)
+        → new ≡ cond (((caller == caller) && true) && (step == n)) (latest_noted k (latest_at kept (caller, n))) (latest_at kept (caller, n))
+    by true e = left true e ∙ ap (λ (m : ℕ). latest_noted k (latest_at kept (caller, m))) (eqb-true step n e) ∙ sym (right true e)
     by false e = left false e ∙ sym (right false e)
 
 pub noted_so : (kept : List ((ℕ × ℕ) × Latest)) (k caller step c n finished : ℕ) (new : Option Latest) (free : Bool) → free ≡ true
     → (caller ≡ c → step ≡ finished)
-    → new ≡ cond (same_step (caller, step) (c, n)) (noted k (latest_at kept (caller, step))) (latest_at kept (c, n))
-    → new ≡ cond (((caller == c) && free) && (finished == n)) (noted k (latest_at kept (c, n))) (latest_at kept (c, n))
+    → new ≡ cond (same_step (caller, step) (c, n)) (latest_noted k (latest_at kept (caller, step))) (latest_at kept (c, n))
+    → new ≡ cond (((caller == c) && free) && (finished == n)) (latest_noted k (latest_at kept (c, n))) (latest_at kept (c, n))
 noted_so kept k caller step c n finished new free is_free knows is = by (caller == c) refl
   where
-    by : (b : Bool) → (caller == c) ≡ b → new ≡ cond (((caller == c) && free) && (finished == n)) (noted k (latest_at kept (c, n))) (latest_at kept (c, n))
+    by : (b : Bool) → (caller == c) ≡ b → new ≡ cond (((caller == c) && free) && (finished == n)) (latest_noted k (latest_at kept (c, n))) (latest_at kept (c, n))
     by true e =
         let same : caller ≡ c = eqb-true caller c e in
-        let here : new ≡ cond (same_step (caller, step) (caller, n)) (noted k (latest_at kept (caller, step))) (latest_at kept (caller, n)) =
-        subst (λ (d : ℕ). new ≡ cond (same_step (caller, step) (d, n)) (noted k (latest_at kept (caller, step))) (latest_at kept (d, n))) (sym same) is in
-        subst (λ (d : ℕ). new ≡ cond (((caller == d) && free) && (finished == n)) (noted k (latest_at kept (d, n))) (latest_at kept (d, n))) same
-        (subst (λ (m : ℕ). new ≡ cond (((caller == caller) && free) && (m == n)) (noted k (latest_at kept (caller, n))) (latest_at kept (caller, n))) (knows same)
-        (subst (λ (f : Bool). new ≡ cond (((caller == caller) && f) && (step == n)) (noted k (latest_at kept (caller, n))) (latest_at kept (caller, n))) (sym is_free)
+        let here : new ≡ cond (same_step (caller, step) (caller, n)) (latest_noted k (latest_at kept (caller, step))) (latest_at kept (caller, n)) =
+        subst (λ (d : ℕ). new ≡ cond (same_step (caller, step) (d, n)) (latest_noted k (latest_at kept (caller, step))) (latest_at kept (d, n))) (sym same) is in
+        subst (λ (d : ℕ). new ≡ cond (((caller == d) && free) && (finished == n)) (latest_noted k (latest_at kept (d, n))) (latest_at kept (d, n))) same
+        (subst (λ (m : ℕ). new ≡ cond (((caller == caller) && free) && (m == n)) (latest_noted k (latest_at kept (caller, n))) (latest_at kept (caller, n))) (knows same)
+        (subst (λ (f : Bool). new ≡ cond (((caller == caller) && f) && (step == n)) (latest_noted k (latest_at kept (caller, n))) (latest_at kept (caller, n))) (sym is_free)
         (one_caller kept k caller step n new here)))
     by false e =
         is
-        ∙ ap (λ (v : Bool). cond (v && (step == n)) (noted k (latest_at kept (caller, step))) (latest_at kept (c, n))) e
-        ∙ sym (ap (λ (v : Bool). cond ((v && free) && (finished == n)) (noted k (latest_at kept (c, n))) (latest_at kept (c, n))) e)
+        ∙ ap (λ (v : Bool). cond (v && (step == n)) (latest_noted k (latest_at kept (caller, step))) (latest_at kept (c, n))) e
+        ∙ sym (ap (λ (v : Bool). cond ((v && free) && (finished == n)) (latest_noted k (latest_at kept (c, n))) (latest_at kept (c, n))) e)
 
 -- an entry that something owed is no step's own
 pub owed_so : (kept : List ((ℕ × ℕ) × Latest)) (k caller c n finished : ℕ) (free : Bool) → free ≡ false
-    → latest_at kept (c, n) ≡ cond (((caller == c) && free) && (finished == n)) (noted k (latest_at kept (c, n))) (latest_at kept (c, n))
-owed_so kept k caller c n finished free owed = sym (ap (λ (v : Bool). cond (v && (finished == n)) (noted k (latest_at kept (c, n))) (latest_at kept (c, n))) (none (caller == c)))
+    → latest_at kept (c, n) ≡ cond (((caller == c) && free) && (finished == n)) (latest_noted k (latest_at kept (c, n))) (latest_at kept (c, n))
+owed_so kept k caller c n finished free owed = sym (ap (λ (v : Bool). cond (v && (finished == n)) (latest_noted k (latest_at kept (c, n))) (latest_at kept (c, n))) (none (caller == c)))
   where
     none : (b : Bool) → (b && free) ≡ false
     none true = owed
@@ -88,9 +88,9 @@ owed_so kept k caller c n finished free owed = sym (ap (λ (v : Bool). cond (v &
 
 -- nor is one of another caller
 pub other_so : (kept : List ((ℕ × ℕ) × Latest)) (k caller c n finished : ℕ) (free : Bool) → (caller ≡ c → ⊥)
-    → latest_at kept (c, n) ≡ cond (((caller == c) && free) && (finished == n)) (noted k (latest_at kept (c, n))) (latest_at kept (c, n))
+    → latest_at kept (c, n) ≡ cond (((caller == c) && free) && (finished == n)) (latest_noted k (latest_at kept (c, n))) (latest_at kept (c, n))
 other_so kept k caller c n finished free apart =
-    sym (ap (λ (v : Bool). cond ((v && free) && (finished == n)) (noted k (latest_at kept (c, n))) (latest_at kept (c, n))) (by (caller == c) refl))
+    sym (ap (λ (v : Bool). cond ((v && free) && (finished == n)) (latest_noted k (latest_at kept (c, n))) (latest_at kept (c, n))) (by (caller == c) refl))
   where
     by : (b : Bool) → (caller == c) ≡ b → (caller == c) ≡ false
     by true e = absurd (apart (eqb-true caller c e))

@@ -3,7 +3,7 @@ use Rattle.std.proofs.Common.{◌≡◌, ℕ, ◌+◌, ◌<◌, Bool, true, fals
 use Rattle.std.specs.Prelude.{MatchOption, bytes_eq, codes, option_copied}
 use Rattle.net_base.specs.Addresses.{parts_at}
 use Rattle.script_steps.specs.declared.world_steps.StepLine.{StepLine}
-use Rattle.script_steps.specs.WorldSteps.{goes_under, lines_count, lines_from, lines_left, next_number, own_line}
+use Rattle.script_steps.specs.WorldSteps.{goes_under, lines_count, step_lines_from, lines_left, next_number, own_line}
 
 -- a line, and what is left behind it
 abbrev pub Cuts : List ℕ → List ℕ → Option (List ℕ) → Type 0
@@ -17,13 +17,13 @@ cut_by text line None cut = cut
 cut_by text line (Some rest) cut = cut
 
 behind_is : (text line : List ℕ) (rest : Option (List ℕ)) (under : Bool) (n : ℕ) → Cuts text line rest
-    → lines_from under n (parts_at 10 text) ≡ cond (bytes_eq line (codes "ndb")) [] (own_line under n line ++ lines_left (goes_under under line) (next_number n) rest)
-behind_is text line None under n cut = ap (lines_from under n) cut
-behind_is text line (Some rest) under n cut = ap (lines_from under n) cut
+    → step_lines_from under n (parts_at 10 text) ≡ cond (bytes_eq line (codes "ndb")) [] (own_line under n line ++ lines_left (goes_under under line) (next_number n) rest)
+behind_is text line None under n cut = ap (step_lines_from under n) cut
+behind_is text line (Some rest) under n cut = ap (step_lines_from under n) cut
 
 -- a line more
 pub line_more : (lines new all : List StepLine) (under : Bool) (n : ℕ) (text line : List ℕ) (rest : Option (List ℕ)) → Cuts text line rest
-    → bytes_eq line (codes "ndb") ≡ false → new ≡ lines ++ own_line under n line → lines ++ lines_from under n (parts_at 10 text) ≡ all
+    → bytes_eq line (codes "ndb") ≡ false → new ≡ lines ++ own_line under n line → lines ++ step_lines_from under n (parts_at 10 text) ≡ all
     → new ++ lines_left (goes_under under line) (next_number n) rest ≡ all
 line_more lines new all under n text line rest cut other is whole =
     let left = lines_left (goes_under under line) (next_number n) rest in
@@ -35,7 +35,7 @@ line_more lines new all under n text line rest cut other is whole =
 
 -- the last line is `ndb`
 pub line_last : (lines all : List StepLine) (under : Bool) (n : ℕ) (text line : List ℕ) (rest : Option (List ℕ)) → Cuts text line rest
-    → bytes_eq line (codes "ndb") ≡ true → lines ++ lines_from under n (parts_at 10 text) ≡ all → lines ≡ all
+    → bytes_eq line (codes "ndb") ≡ true → lines ++ step_lines_from under n (parts_at 10 text) ≡ all → lines ≡ all
 line_last lines all under n text line rest cut last whole =
     sym (append-nil lines)
     ∙ ap (λ (b : Bool). lines ++ cond b [] (own_line under n line ++ lines_left (goes_under under line) (next_number n) rest)) (sym last)
@@ -50,7 +50,7 @@ fewer text line (Some rest) cut = omega (arith, ap (λ (ls : List (List ℕ)). l
 -- The lines of a text that was the rest.
 
 rest_is : (o : Option (Bor (List ℕ))) (part : Bor (List ℕ)) (under : Bool) (n : ℕ) → o ≡ Some part
-    → lines_left under n (option_copied o) ≡ lines_from under n (parts_at 10 part.now)
+    → lines_left under n (option_copied o) ≡ step_lines_from under n (parts_at 10 part.now)
 rest_is o part under n is = ap (λ (p : Option (Bor (List ℕ))). lines_left under n (option_copied p)) is
 
 pub goes_on : (lines new all : List StepLine) (under u : Bool) (n m : ℕ) (o rest : Option (Bor (List ℕ))) (part : Bor (List ℕ)) (line : List ℕ) → o ≡ Some part

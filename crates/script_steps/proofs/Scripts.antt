@@ -14,7 +14,7 @@ use Rattle.net_base.specs.Next.{answered, finished_by, own_replies, zone_of}
 use Rattle.net_base.specs.Summary.{answered_by}
 use Rattle.net_base.specs.Versions.{Tuples}
 use Rattle.script_player.specs.Players.{IsAt, Playing}
-use Rattle.plain_runner.specs.Callers.{HasRole, IsCaller, IsScriptAt}
+use Rattle.plain_runner.specs.Callers.{HasRole, IsCallerKept, IsScriptAt}
 use Rattle.plain_runner.specs.declared.caller.Caller.{Caller}
 use Rattle.plain_runner.specs.declared.caller.Role.{Role}
 use Rattle.plain_runner.specs.declared.caller.Role.TheVariants as role
@@ -27,7 +27,7 @@ no_clock : (s : Script) → IsScript s ≡ IsClock → ⊥
 no_clock s is = cc
 
 -- it is a script
-pub script_kept : (w : World) (h : List Entry) (c : ℕ) (k : Caller) (s : Script) → IsCaller w h c k → slice_get w.scripts c ≡ Some s
+pub script_kept : (w : World) (h : List Entry) (c : ℕ) (k : Caller) (s : Script) → IsCallerKept w h c k → slice_get w.scripts c ≡ Some s
     → (t : Bor Script) × (p : Playing) × (k.role ≡ role.Script t p) × IsScriptAt w h c s p k.before
 script_kept w h c k s is at = by_role k.role refl is.stands.role_is
   where
@@ -45,7 +45,7 @@ role_players t u p q same = same_Some p q (ap player_in same)
 
 -- what its player tells of the steps that are finished
 pub finished_is : (w : World) (h : List Entry) (c : ℕ) (k : Caller) (s : Script) (t : Bor Script) (p : Playing) (n : ℕ) → k.role ≡ role.Script t p
-    → IsCaller w h c k → slice_get w.scripts c ≡ Some s → ((zone : Tuples) (u : Script) (rs : List Reply) → IsAt zone u rs p → n ≡ finished_by zone rs u)
+    → IsCallerKept w h c k → slice_get w.scripts c ≡ Some s → ((zone : Tuples) (u : Script) (rs : List Reply) → IsAt zone u rs p → n ≡ finished_by zone rs u)
     → n ≡ finished_by (zone_of w) (own_replies h c) s
 finished_is w h c k s t p n role_is is at tells =
     let kept = script_kept w h c k s is at in
@@ -57,7 +57,7 @@ other_role t p r same = ap player_in same
 
 -- no other caller is one
 pub not_script : (w : World) (h : List Entry) (c : ℕ) (k : Caller) (s : Script) (r : Role) → k.role ≡ r → player_in r ≡ None
-    → IsCaller w h c k → slice_get w.scripts c ≡ Some s → ⊥
+    → IsCallerKept w h c k → slice_get w.scripts c ≡ Some s → ⊥
 not_script w h c k s r role_is none is at =
     let kept = script_kept w h c k s is at in
     none_some kept.1 (sym none ∙ other_role kept.0 kept.1 r (sym role_is ∙ kept.2))
@@ -66,7 +66,7 @@ not_script w h c k s r role_is none is at =
     none_some p same = cc
 
 -- answered steps, where something is owed and where nothing is
-pub answered_owing : (w : World) (h : List Entry) (c : ℕ) (k : Caller) (s : Script) → IsCaller w h c k → slice_get w.scripts c ≡ Some s
+pub answered_owing : (w : World) (h : List Entry) (c : ℕ) (k : Caller) (s : Script) → IsCallerKept w h c k → slice_get w.scripts c ≡ Some s
     → owes (after w h) c ≡ true → k.before ≡ answered_by w h (c, s)
 answered_owing w h c k s is at owing =
     let kept = script_kept w h c k s is at in
@@ -80,6 +80,6 @@ answered_free w h c n s free is = subst (λ (b : Bool). n ≡ answered w h c b s
 some_owed : (n : ℕ) → not (n == 0) ≡ nat_lt 0 n
 some_owed n = grind (arith, nat_tests)
 
-pub owes_so : (w : World) (h : List Entry) (c : ℕ) (k : Caller) (b : Bool) → b ≡ (length k.owed.list == 0) → IsCaller w h c k → not b ≡ owes (after w h) c
+pub owes_so : (w : World) (h : List Entry) (c : ℕ) (k : Caller) (b : Bool) → b ≡ (length k.owed.list == 0) → IsCallerKept w h c k → not b ≡ owes (after w h) c
 owes_so w h c k b empty is =
     ap not empty ∙ some_owed (length k.owed.list) ∙ ap (λ (ds : List Duty). nat_lt 0 (length ds)) is.owes

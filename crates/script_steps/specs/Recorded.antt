@@ -8,16 +8,16 @@ use Rattle.net_base.specs.Next.{finished_by, own_replies, zone_of}
 use Rattle.script_steps.specs.declared.recorded.Latest.{Latest}
 
 -- an entry of this caller that nothing owed
-abbrev pub is_own : ℕ → Entry → Bool
-is_own c x = (x.caller == c) && is_none x.cites
+abbrev pub is_own_entry : ℕ → Entry → Bool
+is_own_entry c x = (x.caller == c) && is_none x.cites
 
 -- behind these entries it belongs to the script's step n: so many steps were finished
-abbrev pub is_of : World → List Entry → ℕ → Script → ℕ → Entry → Bool
-is_of w past c s n x = is_own c x && (finished_by (zone_of w) (own_replies past c) s == n)
+abbrev pub is_of_step : World → List Entry → ℕ → Script → ℕ → Entry → Bool
+is_of_step w past c s n x = is_own_entry c x && (finished_by (zone_of w) (own_replies past c) s == n)
 
 abbrev pub stands_there : World → List Entry → ℕ → Script → ℕ → Option Entry → Bool
 stands_there w past c s n None = false
-stands_there w past c s n (Some x) = is_of w past c s n x
+stands_there w past c s n (Some x) = is_of_step w past c s n x
 
 abbrev pub with_stamp : Bool → ℕ → List ℕ → List ℕ
 with_stamp own k stamps = if own then k ∷ stamps else stamps
@@ -58,5 +58,5 @@ abbrev pub last_known : Option Latest → Option ℕ
 last_known None = None
 last_known (Some l) = Some l.last
 
-abbrev pub noted : ℕ → Option Latest → Option Latest
-noted k before = Some (record { last = k; before = last_known before })
+abbrev pub latest_noted : ℕ → Option Latest → Option Latest
+latest_noted k before = Some (record { last = k; before = last_known before })

@@ -69,13 +69,13 @@ opened_text x before = outcome_text (if has_opened x before then codes "answered
 
 -- Any step.
 
-abbrev pub told_by : Bool → List Entry → Entry → Option ℕ → List ℕ
-told_by true h x before = opened_text x (option_and_then (slice_get h) before)
-told_by false h x before = told_of h x before
+abbrev pub told_by_step : Bool → List Entry → Entry → Option ℕ → List ℕ
+told_by_step true h x before = opened_text x (option_and_then (slice_get h) before)
+told_by_step false h x before = told_of h x before
 
 abbrev pub told_text : Bool → List Entry → Option Entry → Option ℕ → List ℕ
 told_text opens h None before = codes "answered"
-told_text opens h (Some x) before = told_by opens h x before
+told_text opens h (Some x) before = told_by_step opens h x before
 
 -- by the last entries that it recorded itself, and by whether it opens a remote file
 abbrev pub answered_text : Bool → List Entry → Option Latest → List ℕ

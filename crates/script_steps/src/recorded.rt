@@ -7,7 +7,7 @@ ghost use Rattle.net_base.specs.World.{IsWorld};
 ghost use Rattle.plain_runner.specs.Followed.{Followed};
 ghost use Rattle.plain_runner.specs.Tracks.{Tracks};
 ghost use Rattle.script_steps.specs.Recorded as spec;
-ghost use Rattle.script_steps.specs.Recorded.{AreLatest, is_of, latest_at, noted, same_step};
+ghost use Rattle.script_steps.specs.Recorded.{AreLatest, is_of_step, latest_at, latest_noted, same_step};
 
 use crate::standing::finished;
 use indexmap::IndexMap;
@@ -65,8 +65,8 @@ fn note_entry(
 ) -> Result<(), AllocError>
     requires { entry.now.caller < length runner.now.callers.items }
     ensures { OnOk result ((w : AnyWorld) (c : ℕ) (s : AnyScript) (n : ℕ) → Tracks w runner.now → slice_get w.scripts c ≡ Some s
-        → latest_at latest.new.entries (c, n) ≡ cond (is_of w runner.now.history.entries c s n entry.now)
-        (noted stamp (latest_at latest.old.entries (c, n))) (latest_at latest.old.entries (c, n))) }
+        → latest_at latest.new.entries (c, n) ≡ cond (is_of_step w runner.now.history.entries c s n entry.now)
+        (latest_noted stamp (latest_at latest.old.entries (c, n))) (latest_at latest.old.entries (c, n))) }
 {
     if entry.cites.is_some() {
         return Ok(());
@@ -83,7 +83,7 @@ fn note_entry(
 // A step recorded an entry.
 fn note(latest: &mut LatestSteps, key: StepKey, stamp: usize) -> Result<(), AllocError>
     ensures { OnOk result ((other : ℕ × ℕ) → latest_at latest.new.entries other
-        ≡ cond (same_step key other) (noted stamp (latest_at latest.old.entries key)) (latest_at latest.old.entries other)) }
+        ≡ cond (same_step key other) (latest_noted stamp (latest_at latest.old.entries key)) (latest_at latest.old.entries other)) }
 {
     let before = last_of(latest, key);
     latest.insert(

@@ -7,7 +7,7 @@ ghost use Rattle.net_base.specs.Calm.{owes};
 ghost use Rattle.net_base.specs.Net.{after};
 ghost use Rattle.net_base.specs.Next.{finished_by, own_replies, zone_of};
 ghost use Rattle.net_base.specs.Summary.{answered_by};
-ghost use Rattle.plain_runner.specs.Callers.{IsCaller};
+ghost use Rattle.plain_runner.specs.Callers.{IsCallerKept};
 ghost use Rattle.plain_runner.specs.Tracks.{Tracks};
 
 use plain_runner::{Caller, Role, Runner};
@@ -22,7 +22,7 @@ pub fn finished(runner: &Runner<'_>, caller: u32) -> Option<usize>
 }
 
 fn finished_steps(caller: &Caller<'_>) -> Option<usize>
-    ensures { (w : AnyWorld) (h : List AnyEntry) (c : ℕ) (s : AnyScript) → IsCaller w h c caller.now → slice_get w.scripts c ≡ Some s
+    ensures { (w : AnyWorld) (h : List AnyEntry) (c : ℕ) (s : AnyScript) → IsCallerKept w h c caller.now → slice_get w.scripts c ≡ Some s
         → result ≡ Some (finished_by (zone_of w) (own_replies h c) s) }
 {
     match &caller.role {
@@ -34,7 +34,7 @@ fn finished_steps(caller: &Caller<'_>) -> Option<usize>
 
 /// How many steps of a script are answered: what it owes belongs to the step of its last own event.
 pub fn answered(caller: &Caller<'_>) -> usize
-    ensures { (w : AnyWorld) (h : List AnyEntry) (c : ℕ) (s : AnyScript) → IsCaller w h c caller.now → slice_get w.scripts c ≡ Some s
+    ensures { (w : AnyWorld) (h : List AnyEntry) (c : ℕ) (s : AnyScript) → IsCallerKept w h c caller.now → slice_get w.scripts c ≡ Some s
         → result ≡ answered_by w h (c, s) }
 {
     if owes(caller) {
@@ -48,7 +48,7 @@ pub fn answered(caller: &Caller<'_>) -> usize
 
 /// Whether a caller owes an event.
 pub fn owes(caller: &Caller<'_>) -> bool
-    ensures { (w : AnyWorld) (h : List AnyEntry) (c : ℕ) → IsCaller w h c caller.now → result ≡ owes (after w h) c }
+    ensures { (w : AnyWorld) (h : List AnyEntry) (c : ℕ) → IsCallerKept w h c caller.now → result ≡ owes (after w h) c }
 {
     !caller.owed.is_empty()
 }

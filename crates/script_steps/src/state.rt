@@ -1,6 +1,6 @@
 //! What became of a step, or what it waits for.
 ghost use Rattle.std.specs.Prelude.{◌≡◌, ◌++◌, Some, IfOk, OnOk, option_and_then, option_map, slice_get};
-ghost use Rattle.plain_runner.specs.Turns.{ask_of, asks_of};
+ghost use Rattle.plain_runner.specs.Turns.{turn_ask, asks_of};
 ghost use Rattle.script_steps.specs.Steps as spec;
 
 use crate::recorded::Latest;
@@ -148,7 +148,7 @@ pub fn put_waiting(out: &mut Octets, owes: bool, next: &Option<Turn>) -> Result<
 }
 
 fn put_asked(out: &mut Octets, turn: &Turn) -> Result<(), AllocError>
-    ensures { OnOk result (out.new ≡ out.old ++ spec.asked_text (Some (ask_of turn.now))) }
+    ensures { OnOk result (out.new ≡ out.old ++ spec.asked_text (Some (turn_ask turn.now))) }
 {
     out.append(b"waits for ")?;
     put_actor(out, turn.actor)?;

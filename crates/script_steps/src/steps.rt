@@ -3,7 +3,7 @@ ghost use Rattle.std.specs.Prelude.{◌≡◌, ◌<◌, ◌++◌, drop, length, 
 ghost use Rattle.std.specs.List.{enumerate_from};
 ghost use Rattle.net_base.specs.Legal.{IsLegal, IsTimed};
 ghost use Rattle.net_base.specs.World.{IsWorld};
-ghost use Rattle.plain_runner.specs.Callers.{IsCaller};
+ghost use Rattle.plain_runner.specs.Callers.{IsCallerKept};
 ghost use Rattle.plain_runner.specs.Followed.{Followed};
 ghost use Rattle.script_steps.specs.Recorded.{AreLatest, latest_at as spec_latest_at};
 ghost use Rattle.script_steps.specs.Steps as spec;
@@ -95,7 +95,7 @@ fn put_script(
     player: Player<'_>,
     lines: &[StepLine],
 ) -> Result<(), AllocError>
-    requires caller { IsCaller world.now player.entries.now player.number player.caller.now }
+    requires caller { IsCallerKept world.now player.entries.now player.number player.caller.now }
     requires script { slice_get world.now.scripts player.number ≡ Some player.script.now }
     requires latest { AreLatest world.now player.entries.now (length player.entries.now) player.latest.now.entries }
     ensures { OnOk result (out.new ≡ out.old ++ spec.script_text world.now player.entry.entries.now lines.now (player.entry.number, player.entry.script.now)) }
@@ -115,7 +115,7 @@ fn put_step(
     lines: &[StepLine],
     step: usize,
 ) -> Result<(), AllocError>
-    requires caller { IsCaller world.now player.entries.now player.number player.caller.now }
+    requires caller { IsCallerKept world.now player.entries.now player.number player.caller.now }
     requires script { slice_get world.now.scripts player.number ≡ Some player.script.now }
     requires latest { AreLatest world.now player.entries.now (length player.entries.now) player.latest.now.entries }
     ensures { OnOk result (out.new ≡ out.old ++ spec.step_text world.now player.entry.entries.now lines.now (player.entry.number, player.entry.script.now) step) }
@@ -134,7 +134,7 @@ fn put_state(
     player: Player<'_>,
     step: usize,
 ) -> Result<(), AllocError>
-    requires caller { IsCaller world.now player.entries.now player.number player.caller.now }
+    requires caller { IsCallerKept world.now player.entries.now player.number player.caller.now }
     requires script { slice_get world.now.scripts player.number ≡ Some player.script.now }
     requires latest { AreLatest world.now player.entries.now (length player.entries.now) player.latest.now.entries }
     ensures { OnOk result (out.new ≡ out.old ++ spec.state_text world.now player.entry.entries.now (player.entry.number, player.entry.script.now) step) }

@@ -72,7 +72,7 @@ fn begins_script(line: &[u8]) -> bool
 
 // An empty line, or a comment.
 fn is_passed(line: &[u8]) -> bool
-    ensures { result ≡ spec.is_passed line.now }
+    ensures { result ≡ spec.is_line_passed line.now }
 {
     line.is_empty() || line[0] == b'#'
 }

@@ -9,7 +9,7 @@ use Rattle.script_task.specs.Holdings.{Holdings, holdings}
 use Rattle.net_base.specs.declared.request.Request.{Request}
 use Rattle.net_base.specs.declared.request.Request.TheVariants as request
 use Rattle.script_task.specs.declared.effect.Effect.TheVariants.{Keeps}
-use Rattle.script_task.specs.Effects.{effect_of, opens_as, closes, opened, settles}
+use Rattle.script_task.specs.Effects.{effect_of, opens_as, closes_bound, opened_file, settles_effect}
 use Rattle.net_base.specs.Requests.{settled, bound_after}
 
 pub without_free : (called : List ℕ) (bound : List Bound) → fid_among called bound ≡ None → without called bound ≡ bound
@@ -24,7 +24,7 @@ without_free called (b ∷ bs) free = by (bytes_eq called b.called) refl free (w
 pub unbind_free : (called : List ℕ) (names : Names) → fid_of called names ≡ None → unbind called names ≡ names
 unbind_free called names free = ap (λ (xs : List Bound). record names { bound = xs }) (without_free called names.bound free)
 
-closed : (called : List ℕ) (b : Holdings) (o : Option Fid) (r : Reply) → fid_of called b.names ≡ o → (settles (closes called o) (opened (closes called o) r) b).names ≡ unbind called b.names
+closed : (called : List ℕ) (b : Holdings) (o : Option Fid) (r : Reply) → fid_of called b.names ≡ o → (settles_effect (closes_bound called o) (opened_file (closes_bound called o) r) b).names ≡ unbind called b.names
 closed called b None r is = by (unbind_free called b.names is)
   where
     by : unbind called b.names ≡ b.names → b.names ≡ unbind called b.names
@@ -36,20 +36,20 @@ module _ (called : List ℕ) (m : Mode) (b : Holdings) (r : Reply) where
   bound true f is = refl
   bound false f is = refl
 
-  opens : (n : Option Node) (t : Bool) → is_bound b.names called ≡ t → t ≡ false → (settles (opens_as called m n) (opened (opens_as called m n) r) b).names ≡ bound_after called b.names (opened_fid m n r)
+  opens : (n : Option Node) (t : Bool) → is_bound b.names called ≡ t → t ≡ false → (settles_effect (opens_as called m n) (opened_file (opens_as called m n) r) b).names ≡ bound_after called b.names (opened_fid m n r)
   opens None t is free = refl
   opens (Some n) t is free = by (opened_fid m (Some n) r)
     where
-      by : (o : Option Fid) → (settles (opens_as called m (Some n)) o b).names ≡ bound_after called b.names o
+      by : (o : Option Fid) → (settles_effect (opens_as called m (Some n)) o b).names ≡ bound_after called b.names o
       by None = refl
       by (Some f) = rw (is ∙ free) refl
 
   opened_so : (n : Option Node) (t : Bool) → is_bound b.names called ≡ t
-      → (settles (if t then Keeps else opens_as called m n) (opened (if t then Keeps else opens_as called m n) r) b).names ≡ (if t then b.names else bound_after called b.names (opened_fid m n r))
+      → (settles_effect (if t then Keeps else opens_as called m n) (opened_file (if t then Keeps else opens_as called m n) r) b).names ≡ (if t then b.names else bound_after called b.names (opened_fid m n r))
   opened_so n true is = refl
   opened_so n false is = opens n false is refl
 
-pub settles_so : (b : Holdings) (q : Request) (r : Reply) → (settles (effect_of b.names q) (opened (effect_of b.names q) r) b).names ≡ settled b.names q r
+pub settles_so : (b : Holdings) (q : Request) (r : Reply) → (settles_effect (effect_of b.names q) (opened_file (effect_of b.names q) r) b).names ≡ settled b.names q r
 settles_so b (request.Open called path m) r = opened_so called m b r (openable (walk path) m) (is_bound b.names called) refl
 settles_so b (request.Close called) r = closed called b (fid_of called b.names) r refl
 settles_so b _ r = refl

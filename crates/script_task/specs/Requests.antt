@@ -24,9 +24,9 @@ room_after None reserved = reserved
 room_after (Some called) reserved = None
 
 -- there is room for what is bound
-abbrev pub HasRoom : Holdings → Option (List ℕ) → Type 0
-HasRoom b None = Unit {0}
-HasRoom b (Some called) = b.reserved ≡ Some called
+abbrev pub RequestHasRoom : Holdings → Option (List ℕ) → Type 0
+RequestHasRoom b None = Unit {0}
+RequestHasRoom b (Some called) = b.reserved ≡ Some called
 
 abbrev pub opens_to : Holdings → List ℕ → List ℕ → Mode → Reply → Holdings
 opens_to b called path m r = holdings (opened_names b.names called path m r) (room_after (newly_opened b.names called path m r) b.reserved)

@@ -1,7 +1,7 @@
 //! What the reply to a request does to the names.
 ghost use Rattle.std.specs.Prelude.{◌≡◌, ◌⊎◌, Some, IsOk, OnOk, OnErr, option_map, true};
 ghost use Rattle.net_base.specs.Steps as steps;
-ghost use Rattle.net_tree.specs.Bindings.{file_of};
+ghost use Rattle.net_tree.specs.Bindings.{bound_file};
 ghost use Rattle.script_task.specs.Effects as spec;
 
 use crate::names::Names;
@@ -33,7 +33,7 @@ pub enum Effect {
 impl Effect {
     /// The file that the reply opens.
     pub fn opened(&self, reply: &Reply) -> Option<Fid>
-        ensures { option_map file_of result ≡ spec.opened self.now reply.now }
+        ensures { option_map bound_file result ≡ spec.opened_file self.now reply.now }
     {
         match self {
             Effect::Opens { node, mode, .. } => opened_fid(*node, *mode, reply),
@@ -43,9 +43,9 @@ impl Effect {
 
     /// Changes the names, where this was opened. Without memory they are as before.
     pub fn settle(self, fids: &mut Names, opened: Option<Fid>) -> Result<(), AllocError>
-        ensures ok { OnOk result (fids.new ≡ spec.settles self (option_map file_of opened) fids.old) }
+        ensures ok { OnOk result (fids.new ≡ spec.settles_effect self (option_map bound_file opened) fids.old) }
         ensures err { OnErr result (fids.new ≡ fids.old) }
-        ensures room { spec.HasRoom self fids.old → IsOk result }
+        ensures room { spec.EffectHasRoom self fids.old → IsOk result }
     {
         match self {
             Effect::Opens { name, .. } => match opened {
@@ -67,7 +67,7 @@ impl Effect {
 
 /// Binds a name to a file, where the name is free.
 pub(crate) fn bind_free(fids: &mut Names, name: &[u8], fid: Fid) -> Result<(), AllocError>
-    ensures ok { OnOk result (fids.new ≡ spec.binds name.now (file_of fid) fids.old) }
+    ensures ok { OnOk result (fids.new ≡ spec.binds_name name.now (bound_file fid) fids.old) }
     ensures err { OnErr result (fids.new ≡ fids.old) }
     ensures room { (fids.old.reserved ≡ Some name.now) ⊎ (steps.is_bound fids.old.names name.now ≡ true)
         → IsOk result }
@@ -83,7 +83,7 @@ pub(crate) fn bind_free(fids: &mut Names, name: &[u8], fid: Fid) -> Result<(), A
 
 /// The file that a reply opens, where a node is opened so.
 pub(crate) fn opened_fid(node: Node, mode: Mode, reply: &Reply) -> Option<Fid>
-    ensures { option_map file_of result ≡ steps.opened_fid mode (Some node) reply.now }
+    ensures { option_map bound_file result ≡ steps.opened_fid mode (Some node) reply.now }
 {
     match node {
         Node::Clone(proto) => cloned(proto, mode, reply),
@@ -93,7 +93,7 @@ pub(crate) fn opened_fid(node: Node, mode: Mode, reply: &Reply) -> Option<Fid>
 }
 
 fn cloned(proto: Proto, mode: Mode, reply: &Reply) -> Option<Fid>
-    ensures { option_map file_of result ≡ spec.cloned proto mode reply.now }
+    ensures { option_map bound_file result ≡ spec.cloned proto mode reply.now }
 {
     match reply {
         Reply::Slot { slot, generation } => Some(Fid {
@@ -108,7 +108,7 @@ fn cloned(proto: Proto, mode: Mode, reply: &Reply) -> Option<Fid>
 }
 
 fn file_opened(proto: Proto, slot: u32, file: FileName, mode: Mode, reply: &Reply) -> Option<Fid>
-    ensures { option_map file_of result ≡ spec.file_opened proto slot file mode reply.now }
+    ensures { option_map bound_file result ≡ spec.file_opened proto slot file mode reply.now }
 {
     match reply {
         Reply::Call { slot, generation } => Some(Fid {

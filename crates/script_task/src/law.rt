@@ -11,7 +11,7 @@ ghost use Rattle.net_base.specs.Net.{WorkAt, after, played};
 ghost use Rattle.net_base.specs.declared.reply.Reply.{Reply};
 ghost use Rattle.script_task.specs.Holdings.{Holdings};
 ghost use Rattle.net_base.specs.declared.request.Request.{Request};
-ghost use Rattle.script_task.specs.Effects.{effect_of, opened, settles};
+ghost use Rattle.script_task.specs.Effects.{effect_of, opened_file, settles_effect};
 ghost use Rattle.script_task.specs.Fitting.{fits};
 ghost use Rattle.net_base.specs.Requests.{settled};
 
@@ -30,5 +30,5 @@ pub fn replies_fit()
 /// The effect of a request settles the names as the request itself does.
 pub fn effects_settle()
     ensures { (b : Holdings) (q : Request) (r : Reply)
-        → (settles (effect_of b.names q) (opened (effect_of b.names q) r) b).names ≡ settled b.names q r }
+        → (settles_effect (effect_of b.names q) (opened_file (effect_of b.names q) r) b).names ≡ settled b.names q r }
 {}

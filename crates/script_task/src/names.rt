@@ -3,7 +3,7 @@ ghost use Rattle.std.specs.Prelude.{◌≡◌, ◌≢◌, ◌↔◌, ◌⊎◌, 
 ghost use Rattle.std.specs.Arc.{arc_value};
 ghost use Rattle.net_base.specs.Steps as steps;
 ghost use Rattle.net_base.specs.Versions.{database_of};
-ghost use Rattle.net_tree.specs.Bindings.{file_of};
+ghost use Rattle.net_tree.specs.Bindings.{bound_file};
 ghost use Rattle.net_tree.specs.declared.fault.TreeError.TheVariants.{BadFid, Memory};
 ghost use Rattle.script_task.specs.Holdings.{holdings};
 
@@ -57,7 +57,7 @@ impl Names {
 
     /// The file that the name is bound to.
     pub fn get(&self, name: &[u8]) -> Option<Fid>
-        ensures { option_map file_of result ≡ steps.fid_of name.now self.now.names }
+        ensures { option_map bound_file result ≡ steps.fid_of name.now self.now.names }
     {
         self.fids.get(name)
     }
@@ -79,7 +79,7 @@ impl Names {
 
     /// Binds a name that isn't bound.
     pub fn bind(&mut self, name: &[u8], fid: Fid) -> Result<(), TreeError>
-        ensures ok { OnOk result (self.new ≡ holdings (steps.bind name.now (file_of fid) self.old.names) None) }
+        ensures ok { OnOk result (self.new ≡ holdings (steps.bind name.now (bound_file fid) self.old.names) None) }
         ensures err { OnErr result (self.new ≡ self.old) }
         ensures bad_fid { IsErrOf result BadFid ↔ (steps.is_bound self.old.names name.now ≡ true) }
         ensures causes { IfErr result (λ e. (e ≡ BadFid) ⊎ (e ≡ Memory)) }
@@ -90,7 +90,7 @@ impl Names {
 
     /// Unbinds the name, and gives the file that it was bound to.
     pub fn unbind(&mut self, name: &[u8]) -> Option<Fid>
-        ensures found { option_map file_of result ≡ steps.fid_of name.now self.old.names }
+        ensures found { option_map bound_file result ≡ steps.fid_of name.now self.old.names }
         ensures rest { self.new ≡ holdings (steps.unbind name.now self.old.names) self.old.reserved }
     {
         self.fids.unbind(name)
@@ -105,7 +105,7 @@ impl Names {
 
     /// The data file of the open call that an `hread` heard on this name.
     pub fn open_call(&self, name: &[u8]) -> Option<Fid>
-        ensures { option_map file_of result ≡ steps.open_call name.now self.now.names }
+        ensures { option_map bound_file result ≡ steps.open_call name.now self.now.names }
     {
         if !was_on(&self.heard, name) {
             return None;

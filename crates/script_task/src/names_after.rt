@@ -14,7 +14,7 @@ use std::alloc::AllocError;
 pub fn settle(fids: &mut Names, request: Request, reply: &Reply) -> Result<(), AllocError>
     ensures ok { OnOk result (fids.new ≡ spec.settles_to fids.old request reply.now) }
     ensures err { OnErr result (fids.new ≡ fids.old) }
-    ensures room { spec.HasRoom fids.old (spec.newly_bound fids.old.names request reply.now) → IsOk result }
+    ensures room { spec.RequestHasRoom fids.old (spec.newly_bound fids.old.names request reply.now) → IsOk result }
 {
     match request {
         Request::Open { name, path, mode } => settle_open(fids, &name, &path, mode, reply),
@@ -40,7 +40,7 @@ fn settle_open(
 ) -> Result<(), AllocError>
     ensures ok { OnOk result (fids.new ≡ spec.opens_to fids.old name.now path.now mode reply.now) }
     ensures err { OnErr result (fids.new ≡ fids.old) }
-    ensures room { spec.HasRoom fids.old (spec.newly_opened fids.old.names name.now path.now mode reply.now)
+    ensures room { spec.RequestHasRoom fids.old (spec.newly_opened fids.old.names name.now path.now mode reply.now)
         → IsOk result }
 {
     let Some(node) = openable(path.as_slice(), mode) else {

@@ -2,7 +2,7 @@
 ghost use Rattle.std.specs.Prelude.{◌≡◌, Some, IfOk};
 ghost use Rattle.net_base.specs.Paths as paths;
 ghost use Rattle.net_base.specs.Steps as steps;
-ghost use Rattle.net_tree.specs.Bindings.{file_of};
+ghost use Rattle.net_tree.specs.Bindings.{bound_file};
 ghost use Rattle.script_task.specs.Effects as effects;
 ghost use Rattle.net_base.specs.Asks as asked;
 ghost use Rattle.script_task.specs.Planning as spec;
@@ -73,7 +73,7 @@ fn at_desk(host: u32, event: Event) -> Planned
 }
 
 fn at_file(host: u32, fid: Fid, event: Event) -> Planned
-    ensures { result ≡ spec.keeping (asked.at_file host (file_of fid) event) }
+    ensures { result ≡ spec.keeping (asked.at_file host (bound_file fid) event) }
 {
     keeping(ActorName::Conv(host, fid.proto, fid.slot), event)
 }
@@ -111,7 +111,7 @@ fn ls(host: u32, path: Octets) -> Planned
 
 fn close(host: u32, fids: &Names, name: Octets) -> Planned
     ensures event { spec.ask_of result ≡ asked.close host name (steps.fid_of name fids.now.names) }
-    ensures effect { result.effect ≡ effects.closes name (steps.fid_of name fids.now.names) }
+    ensures effect { result.effect ≡ effects.closes_bound name (steps.fid_of name fids.now.names) }
 {
     match fids.get(name.as_slice()) {
         Some(fid) => Planned {
@@ -158,7 +158,7 @@ fn read(host: u32, fids: &Names, name: Octets, count: u32) -> Planned
 // Plans a read behind an `hread`, which was told this.
 fn hear(host: u32, fids: &Names, name: Octets, count: u32, heard: Heard) -> Planned
     ensures event { spec.ask_of result ≡ asked.read_ask host name count (steps.fid_of name fids.now.names) }
-    ensures effect { result.effect ≡ effects.hears heard }
+    ensures effect { result.effect ≡ effects.effect_heard heard }
 {
     let Planned { actor, event, .. } = read(host, fids, name, count);
     Planned {
@@ -187,7 +187,7 @@ fn writes(mode: Mode) -> bool
 }
 
 fn read_event(fid: Fid, count: u32) -> Event
-    ensures { result ≡ steps.read_event (file_of fid) count fid.file }
+    ensures { result ≡ steps.read_event (bound_file fid) count fid.file }
 {
     match fid.file {
         FileName::Data => Event::Read {
@@ -219,7 +219,7 @@ fn write(host: u32, fids: &Names, name: Octets, text: Octets) -> Planned
 
 // A text is written to a data file, or to a ctl file.
 fn put(host: u32, fid: Fid, text: Octets) -> Planned
-    ensures { result ≡ spec.keeping (asked.put_ask host (file_of fid) text fid.file) }
+    ensures { result ≡ spec.keeping (asked.put_ask host (bound_file fid) text fid.file) }
 {
     match fid.file {
         FileName::Data => at_file(
@@ -236,7 +236,7 @@ fn put(host: u32, fid: Fid, text: Octets) -> Planned
 
 // The event of a control word.
 fn control(host: u32, fid: Fid, text: Octets) -> Planned
-    ensures { result ≡ spec.keeping (asked.control_ask host (file_of fid) text) }
+    ensures { result ≡ spec.keeping (asked.control_ask host (bound_file fid) text) }
 {
     match read_ctl(text.as_slice()) {
         Ok(word) => controlled(host, fid, word),
@@ -252,7 +252,7 @@ fn control(host: u32, fid: Fid, text: Octets) -> Planned
 }
 
 fn controlled(host: u32, fid: Fid, word: Ctl) -> Planned
-    ensures { result ≡ spec.keeping (asked.controlled host (file_of fid) word) }
+    ensures { result ≡ spec.keeping (asked.controlled host (bound_file fid) word) }
 {
     let (slot, generation) = (fid.slot, fid.generation);
     match word {
@@ -292,7 +292,7 @@ fn controlled(host: u32, fid: Fid, word: Ctl) -> Planned
 }
 
 fn at_directory(host: u32, fid: Fid, event: Event) -> Planned
-    ensures { result ≡ spec.keeping (asked.at_directory host (file_of fid) event) }
+    ensures { result ≡ spec.keeping (asked.at_directory host (bound_file fid) event) }
 {
     keeping(ActorName::Dir(host, fid.proto), event)
 }

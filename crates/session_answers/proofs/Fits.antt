@@ -19,7 +19,7 @@ use Rattle.net_base.specs.declared.ninep.Target.{Target}
 use Rattle.net_base.specs.SessionFiles.{can_open, is_cs, qid_of, step_to, walked}
 use Rattle.net_base.specs.SessionScript.{begins_session, gives_nothing, nofid, room}
 use Rattle.net_base.specs.SessionTable.{Table, is_taken}
-use Rattle.session_answers.specs.Told.{told_by, told_text}
+use Rattle.session_answers.specs.Told.{told_by_reply, told_reply_text}
 
 -- the fields of the answer have room behind a header, and its qids are few
 abbrev Fits : Rmsg → Type 0
@@ -149,12 +149,12 @@ granted_short table (t.Remove tag fid) x short = error_fits tag not_served (omeg
 granted_short table (t.Stat tag fid) x short = error_fits tag not_served (omega arith)
 granted_short table (t.Wstat tag fid stat) x short = error_fits tag not_served (omega arith)
 
-told_short : (table : Table) (m : Tmsg) (x : Reply) → table.msize ≤ longest → (is_granting x ≡ false → length (told_text x) ≤ longest_error) → Fits (told_by table m x)
+told_short : (table : Table) (m : Tmsg) (x : Reply) → table.msize ≤ longest → (is_granting x ≡ false → length (told_reply_text x) ≤ longest_error) → Fits (told_by_reply table m x)
 told_short table m x short few = by (is_granting x) few
   where
-    by : (v : Bool) → (v ≡ false → length (told_text x) ≤ longest_error) → Fits (cond v (granted table m x) (r.Error (t_tag m) (told_text x)))
+    by : (v : Bool) → (v ≡ false → length (told_reply_text x) ≤ longest_error) → Fits (cond v (granted table m x) (r.Error (t_tag m) (told_reply_text x)))
     by true few = granted_short table m x short
-    by false few = error_fits (t_tag m) (told_text x) (few refl)
+    by false few = error_fits (t_tag m) (told_reply_text x) (few refl)
 
 whole_short : (m : Rmsg) → length (r_fields m) ≤ 8209 → length (r_bytes m) ≤ longest
 unfolding r_bytes
@@ -166,8 +166,8 @@ said_fits table found m answer short is same =
     let fits : Fits answer = subst Fits (sym same) (said_short table found m short is) in
     (whole_short answer fits.0, fits.1)
 
-pub replied_fits : (table : Table) (m : Tmsg) (x : Reply) (answer : Rmsg) → table.msize ≤ longest → answer ≡ told_by table m x
-    → (is_granting x ≡ false → length (told_text x) ≤ longest_error) → (length (r_bytes answer) ≤ longest) × (length (r_qids answer) < 17)
+pub replied_fits : (table : Table) (m : Tmsg) (x : Reply) (answer : Rmsg) → table.msize ≤ longest → answer ≡ told_by_reply table m x
+    → (is_granting x ≡ false → length (told_reply_text x) ≤ longest_error) → (length (r_bytes answer) ≤ longest) × (length (r_qids answer) < 17)
 replied_fits table m x answer short same few =
     let fits : Fits answer = subst Fits (sym same) (told_short table m x short few) in
     (whole_short answer fits.0, fits.1)

@@ -21,11 +21,11 @@ use Rattle.net_base.specs.Session.{State}
 use Rattle.net_base.specs.declared.request.Request.{Request}
 use Rattle.script_task.specs.declared.effect.Effect.{Effect}
 use Rattle.script_task.specs.declared.planned.Planned.{Planned}
-use Rattle.script_task.specs.Effects.{effect_of, opened, settles}
+use Rattle.script_task.specs.Effects.{effect_of, opened_file, settles_effect}
 use Rattle.script_task.specs.Planning.{ask_of}
 use Rattle.net_base.specs.Requests.{bound_after, head, planned, request_play, settled}
 use Rattle.script_task.specs.Holdings.{Holdings}
-use Rattle.session_answers.specs.Served.{IsServed, Plays, asked, is_grant}
+use Rattle.session_answers.specs.Served.{IsServed, Reaches, asked_request, is_grant}
 use Rattle.script_task.proofs.Settling.{unbind_free}
 
 -- what a play does by its first event
@@ -68,7 +68,7 @@ put_ahead h names f text file.Local = controlled_ahead h names f text (control.r
 put_ahead h names f text file.Remote = controlled_ahead h names f text (control.read text)
 put_ahead h names f text file.Status = controlled_ahead h names f text (control.read text)
 
-write_ahead : (h : ℕ) (names : Names) (called text : List ℕ) → Ahead (settled names (asked (step.Writex called text))) (request_play h names (asked (step.Writex called text)))
+write_ahead : (h : ℕ) (names : Names) (called text : List ℕ) → Ahead (settled names (asked_request (step.Writex called text))) (request_play h names (asked_request (step.Writex called text)))
 write_ahead h names called text = by (fid_of called names)
   where
     by : (o : Option Fid) → Ahead (λ (x : Reply). names)
@@ -78,7 +78,7 @@ write_ahead h names called text = by (fid_of called names)
         either_ahead (λ (x : Reply). names) (mode_writes f.mode) (puts_text h f f.file text (Ends names) (Ends names)) (misuses h called names)
         (put_ahead h names f text f.file) (One _ _ _ refl (λ x. refl))
 
-read_ahead : (h : ℕ) (names : Names) (called : List ℕ) (count : ℕ) → Ahead (settled names (asked (step.Read called count))) (request_play h names (asked (step.Read called count)))
+read_ahead : (h : ℕ) (names : Names) (called : List ℕ) (count : ℕ) → Ahead (settled names (asked_request (step.Read called count))) (request_play h names (asked_request (step.Read called count)))
 read_ahead h names called count = by (fid_of called names)
   where
     event_no : (f : Fid) (g : FileName) → is_grant (read_event f count g) ≡ false
@@ -99,7 +99,7 @@ read_ahead h names called count = by (fid_of called names)
         (misuses h called names)
         (One _ _ _ (event_no f f.file) (λ x. refl)) (One _ _ _ refl (λ x. refl))
 
-close_ahead : (h : ℕ) (names : Names) (called : List ℕ) → Ahead (settled names (asked (step.Close called))) (request_play h names (asked (step.Close called)))
+close_ahead : (h : ℕ) (names : Names) (called : List ℕ) → Ahead (settled names (asked_request (step.Close called))) (request_play h names (asked_request (step.Close called)))
 close_ahead h names called = by (fid_of called names) refl
   where
     by : (o : Option Fid) → fid_of called names ≡ o → Ahead (λ (x : Reply). unbind called names)
@@ -107,7 +107,7 @@ close_ahead h names called = by (fid_of called names) refl
     by None none = One _ _ _ refl (λ x. ap Ends (sym (unbind_free called names none)))
     by (Some f) found = One _ _ _ refl (λ x. refl)
 
-open_ahead : (h : ℕ) (names : Names) (called path : List ℕ) (m : Mode) → Ahead (settled names (asked (step.Open called path (Some m)))) (request_play h names (asked (step.Open called path (Some m))))
+open_ahead : (h : ℕ) (names : Names) (called path : List ℕ) (m : Mode) → Ahead (settled names (asked_request (step.Open called path (Some m)))) (request_play h names (asked_request (step.Open called path (Some m))))
 open_ahead h names called path m = by (is_bound names called)
   where
     event_no : (n : Option Node) → is_grant (open_event path m n) ≡ false
@@ -135,7 +135,7 @@ open_ahead h names called path m = by (is_bound names called)
     by true = One _ _ _ refl (λ x. refl)
     by false = One _ _ _ (event_no (openable (walk path) m)) (λ x. bound (opened_fid m (openable (walk path) m) x))
 
-ahead : (h : ℕ) (names : Names) (s : Step) → IsServed s → Ahead (settled names (asked s)) (play_of h names s)
+ahead : (h : ℕ) (names : Names) (s : Step) → IsServed s → Ahead (settled names (asked_request s)) (play_of h names s)
 ahead h names (step.Open called path (Some m)) is = open_ahead h names called path m
 ahead h names (step.Read called count) is = read_ahead h names called count
 ahead h names (step.Writex called text) is = write_ahead h names called text
@@ -144,7 +144,7 @@ ahead h names (step.Cs query) is = One _ _ _ refl (λ x. refl)
 ahead h names _ is = absurd is
 
 -- the request of a step plays as the step does
-pub plays_as : (h : ℕ) (names : Names) (s : Step) → IsServed s → play_of h names s ≡ request_play h names (asked s)
+pub plays_as : (h : ℕ) (names : Names) (s : Step) → IsServed s → play_of h names s ≡ request_play h names (asked_request s)
 plays_as h names (step.Open called path (Some m)) is = refl
 plays_as h names (step.Read called count) is = refl
 plays_as h names (step.Writex called text) is = refl
@@ -159,10 +159,10 @@ none_waits after p (One a e next other ends) go_on = refl
 none_waits after p (Two a e b f next last goes ends grants) go_on = refl
 
 -- without a reply the step waits
-pub waits : (h : ℕ) (names after : Names) (s : Step) → IsServed s → (rs left : List Reply) → rs ≡ [] → Plays h names s rs after None left
+pub waits : (h : ℕ) (names after : Names) (s : Step) → IsServed s → (rs left : List Reply) → rs ≡ [] → Reaches h names s rs after None left
 waits h names after s is rs left none =
     λ go_on. ap (λ (xs : List Reply). outcome_by (doing_of (play_of h names s) None go_on) xs) none
-    ∙ none_waits (settled names (asked s)) (play_of h names s) (ahead h names s is) go_on
+    ∙ none_waits (settled names (asked_request s)) (play_of h names s) (ahead h names s is) go_on
 
 -- the event of an ask, where there is one
 abbrev event_in : Event → Option Ask → Event
@@ -187,11 +187,11 @@ one_reply after p (Two a e b' f' next last goes ends grants) b f is x left throu
 -- its reply is its last one
 pub one_played : (h : ℕ) (names now : Names) (s : Step) → IsServed s → (a : ActorName) (e : Event)
     → head (play_of h names s) ≡ Some (record { actor = a; event = e }) → (x : Reply) (rs left : List Reply) → rs ≡ x ∷ left → (is_grant e && is_accepted x) ≡ false
-    → now ≡ settled names (asked s) x → Plays h names s rs now (Some x) left
-one_played h names now s is a e asks x rs left first through settles =
+    → now ≡ settled names (asked_request s) x → Reaches h names s rs now (Some x) left
+one_played h names now s is a e asks x rs left first through settles_effect =
     λ go_on. ap (λ (xs : List Reply). outcome_by (doing_of (play_of h names s) None go_on) xs) first
-    ∙ one_reply (settled names (asked s)) (play_of h names s) (ahead h names s is) a e asks x left through go_on
-    ∙ ap (λ (ns : Names). outcome_by (go_on ns (Some x)) left) (sym settles)
+    ∙ one_reply (settled names (asked_request s)) (play_of h names s) (ahead h names s is) a e asks x left through go_on
+    ∙ ap (λ (ns : Names). outcome_by (go_on ns (Some x)) left) (sym settles_effect)
 
 two_replies : (after : Reply → Names) (p : Play) → Ahead after p → (a : ActorName) (e : Event) → head p ≡ Some (record { actor = a; event = e })
     → (x : Reply) → (is_grant e && is_accepted x) ≡ true
@@ -216,56 +216,56 @@ two_replies after p (Two a e b' f' next last goes ends grants) b f is x more go_
 -- after a grant the reply to the next event is the last one
 pub two_played : (h : ℕ) (names now : Names) (s : Step) → IsServed s → (a : ActorName) (e : Event)
     → head (play_of h names s) ≡ Some (record { actor = a; event = e }) → (x : Reply) (rs left : List Reply) → rs ≡ x ∷ left → (is_grant e && is_accepted x) ≡ true
-    → now ≡ settled names (asked s) x → (y : Reply) (behind : List Reply) → left ≡ y ∷ behind → Plays h names s rs now (Some y) behind
-two_played h names now s is a e asks x rs left first more settles y behind next =
+    → now ≡ settled names (asked_request s) x → (y : Reply) (behind : List Reply) → left ≡ y ∷ behind → Reaches h names s rs now (Some y) behind
+two_played h names now s is a e asks x rs left first more settles_effect y behind next =
     λ go_on. ap (λ (xs : List Reply). outcome_by (doing_of (play_of h names s) None go_on) xs) (first ∙ ap (λ (xs : List Reply). x ∷ xs) next)
-    ∙ (two_replies (settled names (asked s)) (play_of h names s) (ahead h names s is) a e asks x more go_on).1 y behind
-    ∙ ap (λ (ns : Names). outcome_by (go_on ns (Some y)) behind) (sym settles)
+    ∙ (two_replies (settled names (asked_request s)) (play_of h names s) (ahead h names s is) a e asks x more go_on).1 y behind
+    ∙ ap (λ (ns : Names). outcome_by (go_on ns (Some y)) behind) (sym settles_effect)
 
 pub two_wait : (h : ℕ) (names now : Names) (s : Step) → IsServed s → (a : ActorName) (e : Event)
     → head (play_of h names s) ≡ Some (record { actor = a; event = e }) → (x : Reply) (rs left : List Reply) → rs ≡ x ∷ left → (is_grant e && is_accepted x) ≡ true
-    → left ≡ [] → (behind : List Reply) → Plays h names s rs now None behind
+    → left ≡ [] → (behind : List Reply) → Reaches h names s rs now None behind
 two_wait h names now s is a e asks x rs left first more none behind =
     λ go_on. ap (λ (xs : List Reply). outcome_by (doing_of (play_of h names s) None go_on) xs) (first ∙ ap (λ (xs : List Reply). x ∷ xs) none)
-    ∙ (two_replies (settled names (asked s)) (play_of h names s) (ahead h names s is) a e asks x more go_on).0
+    ∙ (two_replies (settled names (asked_request s)) (play_of h names s) (ahead h names s is) a e asks x more go_on).0
 
 -- ---- by what the code planned
 
 -- the request of a step was planned under these names
 pub record Plans (h : ℕ) (b : Holdings) (s : Step) (q : Request) (p : Planned) : Type 0 where
   pub served : IsServed s
-  pub asked_is : q ≡ asked s
+  pub asked_is : q ≡ asked_request s
   pub event_is : planned h b.names q ≡ Some (ask_of p)
   pub effect_is : p.effect ≡ effect_of b.names q
 
 -- effects settle names as requests do
 abbrev pub SettlesSo : Type 0
-SettlesSo = (b : Holdings) (q : Request) (x : Reply) → (settles (effect_of b.names q) (opened (effect_of b.names q) x) b).names ≡ settled b.names q x
+SettlesSo = (b : Holdings) (q : Request) (x : Reply) → (settles_effect (effect_of b.names q) (opened_file (effect_of b.names q) x) b).names ≡ settled b.names q x
 
 heads : (h : ℕ) (b : Holdings) (s : Step) (q : Request) (p : Planned) → Plans h b s q p → head (play_of h b.names s) ≡ Some (ask_of p)
 heads h b s q p so = ap head (plays_as h b.names s so.served) ∙ ap (λ (r : Request). head (request_play h b.names r)) (sym so.asked_is) ∙ so.event_is
 
-names_settle : SettlesSo → (h : ℕ) (b now : Holdings) (s : Step) (q : Request) (p : Planned) → Plans h b s q p → (x : Reply) → now ≡ settles p.effect (opened p.effect x) b
-    → now.names ≡ settled b.names (asked s) x
+names_settle : SettlesSo → (h : ℕ) (b now : Holdings) (s : Step) (q : Request) (p : Planned) → Plans h b s q p → (x : Reply) → now ≡ settles_effect p.effect (opened_file p.effect x) b
+    → now.names ≡ settled b.names (asked_request s) x
 names_settle law h b now s q p so x is =
     ap (λ (c : Holdings). c.names) is
-    ∙ ap (λ (e : Effect). (settles e (opened e x) b).names) so.effect_is
+    ∙ ap (λ (e : Effect). (settles_effect e (opened_file e x) b).names) so.effect_is
     ∙ law b q x
     ∙ ap (λ (r : Request). settled b.names r x) so.asked_is
 
-pub none_left : (h : ℕ) (b : Holdings) (s : Step) (q : Request) (p : Planned) → Plans h b s q p → (rs left : List Reply) → rs ≡ [] → Plays h b.names s rs b.names None left
+pub none_left : (h : ℕ) (b : Holdings) (s : Step) (q : Request) (p : Planned) → Plans h b s q p → (rs left : List Reply) → rs ≡ [] → Reaches h b.names s rs b.names None left
 none_left h b s q p so rs left none = waits h b.names b.names s so.served rs left none
 
 pub one_done : SettlesSo → (h : ℕ) (b now : Holdings) (s : Step) (q : Request) (p : Planned) → Plans h b s q p → (x : Reply) (rs left : List Reply) → rs ≡ x ∷ left
-    → now ≡ settles p.effect (opened p.effect x) b → (test : Bool) → test ≡ (is_grant p.event && is_accepted x) → test ≡ false
-    → Plays h b.names s rs now.names (Some x) left
+    → now ≡ settles_effect p.effect (opened_file p.effect x) b → (test : Bool) → test ≡ (is_grant p.event && is_accepted x) → test ≡ false
+    → Reaches h b.names s rs now.names (Some x) left
 one_done law h b now s q p so x rs left first is test told off =
     one_played h b.names now.names s so.served p.actor p.event (heads h b s q p so) x rs left first (sym told ∙ off) (names_settle law h b now s q p so x is)
 
 pub two_done : SettlesSo → (h : ℕ) (b now : Holdings) (s : Step) (q : Request) (p : Planned) → Plans h b s q p → (x : Reply) (rs left : List Reply) → rs ≡ x ∷ left
-    → now ≡ settles p.effect (opened p.effect x) b → (test : Bool) → test ≡ (is_grant p.event && is_accepted x) → test ≡ true
+    → now ≡ settles_effect p.effect (opened_file p.effect x) b → (test : Bool) → test ≡ (is_grant p.event && is_accepted x) → test ≡ true
     → (o : Option (Bor Reply)) (behind : List Reply) → MatchOption o (left ≡ []) (λ (y : Bor Reply). left ≡ y.now ∷ behind)
-    → Plays h b.names s rs now.names (option_copied o) behind
+    → Reaches h b.names s rs now.names (option_copied o) behind
 two_done law h b now s q p so x rs left first is test told on None behind next =
     two_wait h b.names now.names s so.served p.actor p.event (heads h b s q p so) x rs left first (sym told ∙ on) next behind
 two_done law h b now s q p so x rs left first is test told on (Some y) behind next =

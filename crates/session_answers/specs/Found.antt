@@ -3,5 +3,5 @@ use Rattle.std.specs.Prelude.{ℕ, List, [], nat_eq, unwrap_or}
 use Rattle.indexmap.specs.IndexMap.{get}
 use Rattle.session_answers.specs.declared.found.Found.{Found}
 
-abbrev pub lines_by : Found → ℕ → List ℕ
-lines_by f n = unwrap_or (get nat_eq f.entries n) []
+abbrev pub found_lines : Found → ℕ → List ℕ
+found_lines f n = unwrap_or (get nat_eq f.entries n) []

@@ -38,34 +38,34 @@ is_brief (reply.BadCtl n) = true
 is_brief _ = false
 
 -- a reply to an event of a session: it grants it, or is brief
-abbrev pub is_told : Reply → Bool
-is_told x = is_granting x || is_brief x
+abbrev pub is_reply_told : Reply → Bool
+is_reply_told x = is_granting x || is_brief x
 
 abbrev pub AreTold : List Reply → Type 0
-AreTold rs = list_all is_told rs ≡ true
+AreTold rs = list_all is_reply_told rs ≡ true
 
 -- a brief reply whole, and nothing of another one
-abbrev pub told_text : Reply → List ℕ
-told_text x = if is_brief x then printed x else []
+abbrev pub told_reply_text : Reply → List ℕ
+told_reply_text x = if is_brief x then printed x else []
 
 -- ---- served so
 
-abbrev pub told_by : Table → Tmsg → Reply → Rmsg
-told_by table m x = if is_granting x then granted table m x else r.Error (t_tag m) (told_text x)
+abbrev pub told_by_reply : Table → Tmsg → Reply → Rmsg
+told_by_reply table m x = if is_granting x then granted table m x else r.Error (t_tag m) (told_reply_text x)
 
-abbrev pub by_last : State → Tmsg → Names → Option Reply → Doing State
-by_last s m names None = told s m
-by_last s m names (Some x) = Gives (r_bytes (told_by s.table m x)) (record { table = table_next s.table m; found = found_by s.table s.found m x; names = names })
+abbrev pub last_by : State → Tmsg → Names → Option Reply → Doing State
+last_by s m names None = told s m
+last_by s m names (Some x) = Gives (r_bytes (told_by_reply s.table m x)) (record { table = table_next s.table m; found = found_by s.table s.found m x; names = names })
 
-abbrev pub serves_by : ℕ → State → Tmsg → Option Step → Doing State
-serves_by h s m None = told s m
-serves_by h s m (Some step) = doing_of (play_of h s.names step) None (by_last s m)
+abbrev pub steps_by : ℕ → State → Tmsg → Option Step → Doing State
+steps_by h s m None = told s m
+steps_by h s m (Some step) = doing_of (play_of h s.names step) None (last_by s m)
 
-abbrev pub session : ℕ → Server State Tmsg
-session h =
+abbrev pub session_of : ℕ → Server State Tmsg
+session_of h =
     record {
       opening = first;
       names = λ (s : State). s.names;
-      serves = λ (s : State) (m : Tmsg). serves_by h s m (message_step s.table m);
+      serves = λ (s : State) (m : Tmsg). steps_by h s m (message_step s.table m);
       closes = λ (s : State). Ends s.names;
     }

@@ -3,8 +3,8 @@ ghost use Rattle.std.specs.Prelude.{◌≡◌, ◌<◌, List, length, IfOk, IfSo
 ghost use Rattle.net_base.specs.declared.ninep.Tmsg.{Tmsg as AnyTmsg};
 ghost use Rattle.net_base.specs.Next.{own_replies};
 ghost use Rattle.session_answers.specs.Told.{AreTold};
-ghost use Rattle.session_answers.specs.Served.{IsLast, IsServedFirst, answered_of, state_of};
-ghost use Rattle.session_script.specs.Seen.{seen};
+ghost use Rattle.session_answers.specs.Served.{IsLastMessage, IsServedFirst, answered_of, session_state};
+ghost use Rattle.session_script.specs.Seen.{seen_table};
 ghost use Rattle.net_base.specs.SessionTable.{IsSound};
 ghost use Rattle.net_base.specs.SessionScript.{AreMessages};
 ghost use Rattle.net_base.specs.Server.{answers_to};
@@ -50,11 +50,11 @@ fn serve_first<'a, E: Entries>(
     bytes: &'a [u8],
     replies: &mut Replies<'_, E>,
 ) -> Result<Option<(Octets, &'a [u8])>, AllocError>
-    requires sound { IsSound (seen session.old.table) }
+    requires sound { IsSound (seen_table session.old.table) }
     ensures served { IfOk result (λ first. MatchOption first
-        (IsLast session.old.host (state_of session.old) bytes.now replies.old)
-        (λ x. IsServedFirst session.old.host (state_of session.old) (state_of session.new) bytes.now x.1.now x.0 replies.old replies.new)) }
-    ensures sound { IfOk result (λ first. IfSome first (λ x. IsSound (seen session.new.table))) }
+        (IsLastMessage session.old.host (session_state session.old) bytes.now replies.old)
+        (λ x. IsServedFirst session.old.host (session_state session.old) (session_state session.new) bytes.now x.1.now x.0 replies.old replies.new)) }
+    ensures sound { IfOk result (λ first. IfSome first (λ x. IsSound (seen_table session.new.table))) }
     ensures shorter { IfOk result (λ first. IfSome first (λ x. length x.1.now < length bytes.now)) }
     ensures host { session.new.host ≡ session.old.host }
 {

@@ -4,8 +4,8 @@ ghost use Rattle.net_base.specs.declared.ninep.Tmsg.TheVariants as t;
 ghost use Rattle.net_base.specs.SessionAnswers as spec;
 ghost use Rattle.net_base.specs.Steps as steps;
 ghost use Rattle.net_base.specs.Transcript.{as_lines};
-ghost use Rattle.session_answers.specs.Found.{lines_by};
-ghost use Rattle.session_script.specs.Seen.{seen};
+ghost use Rattle.session_answers.specs.Found.{found_lines};
+ghost use Rattle.session_script.specs.Seen.{seen_table};
 
 use crate::replied::node_at;
 use indexmap::IndexMap;
@@ -22,7 +22,7 @@ pub struct Found {
 impl Found {
     /// No lines, which take no memory yet.
     pub fn new(alloc: Global) -> Found
-        ensures { lines_by result ≡ (λ n. []) }
+        ensures { found_lines result ≡ (λ n. []) }
     {
         Found {
             entries: IndexMap::new(alloc),
@@ -31,7 +31,7 @@ impl Found {
 
     /// The lines of a fid.
     pub fn get(&self, fid: u32) -> &[u8]
-        ensures { result.now ≡ lines_by self.now fid }
+        ensures { result.now ≡ found_lines self.now fid }
     {
         match self.entries.get(&fid) {
             Some(lines) => lines.as_slice(),
@@ -41,8 +41,8 @@ impl Found {
 
     // A fid has these lines.
     fn set(&mut self, fid: u32, lines: Octets) -> Result<(), AllocError>
-        ensures ok { OnOk result (lines_by self.new ≡ spec.with_found fid lines (lines_by self.old)) }
-        ensures err { OnErr result (lines_by self.new ≡ lines_by self.old) }
+        ensures ok { OnOk result (found_lines self.new ≡ spec.with_found fid lines (found_lines self.old)) }
+        ensures err { OnErr result (found_lines self.new ≡ found_lines self.old) }
     {
         self.entries.insert(fid, lines)?;
         Ok(())
@@ -50,7 +50,7 @@ impl Found {
 
     /// The lines of a fid go with it.
     pub fn hear(&mut self, message: &Tmsg)
-        ensures { lines_by self.new ≡ spec.found_after (lines_by self.old) message.now }
+        ensures { found_lines self.new ≡ spec.found_after (found_lines self.old) message.now }
     {
         match message {
             Tmsg::Clunk { fid, .. } => self.forget(*fid),
@@ -67,9 +67,9 @@ impl Found {
         fid: u32,
         reply: &Reply,
     ) -> Result<(), AllocError>
-        ensures ok { (tag offset : ℕ) (bytes : List ℕ) → OnOk result (lines_by self.new
-            ≡ spec.found_by (seen table.now) (lines_by self.old) (t.Write tag fid offset bytes) reply.now) }
-        ensures err { OnErr result (lines_by self.new ≡ lines_by self.old) }
+        ensures ok { (tag offset : ℕ) (bytes : List ℕ) → OnOk result (found_lines self.new
+            ≡ spec.found_by (seen_table table.now) (found_lines self.old) (t.Write tag fid offset bytes) reply.now) }
+        ensures err { OnErr result (found_lines self.new ≡ found_lines self.old) }
     {
         if !is_cs(node_at(table, fid)) {
             return Ok(());
@@ -80,7 +80,7 @@ impl Found {
 
     /// A fid has no lines any longer.
     pub fn forget(&mut self, fid: u32)
-        ensures { lines_by self.new ≡ spec.with_found fid [] (lines_by self.old) }
+        ensures { found_lines self.new ≡ spec.with_found fid [] (found_lines self.old) }
     {
         self.entries.swap_remove(&fid);
     }

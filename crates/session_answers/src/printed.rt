@@ -10,8 +10,8 @@ use transcript::put_reply;
 
 /// A brief reply as a history prints it, without the blank before it.
 pub fn printed(alloc: Global, reply: &Reply) -> Result<Octets, AllocError>
-    ensures text { IfOk result (λ text. text ≡ spec.told_text reply.now) }
-    ensures short { OnOk result (length (spec.told_text reply.now) ≤ longest_error) }
+    ensures text { IfOk result (λ text. text ≡ spec.told_reply_text reply.now) }
+    ensures short { OnOk result (length (spec.told_reply_text reply.now) ≤ longest_error) }
 {
     let mut words = Octets::new(alloc);
     if is_brief(reply) {
@@ -23,7 +23,7 @@ pub fn printed(alloc: Global, reply: &Reply) -> Result<Octets, AllocError>
 /// Whether the reply is brief.
 pub fn is_brief(reply: &Reply) -> bool
     ensures is { result ≡ spec.is_brief reply.now }
-    ensures short { length (spec.told_text reply.now) ≤ longest_error }
+    ensures short { length (spec.told_reply_text reply.now) ≤ longest_error }
 {
     match reply {
         Reply::CsRefused { number } => is_number(*number),

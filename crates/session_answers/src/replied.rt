@@ -4,8 +4,8 @@ ghost use Rattle.net_base.specs.declared.ninep.Tmsg.TheVariants as t;
 ghost use Rattle.net_base.specs.NinepMessages.{IsTmsg, longest, r_bytes};
 ghost use Rattle.net_base.specs.SessionAnswers as spec;
 ghost use Rattle.session_answers.specs.Told as told;
-ghost use Rattle.session_answers.specs.Told.{told_by, told_text};
-ghost use Rattle.session_script.specs.Seen.{seen};
+ghost use Rattle.session_answers.specs.Told.{told_by_reply, told_reply_text};
+ghost use Rattle.session_script.specs.Seen.{seen_table};
 
 use crate::printed::{is_brief, printed};
 use crate::said::{error, piece, qid_of};
@@ -24,7 +24,7 @@ pub fn replied_bytes(
 ) -> Result<Octets, AllocError>
     requires message { IsTmsg message.now }
     requires short { table.now.msize ≤ longest }
-    ensures { IfOk result (λ bytes. bytes ≡ r_bytes (told_by (seen table.now) message.now reply.now)) }
+    ensures { IfOk result (λ bytes. bytes ≡ r_bytes (told_by_reply (seen_table table.now) message.now reply.now)) }
 {
     let answer = replied(alloc, table, message, reply)?;
     encode_r(alloc, &answer)
@@ -32,7 +32,7 @@ pub fn replied_bytes(
 
 /// Whether the reply can be one to an event of a session: it grants it or is a few short words.
 pub fn is_told(reply: &Reply) -> bool
-    ensures { result ≡ told.is_told reply.now }
+    ensures { result ≡ told.is_reply_told reply.now }
 {
     is_granting(reply) || is_brief(reply)
 }
@@ -40,8 +40,8 @@ pub fn is_told(reply: &Reply) -> bool
 // The answer to a message with a step, by the reply to the step's last event.
 fn replied(alloc: Global, table: &Table, message: &Tmsg, reply: &Reply) -> Result<Rmsg, AllocError>
     requires { IsTmsg message.now }
-    ensures told { IfOk result (λ m. m ≡ told_by (seen table.now) message.now reply.now) }
-    ensures short { OnOk result (spec.is_granting reply.now ≡ false → length (told_text reply.now) ≤ spec.longest_error) }
+    ensures told { IfOk result (λ m. m ≡ told_by_reply (seen_table table.now) message.now reply.now) }
+    ensures short { OnOk result (spec.is_granting reply.now ≡ false → length (told_reply_text reply.now) ≤ spec.longest_error) }
 {
     if is_granting(reply) {
         return granted(alloc, table, message, reply);
@@ -72,7 +72,7 @@ fn is_granting(reply: &Reply) -> bool
 
 fn granted(alloc: Global, table: &Table, message: &Tmsg, reply: &Reply) -> Result<Rmsg, AllocError>
     requires { IsTmsg message.now }
-    ensures { IfOk result (λ m. m ≡ spec.granted (seen table.now) message.now reply.now) }
+    ensures { IfOk result (λ m. m ≡ spec.granted (seen_table table.now) message.now reply.now) }
 {
     match message {
         Tmsg::Open { tag, fid, .. } => Ok(Rmsg::Open {
@@ -97,7 +97,7 @@ fn granted(alloc: Global, table: &Table, message: &Tmsg, reply: &Reply) -> Resul
 
 /// The node of a fid, where it is known.
 pub fn node_at(table: &Table, fid: u32) -> Node
-    ensures { result ≡ spec.node_at (seen table.now) fid }
+    ensures { result ≡ spec.node_at (seen_table table.now) fid }
 {
     match table.fids.get(fid) {
         Some(target) => target.node,
@@ -129,7 +129,7 @@ fn read(
     count: u32,
     reply: &Reply,
 ) -> Result<Rmsg, AllocError>
-    ensures { IfOk result (λ m. m ≡ spec.granted (seen table.now) (t.Read tag fid offset count) reply.now) }
+    ensures { IfOk result (λ m. m ≡ spec.granted (seen_table table.now) (t.Read tag fid offset count) reply.now) }
 {
     // data are read from where they are
     let skipped = if is_data(node_at(table, fid)) {

@@ -1,8 +1,8 @@
 //! The answers to messages without a step.
 ghost use Rattle.std.specs.Prelude.{◌≡◌, ◌<◌, ◌≤◌, map, IfOk};
 ghost use Rattle.net_base.specs.declared.ninep.Rmsg.TheVariants as r;
-ghost use Rattle.session_script.specs.Seen.{seen};
-ghost use Rattle.session_answers.specs.Found.{lines_by};
+ghost use Rattle.session_script.specs.Seen.{seen_table};
+ghost use Rattle.session_answers.specs.Found.{found_lines};
 ghost use Rattle.net_base.specs.SessionAnswers as spec;
 ghost use Rattle.net_base.specs.SessionFiles as files;
 ghost use Rattle.net_base.specs.NinepMessages.{IsTmsg, longest, r_bytes};
@@ -25,7 +25,7 @@ pub fn said_bytes(
 ) -> Result<Octets, AllocError>
     requires message { IsTmsg message.now }
     requires short { table.now.msize ≤ longest }
-    ensures { IfOk result (λ bytes. bytes ≡ r_bytes (spec.said_at_once (seen table.now) (lines_by found.now) message.now)) }
+    ensures { IfOk result (λ bytes. bytes ≡ r_bytes (spec.said_at_once (seen_table table.now) (found_lines found.now) message.now)) }
 {
     let answer = said(alloc, table, found, message)?;
     encode_r(alloc, &answer)
@@ -33,7 +33,7 @@ pub fn said_bytes(
 
 // The answer to a message without a step.
 fn said(alloc: Global, table: &Table, found: &Found, message: &Tmsg) -> Result<Rmsg, AllocError>
-    ensures { IfOk result (λ m. m ≡ spec.said_at_once (seen table.now) (lines_by found.now) message.now) }
+    ensures { IfOk result (λ m. m ≡ spec.said_at_once (seen_table table.now) (found_lines found.now) message.now) }
 {
     match message {
         Tmsg::Version {
@@ -82,7 +82,7 @@ fn known_error(
     fid: u32,
     text: &[u8],
 ) -> Result<Rmsg, AllocError>
-    ensures { IfOk result (λ m. m ≡ spec.of_known tag ((seen table.now).fids fid) (λ f. r.Error tag text.now)) }
+    ensures { IfOk result (λ m. m ≡ spec.of_known tag ((seen_table table.now).fids fid) (λ f. r.Error tag text.now)) }
 {
     match table.fids.get(fid) {
         Some(_) => error(alloc, tag, text),
@@ -97,7 +97,7 @@ fn version_answer(
     msize: u32,
     version: &Octets,
 ) -> Result<Rmsg, AllocError>
-    ensures { IfOk result (λ m. m ≡ spec.version_answer (seen table.now) tag msize version.now) }
+    ensures { IfOk result (λ m. m ≡ spec.version_answer (seen_table table.now) tag msize version.now) }
 {
     if !table.is_first || msize < 256 {
         return error(alloc, tag, b"bad use");
@@ -128,7 +128,7 @@ fn attach_answer(
     fid: u32,
     afid: u32,
 ) -> Result<Rmsg, AllocError>
-    ensures { IfOk result (λ m. m ≡ spec.attach_answer (seen table.now) tag fid afid) }
+    ensures { IfOk result (λ m. m ≡ spec.attach_answer (seen_table table.now) tag fid afid) }
 {
     if afid != NOFID {
         return error(alloc, tag, b"not served");
@@ -148,7 +148,7 @@ fn walk_answer(
     newfid: u32,
     names: &Lines,
 ) -> Result<Rmsg, AllocError>
-    ensures { IfOk result (λ m. m ≡ spec.of_known tag ((seen table.now).fids fid) (spec.walk_answer (seen table.now) tag fid newfid names.now)) }
+    ensures { IfOk result (λ m. m ≡ spec.of_known tag ((seen_table table.now).fids fid) (spec.walk_answer (seen_table table.now) tag fid newfid names.now)) }
 {
     let Some(target) = table.fids.get(fid) else {
         return error(alloc, tag, b"bad fid");
@@ -190,7 +190,7 @@ fn open_answer(
     fid: u32,
     mode: u8,
 ) -> Result<Rmsg, AllocError>
-    ensures { IfOk result (λ m. m ≡ spec.of_known tag ((seen table.now).fids fid) (spec.open_answer tag mode)) }
+    ensures { IfOk result (λ m. m ≡ spec.of_known tag ((seen_table table.now).fids fid) (spec.open_answer tag mode)) }
 {
     let Some(target) = table.fids.get(fid) else {
         return error(alloc, tag, b"bad fid");
@@ -215,7 +215,7 @@ fn read_answer(
     offset: u64,
     count: u32,
 ) -> Result<Rmsg, AllocError>
-    ensures { IfOk result (λ m. m ≡ spec.of_used tag ((seen table.now).fids fid) (spec.read_answer (seen table.now) (lines_by found.now) tag fid offset count)) }
+    ensures { IfOk result (λ m. m ≡ spec.of_used tag ((seen_table table.now).fids fid) (spec.read_answer (seen_table table.now) (found_lines found.now) tag fid offset count)) }
 {
     let Some(target) = table.fids.get(fid) else {
         return error(alloc, tag, b"bad fid");
@@ -251,7 +251,7 @@ pub fn piece(bytes: &[u8], offset: u64, most: u32) -> &[u8]
 }
 
 fn clunk_answer(alloc: Global, table: &Table, tag: u16, fid: u32) -> Result<Rmsg, AllocError>
-    ensures { IfOk result (λ m. m ≡ spec.of_known tag ((seen table.now).fids fid) (λ f. r.Clunk tag)) }
+    ensures { IfOk result (λ m. m ≡ spec.of_known tag ((seen_table table.now).fids fid) (λ f. r.Clunk tag)) }
 {
     match table.fids.get(fid) {
         Some(_) => Ok(Rmsg::Clunk { tag }),

@@ -3,11 +3,11 @@ ghost use Rattle.std.specs.Prelude.{◌≡◌, ◌≤◌, ◌&&◌, [], IfOk, On
 ghost use Rattle.net_base.specs.declared.world.Step.TheVariants as step;
 ghost use Rattle.net_base.specs.Steps as steps;
 ghost use Rattle.net_base.specs.NinepMessages.{IsTmsg, longest};
-ghost use Rattle.script_task.specs.Effects.{opened, settles};
-ghost use Rattle.session_answers.specs.Found.{lines_by};
-ghost use Rattle.session_answers.specs.Served.{IsServed, Plays, asked, is_grant, served, state_of};
+ghost use Rattle.script_task.specs.Effects.{opened_file, settles_effect};
+ghost use Rattle.session_answers.specs.Found.{found_lines};
+ghost use Rattle.session_answers.specs.Served.{IsServed, Reaches, asked_request, is_grant, served, session_state};
 ghost use Rattle.session_answers.specs.Told as told;
-ghost use Rattle.session_script.specs.Seen.{seen};
+ghost use Rattle.session_script.specs.Seen.{seen_table};
 ghost use Rattle.net_base.specs.SessionAnswers.{found_after, found_by};
 ghost use Rattle.net_base.specs.SessionScript.{table_next};
 ghost use Rattle.net_base.specs.Server.{Gives, outcome_by};
@@ -39,7 +39,7 @@ pub struct Session {
 impl Session {
     /// A session of a host before its first message.
     pub fn new(alloc: Global, host: u32) -> Result<Session, AllocError>
-        ensures state { IfOk result (λ s. state_of s ≡ spec.first) }
+        ensures state { IfOk result (λ s. session_state s ≡ spec.first) }
         ensures host { IfOk result (λ s. s.host ≡ host) }
     {
         Ok(Session {
@@ -60,8 +60,8 @@ impl Session {
         requires message { IsTmsg message.now }
         requires short { self.old.table.msize ≤ longest }
         ensures served { IfOk result (λ answer.
-            outcome_by ((told.session self.old.host).serves (state_of self.old) message.now) replies.old ≡ served answer (state_of self.new) replies.new) }
-        ensures heard { IfOk result (λ answer. IfSome answer (λ bytes. seen self.new.table ≡ table_next (seen self.old.table) message.now)) }
+            outcome_by ((told.session_of self.old.host).serves (session_state self.old) message.now) replies.old ≡ served answer (session_state self.new) replies.new) }
+        ensures heard { IfOk result (λ answer. IfSome answer (λ bytes. seen_table self.new.table ≡ table_next (seen_table self.old.table) message.now)) }
         ensures host { self.new.host ≡ self.old.host }
     {
         match step_of(self.alloc, &self.table, message)? {
@@ -74,8 +74,8 @@ impl Session {
     fn tell(&mut self, message: &Tmsg) -> Result<Octets, AllocError>
         requires message { IsTmsg message.now }
         requires short { self.old.table.msize ≤ longest }
-        ensures told { IfOk result (λ answer. spec.told (state_of self.old) message.now ≡ Gives answer (state_of self.new)) }
-        ensures heard { OnOk result (seen self.new.table ≡ table_next (seen self.old.table) message.now) }
+        ensures told { IfOk result (λ answer. spec.told (session_state self.old) message.now ≡ Gives answer (session_state self.new)) }
+        ensures heard { OnOk result (seen_table self.new.table ≡ table_next (seen_table self.old.table) message.now) }
         ensures host { self.new.host ≡ self.old.host }
     {
         let bytes = said_bytes(self.alloc, &self.table, &self.found, message)?;
@@ -94,8 +94,8 @@ impl Session {
         requires short { self.old.table.msize ≤ longest }
         requires step { IsServed step }
         ensures served { IfOk result (λ answer.
-            outcome_by (told.serves_by self.old.host (state_of self.old) message.now (Some step)) replies.old ≡ served answer (state_of self.new) replies.new) }
-        ensures heard { IfOk result (λ answer. IfSome answer (λ bytes. seen self.new.table ≡ table_next (seen self.old.table) message.now)) }
+            outcome_by (told.steps_by self.old.host (session_state self.old) message.now (Some step)) replies.old ≡ served answer (session_state self.new) replies.new) }
+        ensures heard { IfOk result (λ answer. IfSome answer (λ bytes. seen_table self.new.table ≡ table_next (seen_table self.old.table) message.now)) }
         ensures host { self.new.host ≡ self.old.host }
     {
         match self.play(step, replies)? {
@@ -109,8 +109,8 @@ impl Session {
         requires message { IsTmsg message.now }
         requires short { self.old.table.msize ≤ longest }
         ensures told { IfOk result (λ answer.
-            told.by_last (state_of self.old) message.now self.old.names.names (Some reply.now) ≡ Gives answer (state_of self.new)) }
-        ensures heard { OnOk result (seen self.new.table ≡ table_next (seen self.old.table) message.now) }
+            told.last_by (session_state self.old) message.now self.old.names.names (Some reply.now) ≡ Gives answer (session_state self.new)) }
+        ensures heard { OnOk result (seen_table self.new.table ≡ table_next (seen_table self.old.table) message.now) }
         ensures host { self.new.host ≡ self.old.host }
     {
         let bytes = replied_bytes(self.alloc, &self.table, message, reply)?;
@@ -121,8 +121,8 @@ impl Session {
 
     // Takes a message that had no step.
     fn hear(&mut self, message: &Tmsg) -> Result<(), AllocError>
-        ensures table { OnOk result (seen self.new.table ≡ table_next (seen self.old.table) message.now) }
-        ensures found { OnOk result (lines_by self.new.found ≡ found_after (lines_by self.old.found) message.now) }
+        ensures table { OnOk result (seen_table self.new.table ≡ table_next (seen_table self.old.table) message.now) }
+        ensures found { OnOk result (found_lines self.new.found ≡ found_after (found_lines self.old.found) message.now) }
         ensures names { self.new.names ≡ self.old.names }
         ensures host { self.new.host ≡ self.old.host }
     {
@@ -137,7 +137,7 @@ impl Session {
         replies: &mut Replies<'r, E>,
     ) -> Result<Option<&'r Reply>, AllocError>
         requires { IsServed step }
-        ensures plays { IfOk result (λ reply. Plays self.old.host self.old.names.names step replies.old self.new.names.names (option_copied reply) replies.new) }
+        ensures plays { IfOk result (λ reply. Reaches self.old.host self.old.names.names step replies.old self.new.names.names (option_copied reply) replies.new) }
         ensures table { self.new.table ≡ self.old.table }
         ensures found { self.new.found ≡ self.old.found }
         ensures host { self.new.host ≡ self.old.host }
@@ -158,7 +158,7 @@ impl Session {
 
     // A write to cs leaves its lines to be read, and they go with their fid.
     fn keep_lines(&mut self, message: &Tmsg, reply: &Reply) -> Result<(), AllocError>
-        ensures found { OnOk result (lines_by self.new.found ≡ found_by (seen self.old.table) (lines_by self.old.found) message.now reply.now) }
+        ensures found { OnOk result (found_lines self.new.found ≡ found_by (seen_table self.old.table) (found_lines self.old.found) message.now reply.now) }
         ensures table { self.new.table ≡ self.old.table }
         ensures names { self.new.names ≡ self.old.names }
         ensures host { self.new.host ≡ self.old.host }
@@ -191,7 +191,7 @@ fn no_names(alloc: Global) -> Result<Names, AllocError>
 /// What a step of a session asks for.
 pub fn request_of(step: Step) -> Request
     requires { IsServed step }
-    ensures { result ≡ asked step }
+    ensures { result ≡ asked_request step }
 {
     match step {
         Step::Open { name, path, mode } => open_of(name, path, mode),
@@ -204,7 +204,7 @@ pub fn request_of(step: Step) -> Request
 }
 
 fn open_of(name: Octets, path: Octets, mode: Option<Mode>) -> Request
-    ensures { result ≡ asked (step.Open name path mode) }
+    ensures { result ≡ asked_request (step.Open name path mode) }
 {
     match mode {
         Some(mode) => Request::Open { name, path, mode },
@@ -214,7 +214,7 @@ fn open_of(name: Octets, path: Octets, mode: Option<Mode>) -> Request
 
 // The names after the reply to a request.
 fn settle(names: &mut Names, effect: Effect, reply: &Reply) -> Result<(), AllocError>
-    ensures { OnOk result (names.new ≡ settles effect (opened effect reply.now) names.old) }
+    ensures { OnOk result (names.new ≡ settles_effect effect (opened_file effect reply.now) names.old) }
 {
     let opened = effect.opened(reply);
     effect.settle(names, opened)

@@ -13,7 +13,7 @@ use Rattle.net_base.specs.NinepMessages.{SpellsT, longest, t_bytes, t_fields, t_
 use Rattle.ninep_wire.proofs.Shared.{t_only}
 use Rattle.net_base.specs.SessionScript.{AreMessages, Begins, IsBadStream, IsScript, IsStream, table_next, script, message_step, steps_of}
 use Rattle.net_base.specs.SessionTable.{Table, opening}
-use Rattle.session_script.specs.Streams.{Takes}
+use Rattle.session_script.specs.Streams.{TakesBytes}
 
 -- ---- one message
 
@@ -122,7 +122,7 @@ starts bytes t steps is none = record {
   full = λ ms are. (ms, subst (λ (x : Table). IsStream x ms bytes) (sym is) are);
 }
 
-further : (t u : Table) (before steps : List Step) (rest behind : List ℕ) (more : List Tmsg) → Takes t u before steps rest behind → IsStream t more rest
+further : (t u : Table) (before steps : List Step) (rest behind : List ℕ) (more : List Tmsg) → TakesBytes t u before steps rest behind → IsStream t more rest
     → (later : List Tmsg) × IsStream u later behind
 further t u before steps rest behind [] k s = absurd (none_begins t.msize k.message rest behind s k.begins)
 further t u before steps rest behind (m ∷ more) k s =
@@ -130,7 +130,7 @@ further t u before steps rest behind (m ∷ more) k s =
     let table : table_next t m ≡ u = ap (table_next t) one.0 ∙ sym k.table in
     (more, subst (λ (xs : List ℕ). IsStream u more xs) one.1 (subst (λ (x : Table). IsStream x more s.0) table s.2))
 
-pub goes_on : (bytes : List ℕ) (t u : Table) (before steps : List Step) (rest behind : List ℕ) → Reads bytes t before rest → Takes t u before steps rest behind
+pub goes_on : (bytes : List ℕ) (t u : Table) (before steps : List Step) (rest behind : List ℕ) → Reads bytes t before rest → TakesBytes t u before steps rest behind
     → Reads bytes u steps behind
 goes_on bytes t u before steps rest behind r k = record {
   sound = λ more s.

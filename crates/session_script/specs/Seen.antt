@@ -9,15 +9,15 @@ use Rattle.session_script.specs.declared.fids.Fids.{Fids}
 use Rattle.session_script.specs.declared.table.Table.{Table}
 
 -- what each fid stands for
-abbrev pub stands : Fids → ℕ → Option Target
-stands f n = get nat_eq f.entries n
+abbrev pub fid_stands : Fids → ℕ → Option Target
+fid_stands f n = get nat_eq f.entries n
 
-abbrev pub seen : Table → Known
-seen t = record { is_first = t.is_first; msize = t.msize; fids = stands t.fids }
+abbrev pub seen_table : Table → Known
+seen_table t = record { is_first = t.is_first; msize = t.msize; fids = fid_stands t.fids }
 
 -- after it was opened
-abbrev pub opened_target : Target → Target
-opened_target f = record f { is_used = true }
+abbrev pub target_opened : Target → Target
+target_opened f = record f { is_used = true }
 
 -- the messages by which a fid may be known that wasn't
 abbrev pub brings_fid : Tmsg → Bool
@@ -26,10 +26,10 @@ brings_fid (t.Walk tag fid newfid names) = true
 brings_fid _ = false
 
 -- what is the same where a table takes memory and there is none
-pub record Kept : Type 0 where
+pub record KeptTable : Type 0 where
   pub is_first : Bool
   pub msize : ℕ
   pub fids : List (ℕ × Target)
 
-abbrev pub kept : Table → Kept
-kept t = record { is_first = t.is_first; msize = t.msize; fids = t.fids.entries.entries }
+abbrev pub table_kept : Table → KeptTable
+table_kept t = record { is_first = t.is_first; msize = t.msize; fids = t.fids.entries.entries }

@@ -6,7 +6,7 @@ use Rattle.net_base.specs.SessionScript.{Begins, table_next, message_step}
 use Rattle.net_base.specs.SessionTable.{Table}
 
 -- the first message was taken: its step stands behind the others, and the rest is left
-pub record Takes (old new : Table) (before steps : List Step) (bytes rest : List ℕ) : Type 0 where
+pub record TakesBytes (old new : Table) (before steps : List Step) (bytes rest : List ℕ) : Type 0 where
   pub message : Tmsg
   pub begins : Begins old.msize message bytes rest
   pub table : new ≡ table_next old message

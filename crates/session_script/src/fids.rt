@@ -1,7 +1,7 @@
 //! Fids and what they stand for.
 ghost use Rattle.std.specs.Prelude.{◌≡◌, Some, None, OnErr, OnOk, option_map};
 ghost use Rattle.net_base.specs.SessionTable.{with_fid};
-ghost use Rattle.session_script.specs.Seen.{opened_target, stands};
+ghost use Rattle.session_script.specs.Seen.{target_opened, fid_stands};
 
 use indexmap::IndexMap;
 use net_base::Target;
@@ -16,7 +16,7 @@ pub struct Fids {
 impl Fids {
     /// No fids, which take no memory yet.
     pub fn new(alloc: Global) -> Fids
-        ensures { stands result ≡ (λ n. None) }
+        ensures { fid_stands result ≡ (λ n. None) }
     {
         Fids {
             entries: IndexMap::new(alloc),
@@ -25,14 +25,14 @@ impl Fids {
 
     /// What a fid stands for.
     pub fn get(&self, fid: u32) -> Option<Target>
-        ensures { result ≡ stands self.now fid }
+        ensures { result ≡ fid_stands self.now fid }
     {
         self.entries.get(&fid).copied()
     }
 
     /// From now on the fid stands for this.
     pub fn set(&mut self, fid: u32, target: Target) -> Result<(), AllocError>
-        ensures ok { OnOk result (stands self.new ≡ with_fid fid (Some target) (stands self.old)) }
+        ensures ok { OnOk result (fid_stands self.new ≡ with_fid fid (Some target) (fid_stands self.old)) }
         ensures err { OnErr result (self.new.entries.entries ≡ self.old.entries.entries) }
     {
         self.entries.insert(fid, target)?;
@@ -41,7 +41,7 @@ impl Fids {
 
     /// The fid was opened, where it stands for something. It takes no memory.
     pub fn use_it(&mut self, fid: u32)
-        ensures { stands self.new ≡ with_fid fid (option_map opened_target (stands self.old fid)) (stands self.old) }
+        ensures { fid_stands self.new ≡ with_fid fid (option_map target_opened (fid_stands self.old fid)) (fid_stands self.old) }
     {
         if let Some(target) = self.entries.get_mut(&fid) {
             target.is_used = true;
@@ -50,7 +50,7 @@ impl Fids {
 
     /// The fid stands for nothing any longer.
     pub fn forget(&mut self, fid: u32)
-        ensures { stands self.new ≡ with_fid fid None (stands self.old) }
+        ensures { fid_stands self.new ≡ with_fid fid None (fid_stands self.old) }
     {
         self.entries.swap_remove(&fid);
     }

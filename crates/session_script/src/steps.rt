@@ -5,7 +5,7 @@ ghost use Rattle.std.specs.Option.{option_and_then};
 ghost use Rattle.net_base.specs.Paths as paths;
 ghost use Rattle.net_base.specs.SessionScript as spec;
 ghost use Rattle.net_base.specs.SessionTable as known;
-ghost use Rattle.session_script.specs.Seen.{seen};
+ghost use Rattle.session_script.specs.Seen.{seen_table};
 
 use crate::files::{access, is_cs, is_data, is_directory, is_plain, put_path};
 use crate::table::Table;
@@ -19,7 +19,7 @@ const TEXT_END: u64 = 65536;
 
 /// The step of a message, if it has one.
 pub fn step_of(alloc: Global, table: &Table, message: &Tmsg) -> Result<Option<Step>, AllocError>
-    ensures { IfOk result (λ step. step ≡ spec.message_step (seen table.now) message.now) }
+    ensures { IfOk result (λ step. step ≡ spec.message_step (seen_table table.now) message.now) }
 {
     match message {
         Tmsg::Open { fid, mode, .. } => open_step(alloc, table, *fid, *mode),
@@ -54,7 +54,7 @@ fn path_of(alloc: Global, node: Node) -> Result<Octets, AllocError>
 }
 
 fn open_step(alloc: Global, table: &Table, fid: u32, mode: u8) -> Result<Option<Step>, AllocError>
-    ensures { IfOk result (λ step. step ≡ option_and_then (spec.open_step fid mode) ((seen table.now).fids fid)) }
+    ensures { IfOk result (λ step. step ≡ option_and_then (spec.open_step fid mode) ((seen_table table.now).fids fid)) }
 {
     let Some(target) = table.fids.get(fid) else {
         return Ok(None);
@@ -109,7 +109,7 @@ fn read_step(
     offset: u64,
     count: u32,
 ) -> Result<Option<Step>, AllocError>
-    ensures { IfOk result (λ step. step ≡ option_and_then (spec.read_step (seen table.now) fid offset count) (known.used (seen table.now) fid)) }
+    ensures { IfOk result (λ step. step ≡ option_and_then (spec.read_step (seen_table table.now) fid offset count) (known.used (seen_table table.now) fid)) }
 {
     let Some(target) = table.used(fid) else {
         return Ok(None);
@@ -153,7 +153,7 @@ fn write_step(
     fid: u32,
     bytes: &Octets,
 ) -> Result<Option<Step>, AllocError>
-    ensures { IfOk result (λ step. step ≡ option_and_then (spec.write_step fid bytes.now) (known.used (seen table.now) fid)) }
+    ensures { IfOk result (λ step. step ≡ option_and_then (spec.write_step fid bytes.now) (known.used (seen_table table.now) fid)) }
 {
     let Some(target) = table.used(fid) else {
         return Ok(None);
@@ -167,7 +167,7 @@ fn write_step(
 }
 
 fn close_step(alloc: Global, table: &Table, fid: u32) -> Result<Option<Step>, AllocError>
-    ensures { IfOk result (λ step. step ≡ option_and_then (spec.close_step fid) (known.used (seen table.now) fid)) }
+    ensures { IfOk result (λ step. step ≡ option_and_then (spec.close_step fid) (known.used (seen_table table.now) fid)) }
 {
     let Some(target) = table.used(fid) else {
         return Ok(None);

@@ -7,8 +7,8 @@ ghost use Rattle.net_base.specs.declared.ninep.Tmsg.{Tmsg as AnyTmsg};
 ghost use Rattle.net_base.specs.NinepMessages.{SpellsT};
 ghost use Rattle.net_base.specs.SessionScript as spec;
 ghost use Rattle.net_base.specs.SessionScript.{AreMessages, Begins, IsBadStream, IsScript};
-ghost use Rattle.session_script.specs.Seen.{seen};
-ghost use Rattle.session_script.specs.Streams.{Takes};
+ghost use Rattle.session_script.specs.Seen.{seen_table};
+ghost use Rattle.session_script.specs.Streams.{TakesBytes};
 
 use crate::fault::ExportError;
 use crate::steps::step_of;
@@ -48,7 +48,7 @@ fn add_step<'a>(
     steps: &mut StepList,
     bytes: &'a [u8],
 ) -> Result<&'a [u8], ExportError>
-    ensures found { IfOk result (λ rest. Takes (seen table.old) (seen table.new) steps.old steps.new bytes.now rest.now) }
+    ensures found { IfOk result (λ rest. TakesBytes (seen_table table.old) (seen_table table.new) steps.old steps.new bytes.now rest.now) }
     ensures shorter { IfOk result (λ rest. length rest.now < length bytes.now) }
     ensures bad { IsErrOf result ExportError.BadStream → (m : AnyTmsg) (rest : List ℕ) → Begins table.old.msize m bytes.now rest → ⊥ }
 {
@@ -68,8 +68,8 @@ fn hear_first(
     steps: &mut StepList,
     message: &Tmsg,
 ) -> Result<(), AllocError>
-    ensures table { OnOk result (seen table.new ≡ spec.table_next (seen table.old) message.now) }
-    ensures steps { OnOk result (steps.new ≡ steps.old ++ option_to_list (spec.message_step (seen table.old) message.now)) }
+    ensures table { OnOk result (seen_table table.new ≡ spec.table_next (seen_table table.old) message.now) }
+    ensures steps { OnOk result (steps.new ≡ steps.old ++ option_to_list (spec.message_step (seen_table table.old) message.now)) }
 {
     let step = step_of(alloc, table, message)?;
     add(steps, step)?;

@@ -2,7 +2,7 @@
 ghost use Rattle.std.specs.Prelude.{◌≡◌, OnErr, OnOk, false};
 ghost use Rattle.net_base.specs.SessionScript as spec;
 ghost use Rattle.net_base.specs.SessionTable as known;
-ghost use Rattle.session_script.specs.Seen.{brings_fid, kept, seen};
+ghost use Rattle.session_script.specs.Seen.{brings_fid, table_kept, seen_table};
 
 use crate::fids::Fids;
 use crate::files::{can_open, reached};
@@ -26,7 +26,7 @@ pub struct Table {
 impl Table {
     /// Before the first message. It takes no memory yet.
     pub fn new(alloc: Global) -> Table
-        ensures { seen result ≡ known.opening }
+        ensures { seen_table result ≡ known.opening }
     {
         Table {
             is_first: true,
@@ -37,7 +37,7 @@ impl Table {
 
     /// A table at the beginning, where no message is longer than this.
     pub fn shorter(alloc: Global, msize: u32) -> Table
-        ensures { seen result ≡ record known.opening { msize = msize } }
+        ensures { seen_table result ≡ record known.opening { msize = msize } }
     {
         Table {
             is_first: true,
@@ -48,7 +48,7 @@ impl Table {
 
     /// What a fid stands for that was opened.
     pub fn used(&self, fid: u32) -> Option<Target>
-        ensures { result ≡ known.used (seen self.now) fid }
+        ensures { result ≡ known.used (seen_table self.now) fid }
     {
         let target = self.fids.get(fid)?;
         if target.is_used { Some(target) } else { None }
@@ -56,15 +56,15 @@ impl Table {
 
     /// The most that a read of so many bytes gives.
     pub fn room(&self, count: u32) -> u32
-        ensures { result ≡ spec.room (seen self.now) count }
+        ensures { result ≡ spec.room (seen_table self.now) count }
     {
         count.min(self.msize.saturating_sub(24))
     }
 
     /// Takes a message. Without memory it is as before.
     pub fn hear(&mut self, alloc: Global, message: &Tmsg) -> Result<(), AllocError>
-        ensures ok { OnOk result (seen self.new ≡ spec.table_next (seen self.old) message.now) }
-        ensures err { OnErr result (kept self.new ≡ kept self.old) }
+        ensures ok { OnOk result (seen_table self.new ≡ spec.table_next (seen_table self.old) message.now) }
+        ensures err { OnErr result (table_kept self.new ≡ table_kept self.old) }
     {
         self.change(alloc, message)?;
         self.is_first = false;
@@ -74,7 +74,7 @@ impl Table {
     /// Takes a message that brings no fid. It takes no memory.
     pub fn hear_known(&mut self, message: &Tmsg)
         requires { brings_fid message.now ≡ false }
-        ensures { seen self.new ≡ spec.table_next (seen self.old) message.now }
+        ensures { seen_table self.new ≡ spec.table_next (seen_table self.old) message.now }
     {
         self.change_known(message);
         self.is_first = false;
@@ -82,8 +82,8 @@ impl Table {
 
     // What a message changes, whichever it is.
     fn change(&mut self, alloc: Global, message: &Tmsg) -> Result<(), AllocError>
-        ensures ok { OnOk result (seen self.new ≡ spec.changed (seen self.old) message.now) }
-        ensures err { OnErr result (kept self.new ≡ kept self.old) }
+        ensures ok { OnOk result (seen_table self.new ≡ spec.changed (seen_table self.old) message.now) }
+        ensures err { OnErr result (table_kept self.new ≡ table_kept self.old) }
     {
         match message {
             Tmsg::Attach { fid, afid, .. } => self.attach(*fid, *afid),
@@ -103,7 +103,7 @@ impl Table {
     // Changes the table by a message that brings no fid.
     fn change_known(&mut self, message: &Tmsg)
         requires { brings_fid message.now ≡ false }
-        ensures { seen self.new ≡ spec.changed (seen self.old) message.now }
+        ensures { seen_table self.new ≡ spec.changed (seen_table self.old) message.now }
     {
         match message {
             Tmsg::Version { msize, .. } => self.hear_version(*msize),
@@ -115,7 +115,7 @@ impl Table {
     }
 
     fn hear_version(&mut self, msize: u32)
-        ensures { seen self.new ≡ spec.heard (seen self.old) msize }
+        ensures { seen_table self.new ≡ spec.heard (seen_table self.old) msize }
     {
         if self.is_first && 256 <= msize {
             self.msize = msize.min(self.msize);
@@ -123,8 +123,8 @@ impl Table {
     }
 
     fn attach(&mut self, fid: u32, afid: u32) -> Result<(), AllocError>
-        ensures err { OnErr result (kept self.new ≡ kept self.old) }
-        ensures ok { OnOk result (seen self.new ≡ spec.attached (seen self.old) fid afid) }
+        ensures err { OnErr result (table_kept self.new ≡ table_kept self.old) }
+        ensures ok { OnOk result (seen_table self.new ≡ spec.attached (seen_table self.old) fid afid) }
     {
         if afid != NOFID || self.fids.get(fid).is_some() {
             return Ok(());
@@ -135,7 +135,7 @@ impl Table {
 
     // Where a walk begins, where it may.
     fn source(&self, fid: u32, newfid: u32) -> Option<Node>
-        ensures { result ≡ spec.source (seen self.now) fid newfid }
+        ensures { result ≡ spec.source (seen_table self.now) fid newfid }
     {
         let target = self.fids.get(fid)?;
         if fid != newfid && self.fids.get(newfid).is_some() {
@@ -154,8 +154,8 @@ impl Table {
         newfid: u32,
         names: &Lines,
     ) -> Result<(), AllocError>
-        ensures err { OnErr result (kept self.new ≡ kept self.old) }
-        ensures ok { OnOk result (seen self.new ≡ spec.walked_to (seen self.old) fid newfid names.now) }
+        ensures err { OnErr result (table_kept self.new ≡ table_kept self.old) }
+        ensures ok { OnOk result (seen_table self.new ≡ spec.walked_to (seen_table self.old) fid newfid names.now) }
     {
         let Some(node) = self.source(fid, newfid) else {
             return Ok(());
@@ -167,7 +167,7 @@ impl Table {
     }
 
     fn open(&mut self, fid: u32, mode: u8)
-        ensures { seen self.new ≡ spec.used_by (seen self.old) fid mode }
+        ensures { seen_table self.new ≡ spec.used_by (seen_table self.old) fid mode }
     {
         let Some(target) = self.fids.get(fid) else {
             return;

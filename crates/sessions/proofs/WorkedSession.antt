@@ -20,7 +20,7 @@ pub plays : script worked.messages ≡ worked.steps
 unfolding numeral
 plays = refl
 
-pub answered : map hex_digits (answers_to (session 0) first worked.messages worked.replies) ≡ worked.answers
+pub answered : map hex_digits (answers_to (session 0) first worked.messages worked.worked_replies) ≡ worked.worked_answers
 unfolding r_bytes numeral
 answered = refl
 

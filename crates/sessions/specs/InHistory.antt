@@ -18,8 +18,8 @@ answered_replies w h c =
     if owes (net_after w h) c then take (length (own_replies h c) - 1) (own_replies h c) else own_replies h c
 
 -- the answers to the messages of a session, which is this caller, of the host
-abbrev pub answers : World → ℕ → List Tmsg → ℕ → List Entry → List (List ℕ)
-answers w host ms c h = answers_to (session host) first ms (answered_replies w h c)
+abbrev pub answers_in_history : World → ℕ → List Tmsg → ℕ → List Entry → List (List ℕ)
+answers_in_history w host ms c h = answers_to (session host) first ms (answered_replies w h c)
 
 -- the caller is the script of the session with these bytes
 pub record IsSessionOf (w : World) (c : ℕ) (bytes : List ℕ) : Type 0 where

@@ -30,12 +30,12 @@ feed =
 abbrev pub steps : List Step
 steps = step.Open (codes "f1") (codes "/net/udp/clone") (Some mode.Both) ∷ step.Read (codes "f1") 32 ∷ []
 
-abbrev pub replies : List Reply
-replies = reply.Slot 0 1 ∷ reply.Bytes (codes "0") ∷ []
+abbrev pub worked_replies : List Reply
+worked_replies = reply.Slot 0 1 ∷ reply.Bytes (codes "0") ∷ []
 
 -- the answers, in hexadecimal
-abbrev pub answers : List (List ℕ)
-answers =
+abbrev pub worked_answers : List (List ℕ)
+worked_answers =
     codes "1300000065ffff182000000600395032303030"
     ∷ codes "1400000069010080000000000000000000000000"
     ∷ codes "230000006f010002008000000000030000000000000000000000000500000000000000"

@@ -358,7 +358,7 @@ own_none left (step.Export called) is = unbound_none called (not (is_dotted call
 own_none left (step.Import call) is = refl
 own_none left (step.Ropen called call path m) is = absurd (true≢false is)
 own_none left (step.Rread called count) is = refl
-own_none left (step.Rwrite called text) is = unbound_none called (nat_le (length text) longest_text) (task.Rwrite (errand.writes called text left)) refl
+own_none left (step.Rwrite called text) is = unbound_none called (nat_le (length text) longest_text) (task.Rwrite (errand.write_errand called text left)) refl
 own_none left (step.Rclose called) is = absurd (true≢false is)
 
 begun_none : (left : Left) (s : Step) (o : Option (List ℕ)) → is_leaving s ≡ false → leaves_something (spec.begun_by left s o) ≡ false
@@ -383,7 +383,7 @@ leaves_so left (step.Ropen called call path m) said r t told on = ropen_leaves c
 leaves_so left (step.Rclose called) said r t told on =
     ap (λ (u : StepTask). spec.leaves (spec.after u r) left) told
     ∙ (ap (λ (u : StepTask). spec.leaves u left) (after_one (spec.begun left (step.Rclose called)) said r)
-    ∙ rclose_all (record { name = called; errand = errand.closes called left }) left (said ++ r ∷ []))
+    ∙ rclose_all (record { name = called; errand = errand.close_errand called left }) left (said ++ r ∷ []))
 leaves_so left (step.Open called path m) said r t told on = other_leaves left (step.Open called path m) said r t refl told
 leaves_so left (step.Read called count) said r t told on = other_leaves left (step.Read called count) said r t refl told
 leaves_so left (step.Write called text) said r t told on = other_leaves left (step.Write called text) said r t refl told

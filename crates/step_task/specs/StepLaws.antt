@@ -123,7 +123,7 @@ begins_own h names left (step.Rread called count) slots free = errand_laws.rread
 begins_own h names left (step.Rwrite called text) slots free = rwrite_by (nat_le (length text) longest_text) refl
   where
     rwrite_by : (b : Bool) → nat_le (length text) longest_text ≡ b
-        → spec.stands_by h names (spec.or_unbound called b (task.Rwrite (errand.writes called text left))) (rwrite_play h left called text names)
+        → spec.stands_by h names (spec.or_unbound called b (task.Rwrite (errand.write_errand called text left))) (rwrite_play h left called text names)
     rwrite_by true is = errand_laws.rwrite_begins h names called text left is
     rwrite_by false is = rw is (IsFresh (_, refl, λ r. refl))
 begins_own h names left (step.Rclose called) slots free = errand_laws.rclose_begins h names called left
@@ -238,7 +238,7 @@ ropen_some None b called is = is
 ropen_some (Some q) true called is = refl
 ropen_some (Some q) false called is = refl
 
-errand_some : (called : List ℕ) (o : Option Remote) (message : ℕ → Tmsg) (names : Names) → is_none (errand.asks (errand.sends_by called o message) names) ≡ false
+errand_some : (called : List ℕ) (o : Option Remote) (message : ℕ → Tmsg) (names : Names) → is_none (errand.asks (errand.send_errand_by called o message) names) ≡ false
 errand_some called None message names = refl
 errand_some called (Some r) message names = refl
 
@@ -266,10 +266,10 @@ begun_own_asks left (step.Export called) names = unbound_asks called (not (is_do
 begun_own_asks left (step.Import call) names = refl
 begun_own_asks left (step.Ropen called call path m) names =
     unbound_asks called (is_remote_path path) (task.Ropen (ropen.begun called call path m left)) names
-    (ropen_some (talk.asks (ropen.begun called call path m left).talk) (ropen.is_beginning (ropen.begun called call path m left) && ropen.is_taken (ropen.begun called call path m left) names) called refl)
+    (ropen_some (talk.asks (ropen.begun called call path m left).talk) (ropen.is_beginning (ropen.begun called call path m left) && ropen.is_name_taken (ropen.begun called call path m left) names) called refl)
 begun_own_asks left (step.Rread called count) names = errand_some called (remote_of called left) (λ (fid : ℕ). read_message fid count) names
 begun_own_asks left (step.Rwrite called text) names =
-    unbound_asks called (nat_le (length text) longest_text) (task.Rwrite (errand.writes called text left)) names
+    unbound_asks called (nat_le (length text) longest_text) (task.Rwrite (errand.write_errand called text left)) names
     (errand_some called (remote_of called left) (λ (fid : ℕ). write_message fid text) names)
 begun_own_asks left (step.Rclose called) names = errand_some called (remote_of called left) clunk_message names
 
@@ -367,13 +367,13 @@ asks_alike (task.Reject t) m n = refl
 asks_alike (task.Beside t) m n = beside_alike t.file t.name t.from t.is_through m n
 asks_alike (task.Announce t) m n = announce_alike t.phase t.name t.address t.lines m n
 asks_alike (task.Dial t) m n = dial_alike t.phase t.called t.address t.lines m n
-asks_alike (task.Hread t) m n = call_alike t.phase t.name (Some (hread.reads t)) m n
+asks_alike (task.Hread t) m n = call_alike t.phase t.name (Some (hread.reads_datagram t)) m n
 asks_alike (task.Hwrite t) m n = hwrite_alike t.phase t.name t.bytes m n
 asks_alike (task.Dns t) m n = dns_alike t.phase t.name t.message m n
 -- imports
 asks_alike (task.Export t) m n = refl
 asks_alike (task.Import t) m n = refl
-asks_alike (task.Ropen t) m n = ropen_alike (talk.asks t.talk) (ropen.is_beginning t && ropen.is_taken t m) (ropen.is_beginning t && ropen.is_taken t n) t.name
+asks_alike (task.Ropen t) m n = ropen_alike (talk.asks t.talk) (ropen.is_beginning t && ropen.is_name_taken t m) (ropen.is_beginning t && ropen.is_name_taken t n) t.name
 asks_alike (task.Rread t) m n = errand_alike t m n
 asks_alike (task.Rwrite t) m n = errand_alike t m n
 asks_alike (task.Rclose t) m n = errand_alike t.errand m n

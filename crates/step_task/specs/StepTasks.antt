@@ -68,9 +68,9 @@ begun_own left (step.Dns called times) = task.Dns (dns.begun called times)
 begun_own left (step.Export called) = or_unbound called (not (is_dotted called)) (task.Export (export.begun called))
 begun_own left (step.Import call) = task.Import (import.begun call)
 begun_own left (step.Ropen called call path m) = or_unbound called (is_remote_path path) (task.Ropen (ropen.begun called call path m left))
-begun_own left (step.Rread called count) = task.Rread (errand.reads called count left)
-begun_own left (step.Rwrite called text) = or_unbound called (nat_le (length text) longest_text) (task.Rwrite (errand.writes called text left))
-begun_own left (step.Rclose called) = task.Rclose (record { name = called; errand = errand.closes called left })
+begun_own left (step.Rread called count) = task.Rread (errand.read_errand called count left)
+begun_own left (step.Rwrite called text) = or_unbound called (nat_le (length text) longest_text) (task.Rwrite (errand.write_errand called text left))
+begun_own left (step.Rclose called) = task.Rclose (record { name = called; errand = errand.close_errand called left })
 
 abbrev pub begun_by : Left → Step → Option (List ℕ) → StepTask
 begun_by left s None = begun_own left s

@@ -6,13 +6,13 @@ use Rattle.net_base.specs.declared.history.Work.{Work}
 use Rattle.net_base.specs.declared.reply.Reply.TheVariants as reply
 use Rattle.net_base.specs.ActorStep.{Step, replies}
 
-abbrev pub counted : ℕ → Option (Step ℕ)
-counted n = Some record { state = (n + 1) % 2 ^ 32; outcome = replies (reply.Count ((n + 1) % 2 ^ 32)) None }
+abbrev pub step_counted : ℕ → Option (Step ℕ)
+step_counted n = Some record { state = (n + 1) % 2 ^ 32; outcome = replies (reply.Count ((n + 1) % 2 ^ 32)) None }
 
 abbrev pub count_event : ℕ → Event → Option (Step ℕ)
-count_event n event.Take = counted n
-count_event n (event.Move moment) = counted n
-count_event n (event.Await generation) = if nat_lt n generation then None else counted n
+count_event n event.Take = step_counted n
+count_event n (event.Move moment) = step_counted n
+count_event n (event.Await generation) = if nat_lt n generation then None else step_counted n
 count_event n _ = None
 
 abbrev pub count_work : ℕ → Work → Option (Step ℕ)

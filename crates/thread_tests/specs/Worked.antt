@@ -11,8 +11,8 @@ use Rattle.net_base.specs.declared.timer.Timers.TheVariants.{Fixed}
 abbrev pub medium : MediumSpec
 medium = record { number = 0; name = codes "ether0"; mtu = 1500; loss = 0; twice = 0; later = 0; fates = [] }
 
-abbrev pub anna : HostSpec
-anna = record {
+abbrev pub worked_anna : HostSpec
+worked_anna = record {
   name = codes "anna";
   nets = proto.Il ∷ proto.Udp ∷ [];
   ifaces = record { medium = 0; ip = 2271742214; mask = 4294967040 } ∷ [];
@@ -20,8 +20,8 @@ anna = record {
   starts = [];
 }
 
-abbrev pub script : Script
-script = record { host = 0; steps = step.Until 1 ∷ [] }
+abbrev pub worked_script : Script
+worked_script = record { host = 0; steps = step.Until 1 ∷ [] }
 
 abbrev pub echo_world : World
-echo_world = record { end = 60000; seed = 7; timers = Fixed; media = medium ∷ []; hosts = anna ∷ []; scripts = script ∷ []; dbs = record { moment = 0; db = [] } ∷ [] }
+echo_world = record { end = 60000; seed = 7; timers = Fixed; media = medium ∷ []; hosts = worked_anna ∷ []; scripts = worked_script ∷ []; dbs = record { moment = 0; db = [] } ∷ [] }

@@ -46,7 +46,7 @@ fn media(alloc: Global) -> Result<Media, AllocError>
 }
 
 fn hosts(alloc: Global) -> Result<Hosts, AllocError>
-    ensures { IfOk result (λ hs. hs ≡ worked.anna ∷ []) }
+    ensures { IfOk result (λ hs. hs ≡ worked.worked_anna ∷ []) }
 {
     let mut nets = Nets::new(alloc);
     nets.push(Proto::Il)?;
@@ -69,7 +69,7 @@ fn hosts(alloc: Global) -> Result<Hosts, AllocError>
 }
 
 fn scripts(alloc: Global) -> Result<Scripts, AllocError>
-    ensures { IfOk result (λ ss. ss ≡ worked.script ∷ []) }
+    ensures { IfOk result (λ ss. ss ≡ worked.worked_script ∷ []) }
 {
     let mut steps = StepList::new(alloc);
     steps.push(Step::Until { moment: 1 })?;

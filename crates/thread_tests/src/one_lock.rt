@@ -3,7 +3,7 @@ ghost use Rattle.std.specs.Prelude.{◌≡◌, ℕ, ◌+◌, ◌<◌, ◌≤◌,
 ghost use Rattle.net_base.specs.declared.noted.Noted.{Noted};
 ghost use Rattle.net_base.specs.declared.actor.ActorName.TheVariants.{Desk as DeskName, Clock as ClockName};
 ghost use Rattle.net_base.specs.Stamped.{moment_noted};
-ghost use Rattle.journal.specs.Tokens.{Holds};
+ghost use Rattle.journal.specs.Tokens.{HoldsPass};
 
 mod counter;
 mod gates;
@@ -62,11 +62,11 @@ fn act_once<J: Naming, R: Wait, G: Gate>(
     made: u32,
     work: &Work,
 ) -> (Told, Pass<J>)
-    requires held { (es : List (ℕ × Noted)) × Holds pass caller es × (length es ≤ made) }
+    requires held { (es : List (ℕ × Noted)) × HoldsPass pass caller es × (length es ≤ made) }
     requires few { made < 100 }
     requires moment { moment_noted pass.seen ≡ 0 }
     requires actor { desk.now.actor ≡ DeskName 0 }
-    ensures held { (es : List (ℕ × Noted)) × Holds result.1 caller es × (length es ≤ made + 1) }
+    ensures held { (es : List (ℕ × Noted)) × HoldsPass result.1 caller es × (length es ≤ made + 1) }
     ensures moment { moment_noted result.1.seen ≡ 0 }
 {
     let answer = desk.act(rt, journal, gate, &mut pass, caller, 0, work, None);
@@ -82,10 +82,10 @@ fn act_first<J: Naming, R: Wait>(
     caller: u32,
     work: &Work,
 ) -> (Told, Pass<J>)
-    requires held { Holds pass caller [] }
+    requires held { HoldsPass pass caller [] }
     requires seen { pass.seen ≡ [] }
     requires actor { desk.now.actor ≡ DeskName 0 }
-    ensures { (es : List (ℕ × Noted)) × Holds result.1 caller es × (length es ≤ 1) }
+    ensures { (es : List (ℕ × Noted)) × HoldsPass result.1 caller es × (length es ≤ 1) }
 {
     act_once(rt, journal, &OpenGate, desk, pass, caller, 0, work)
 }
@@ -147,12 +147,12 @@ fn counted_by_two<J: Naming + Send + Sync, R: Threads + Wait + Abort + Sync>(
     let ((a, mut one), (b, two)) = join(
         rt,
         || -> (Told, Pass<J>)
-            requires { Holds one 0 [] × (one.seen ≡ []) × (desk.actor ≡ DeskName 0) }
-            ensures { (es : List (ℕ × Noted)) × Holds result.1 0 es × (length es ≤ 1) }
+            requires { HoldsPass one 0 [] × (one.seen ≡ []) × (desk.actor ≡ DeskName 0) }
+            ensures { (es : List (ℕ × Noted)) × HoldsPass result.1 0 es × (length es ≤ 1) }
         { act_first(rt, &journal, &desk, one, 0, &work) },
         || -> (Told, Pass<J>)
-            requires { Holds two 1 [] × (two.seen ≡ []) × (desk.actor ≡ DeskName 0) }
-            ensures { (es : List (ℕ × Noted)) × Holds result.1 1 es × (length es ≤ 1) }
+            requires { HoldsPass two 1 [] × (two.seen ≡ []) × (desk.actor ≡ DeskName 0) }
+            ensures { (es : List (ℕ × Noted)) × HoldsPass result.1 1 es × (length es ≤ 1) }
         { act_first(rt, &journal, &desk, two, 1, &work) },
     );
     drop(work);

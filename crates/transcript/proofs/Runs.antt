@@ -10,7 +10,7 @@ use Rattle.net_base.specs.Net.{moment_after}
 use Rattle.net_base.specs.Summary.{sum_over}
 use Rattle.net_base.specs.Transcript.{line_of, lines_from}
 use Rattle.transcript.specs.Part.{part}
-use Rattle.transcript.specs.RunStatus.{latest}
+use Rattle.transcript.specs.RunStatus.{latest_move}
 
 -- Parts.
 
@@ -117,9 +117,9 @@ sum_done f xs n a le all =
     omega (arith, none, all)
 
 pub latest_next : (xs : List Entry) (n now new : ℕ) (x : Entry) → slice_get xs n ≡ Some x → new ≡ moment_after now x.event
-    → latest now (drop n xs) ≡ latest 0 xs → latest new (drop (n + 1) xs) ≡ latest 0 xs
+    → latest_move now (drop n xs) ≡ latest_move 0 xs → latest_move new (drop (n + 1) xs) ≡ latest_move 0 xs
 latest_next xs n now new x is each all =
-    ap (λ (m : ℕ). latest m (drop (n + 1) xs)) each ∙ ap (latest now) (sym (drop_next xs n x is)) ∙ all
+    ap (λ (m : ℕ). latest_move m (drop (n + 1) xs)) each ∙ ap (latest_move now) (sym (drop_next xs n x is)) ∙ all
 
-pub latest_done : (xs : List Entry) (n now : ℕ) → length xs ≤ n → latest now (drop n xs) ≡ latest 0 xs → now ≡ latest 0 xs
-latest_done xs n now le all = ap (latest now) (sym (drop_all n xs le)) ∙ all
+pub latest_done : (xs : List Entry) (n now : ℕ) → length xs ≤ n → latest_move now (drop n xs) ≡ latest_move 0 xs → now ≡ latest_move 0 xs
+latest_done xs n now le all = ap (latest_move now) (sym (drop_all n xs le)) ∙ all

@@ -5,7 +5,7 @@ use Rattle.net_base.specs.declared.world.World.{World}
 use Rattle.net_base.specs.Net.{after}
 use Rattle.net_base.specs.Summary.{totals, totals_lines, steps_line, end_line, end_word, answered_steps, all_steps, summary}
 use Rattle.transcript.specs.declared.summary.RunStatus.{RunStatus}
-use Rattle.transcript.specs.RunStatus.{IsStatusOf, lines_by, word_of, latest}
+use Rattle.transcript.specs.RunStatus.{IsRunStatusOf, status_lines, run_end_word, latest_move}
 use Rattle.transcript.proofs.Latest.{moment_of_legal}
 
 -- the lines, of numbers and a word that are those of the net
@@ -16,5 +16,5 @@ summed : (w : World) (h : List Entry) (word : List ℕ) (answered moment : ℕ)
     → steps_line answered (all_steps w) ++ totals_lines (totals h) ++ end_line word moment ≡ summary w h
 summed w h word answered moment each how when = rw (each, how, when) refl
 
-pub status_tells : (w : World) (h : List Entry) (s : RunStatus) → IsStatusOf w h s → lines_by w h s ≡ summary w h
-status_tells w h s stands = summed w h (word_of s.end) s.answered (latest 0 h) stands.answered stands.end (moment_of_legal w h stands.legal)
+pub status_tells : (w : World) (h : List Entry) (s : RunStatus) → IsRunStatusOf w h s → status_lines w h s ≡ summary w h
+status_tells w h s stands = summed w h (run_end_word s.end) s.answered (latest_move 0 h) stands.answered stands.end (moment_of_legal w h stands.legal)

@@ -10,23 +10,23 @@ use Rattle.run_record.specs.declared.end.RunEnd.TheVariants as ends
 use Rattle.transcript.specs.declared.summary.RunStatus.{RunStatus}
 
 -- the word that an end prints as, or that of a run which hasn't ended
-abbrev pub word_of : Option RunEnd → List ℕ
-word_of (Some ends.Done) = codes "done"
-word_of (Some ends.Stopped) = codes "stopped"
-word_of (Some ends.Limit) = codes "limit"
-word_of None = codes "unfinished"
+abbrev pub run_end_word : Option RunEnd → List ℕ
+run_end_word (Some ends.Done) = codes "done"
+run_end_word (Some ends.Stopped) = codes "stopped"
+run_end_word (Some ends.Limit) = codes "limit"
+run_end_word None = codes "unfinished"
 
 -- the moment of the last move among these entries, or the one before
-abbrev pub latest : ℕ → List Entry → ℕ
-latest now [] = now
-latest now (x ∷ xs) = latest (moment_after now x.event) xs
+abbrev pub latest_move : ℕ → List Entry → ℕ
+latest_move now [] = now
+latest_move now (x ∷ xs) = latest_move (moment_after now x.event) xs
 
 -- the four lines, where a run stands so
-abbrev pub lines_by : World → List Entry → RunStatus → List ℕ
-lines_by w h s = steps_line s.answered (all_steps w) ++ totals_lines (totals h) ++ end_line (word_of s.end) (latest 0 h)
+abbrev pub status_lines : World → List Entry → RunStatus → List ℕ
+status_lines w h s = steps_line s.answered (all_steps w) ++ totals_lines (totals h) ++ end_line (run_end_word s.end) (latest_move 0 h)
 
 -- the history is legal for the world, and the net behind it stands so
-pub record IsStatusOf (w : World) (h : List Entry) (s : RunStatus) : Type 0 where
+pub record IsRunStatusOf (w : World) (h : List Entry) (s : RunStatus) : Type 0 where
   pub legal : IsLegal w h
   pub answered : s.answered ≡ answered_steps w h
-  pub end : word_of s.end ≡ end_word w (after w h)
+  pub end : run_end_word s.end ≡ end_word w (after w h)

@@ -2,7 +2,7 @@
 ghost use Rattle.std.specs.Prelude.{◌≡◌, ◌++◌, OnOk, IfOk, codes};
 ghost use Rattle.net_base.specs.Summary as spec;
 ghost use Rattle.net_base.specs.Summary.{summary, steps_line, both_line, end_line};
-ghost use Rattle.transcript.specs.RunStatus.{IsStatusOf, lines_by, word_of};
+ghost use Rattle.transcript.specs.RunStatus.{IsRunStatusOf, status_lines, run_end_word};
 
 use crate::totals::{Totals, totals_of};
 use net_base::{Octets, World};
@@ -25,8 +25,8 @@ pub fn summary_by<E: Entries>(
     entries: &E,
     status: RunStatus,
 ) -> Result<Octets, AllocError>
-    ensures lines { IfOk result (λ text. text ≡ lines_by world.now (E.list entries.now) status) }
-    ensures summary { IsStatusOf world.now (E.list entries.now) status
+    ensures lines { IfOk result (λ text. text ≡ status_lines world.now (E.list entries.now) status) }
+    ensures summary { IsRunStatusOf world.now (E.list entries.now) status
         → IfOk result (λ text. text ≡ summary world.now (E.list entries.now)) }
 {
     let mut out = Octets::new(alloc);
@@ -40,7 +40,7 @@ fn put_summary<E: Entries>(
     entries: &E,
     status: RunStatus,
 ) -> Result<(), AllocError>
-    ensures { OnOk result (out.new ≡ out.old ++ lines_by world.now (E.list entries.now) status) }
+    ensures { OnOk result (out.new ≡ out.old ++ status_lines world.now (E.list entries.now) status) }
 {
     let totals = totals_of(entries);
     put_steps(out, status.answered, all_steps(world))?;
@@ -93,7 +93,7 @@ fn put_both(out: &mut Octets, word: &[u8], written: u128, read: u128) -> Result<
 }
 
 fn put_end(out: &mut Octets, end: Option<RunEnd>, moment: u64) -> Result<(), AllocError>
-    ensures { OnOk result (out.new ≡ out.old ++ end_line (word_of end) moment) }
+    ensures { OnOk result (out.new ≡ out.old ++ end_line (run_end_word end) moment) }
 {
     out.append(b"end ")?;
     out.append(end_word(end))?;
@@ -103,7 +103,7 @@ fn put_end(out: &mut Octets, end: Option<RunEnd>, moment: u64) -> Result<(), All
 }
 
 fn end_word(end: Option<RunEnd>) -> &'static [u8]
-    ensures { result.now ≡ word_of end }
+    ensures { result.now ≡ run_end_word end }
 {
     match end {
         Some(RunEnd::Done) => b"done",

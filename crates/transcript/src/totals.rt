@@ -2,7 +2,7 @@
 ghost use Rattle.std.specs.Prelude.{◌≡◌, ◌≤◌, length, nat_lt, if◌then◌else◌};
 ghost use Rattle.net_base.specs.Net as net;
 ghost use Rattle.net_base.specs.Summary.{sum_over, writes_counted, reads_counted, bytes_written_in, bytes_read_in};
-ghost use Rattle.transcript.specs.RunStatus.{latest};
+ghost use Rattle.transcript.specs.RunStatus.{latest_move};
 
 use net_base::{Entry, Event, Reply};
 use run_record::Entries;
@@ -24,7 +24,7 @@ pub fn totals_of<E: Entries>(entries: &E) -> Totals
     ensures read { result.read ≡ sum_over reads_counted (E.list entries.now) }
     ensures bytes_written { result.bytes_written ≡ sum_over bytes_written_in (E.list entries.now) }
     ensures bytes_read { result.bytes_read ≡ sum_over bytes_read_in (E.list entries.now) }
-    ensures moment { result.moment ≡ latest 0 (E.list entries.now) }
+    ensures moment { result.moment ≡ latest_move 0 (E.list entries.now) }
 {
     let mut totals = Totals {
         written: 0,

@@ -2,5 +2,5 @@
 use Rattle.std.specs.Prelude.{◌≤◌, ℕ, List, length}
 
 -- there are bytes enough for headers
-abbrev pub AreWhole : List ℕ → Type 0
-AreWhole bytes = 52 ≤ length bytes
+abbrev pub AreWholeHeaders : List ℕ → Type 0
+AreWholeHeaders bytes = 52 ≤ length bytes

@@ -2,7 +2,7 @@
 ghost use Rattle.std.specs.Prelude.{◌≡◌, ◌+◌, ◌<◌, ◌≤◌, ◌↔◌, ℕ, true, false, List, length, IfOk, IsOk, IsOkAnd, IsErrOf};
 ghost use Rattle.net_base.specs.declared.headers.Headers.{Headers};
 ghost use Rattle.net_base.specs.DatagramHeaders.{AreHeaders, SpellsHeaders, all_mapped, has_headers, headers_bytes, headers_of, is_mapped, text_behind};
-ghost use Rattle.udp_headers.specs.Faults.{AreWhole};
+ghost use Rattle.udp_headers.specs.Faults.{AreWholeHeaders};
 
 use crate::fault::HeadersError;
 use byteorder::{BigEndian, ByteOrder};
@@ -41,7 +41,7 @@ pub fn decode_headers(bytes: &[u8]) -> Result<HeadersView<'_>, HeadersError>
     ensures whole { IsOk result ↔ (has_headers bytes.now ≡ true) }
     // Which fault it is: the first of these.
     ensures short { IsErrOf result HeadersError.Short ↔ (length bytes.now < 52) }
-    ensures not_mapped { IsErrOf result HeadersError.NotMapped ↔ (AreWhole bytes.now × (all_mapped bytes.now ≡ false)) }
+    ensures not_mapped { IsErrOf result HeadersError.NotMapped ↔ (AreWholeHeaders bytes.now × (all_mapped bytes.now ≡ false)) }
 {
     if bytes.len() < HEADERS {
         return Err(HeadersError::Short);

@@ -70,10 +70,10 @@ module _ {T : Type 0} (asks : T → Names → Option Request) (after : T → Rep
   goes_there own zone s rs names (place.Script t) q ask r goes asked is fit = script.goes_there own zone s rs names t q ask r goes asked is fit
   goes_there own zone s rs names (place.Own t) q ask r goes asked is fit = goes_own own zone rs names t q r goes asked
 
-  pub plays_there : PlaysThere (PlaceTask T) (spec.Goes asks after Keeps) spec.Plays
+  pub plays_there : PlaysThere (PlaceTask T) (spec.Goes asks after Keeps) spec.PlaysPlace
   plays_there zone s rs names (place.Script t) at = script.plays_there zone s rs names t at
   plays_there zone s rs names (place.Own t) at = absurd at
 
-  pub plays_on : PlaysOn (PlaceTask T) (spec.asks asks) (spec.after after) spec.Plays
+  pub plays_on : PlaysOn (PlaceTask T) (spec.asks asks) (spec.after after) spec.PlaysPlace
   plays_on zone s rs names (place.Script t) q ask r at asked is fit = script.plays_on zone s rs names t q ask r at asked is fit
   plays_on zone s rs names (place.Own t) q ask r at asked is fit = absurd at

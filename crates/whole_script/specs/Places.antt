@@ -11,9 +11,9 @@ use Rattle.whole_script.specs.declared.place.PlaceTask.TheVariants as place
 use Rattle.whole_script.specs.ScriptTasks as script
 
 -- a script is played by its steps
-abbrev pub Plays : {T : Type 0} → Tuples → Script → List Reply → Names → PlaceTask T → Type 0
-Plays zone s rs names (place.Script t) = script.Plays zone s rs names t
-Plays zone s rs names (place.Own t) = ⊥
+abbrev pub PlaysPlace : {T : Type 0} → Tuples → Script → List Reply → Names → PlaceTask T → Type 0
+PlaysPlace zone s rs names (place.Script t) = script.Plays zone s rs names t
+PlaysPlace zone s rs names (place.Own t) = ⊥
 
 module _ {T : Type 0} (asks_of : T → Names → Option Request) where
   abbrev pub asks : PlaceTask T → Names → Option Request
@@ -35,5 +35,5 @@ module _ {T : Type 0} (asks_of : T → Names → Option Request) (after_of : T �
     pub names_are : names ≡ names_told (asking_of after_of asks_of begun) (no_names zone) rs
 
   abbrev pub Goes : Option Asking → Tuples → Script → List Reply → Names → PlaceTask T → Type 0
-  Goes own zone s rs names (place.Script t) = script.Goes own zone s rs names t
+  Goes own zone s rs names (place.Script t) = script.GoesScripting own zone s rs names t
   Goes own zone s rs names (place.Own t) = GoesOwn own zone rs names t

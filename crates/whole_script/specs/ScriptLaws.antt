@@ -22,7 +22,7 @@ use Rattle.dial_lib.specs.Slots.{HaveSlots}
 use Rattle.step_task.specs.Leaving as leaving
 use Rattle.step_task.specs.StepLaws as step_laws
 use Rattle.step_task.specs.StepTasks as step
-use Rattle.whole_script.specs.ScriptTasks.{Scripting, finished_in, AtStep, AtEnd, begun_at, goes_on, asks, after, after_all, then_play, plays_behind, plays_of, StandsFor, Plays, Goes}
+use Rattle.whole_script.specs.ScriptTasks.{Scripting, finished_in, AtStep, AtEnd, begun_at, step_goes_on, asks, after, task_after_all, play_behind, plays_behind, plays_of, StandsFor, Plays, GoesScripting}
 use Rattle.whole_script.specs.Wholes.{AsksThere, Comes, GoesThere, PlaysThere}
 use Rattle.net_base.proofs.Members.{append_one, none_is}
 
@@ -31,21 +31,21 @@ use Rattle.net_base.proofs.Members.{append_one, none_is}
 abbrev Later : Type 0
 Later = Names → List Reply → Play
 
-head_then : (said : List Reply) (p : Play) (later : Later) (ask : Ask) → head p ≡ Some ask → head (then_play said p later) ≡ Some ask
+head_then : (said : List Reply) (p : Play) (later : Later) (ask : Ask) → head p ≡ Some ask → head (play_behind said p later) ≡ Some ask
 head_then said (Asks a e next) later ask is = is
 head_then said (Ends names) later ask is = absurd (none-some ask is)
 
-fits_then : (said : List Reply) (p : Play) (later : Later) (ask : Ask) (r : Reply) → head p ≡ Some ask → fits_play (then_play said p later) r ≡ true → fits_play p r ≡ true
+fits_then : (said : List Reply) (p : Play) (later : Later) (ask : Ask) (r : Reply) → head p ≡ Some ask → fits_play (play_behind said p later) r ≡ true → fits_play p r ≡ true
 fits_then said (Asks a e next) later ask r is fit = fit
 fits_then said (Ends names) later ask r is fit = absurd (none-some ask is)
 
-follow_then : (said : List Reply) (p : Play) (later : Later) (ask : Ask) (r : Reply) → head p ≡ Some ask → follow (then_play said p later) r ≡ then_play (said ++ r ∷ []) (follow p r) later
+follow_then : (said : List Reply) (p : Play) (later : Later) (ask : Ask) (r : Reply) → head p ≡ Some ask → follow (play_behind said p later) r ≡ play_behind (said ++ r ∷ []) (follow p r) later
 follow_then said (Asks a e next) later ask r is = refl
 follow_then said (Ends names) later ask r is = absurd (none-some ask is)
 
 -- The next request.
 
-asks_then : (h : ℕ) (names : Names) (o : Option Request) (said : List Reply) (p : Play) (later : Later) → is_none o ≡ false → Heads h names o p → Heads h names o (then_play said p later)
+asks_then : (h : ℕ) (names : Names) (o : Option Request) (said : List Reply) (p : Play) (later : Later) → is_none o ≡ false → Heads h names o p → Heads h names o (play_behind said p later)
 asks_then h names None said p later is heads = absurd (true≢false is)
 asks_then h names (Some q) said p later is heads = (heads.0, head_then said p later heads.0 heads.1, heads.2)
 
@@ -79,11 +79,11 @@ ended_play h names t p stands is = subst (λ (o : Option Request). Heads h names
 moves_by : (h n : ℕ) (names : Names) (left : Left) (t : StepTask) (behind : List Step) (p : Play) (s : Step) (said : List Reply) → step.StandsFor h names t p
     → t ≡ step.after_all (step.begun left s) said → step.leaves t left ≡ left_after left s said
     → (through : Bool) → is_none (step.asks t names) ≡ through
-    → StandsFor h names (goes_on n left t behind through) (then_play said p (plays_behind h behind left s))
+    → StandsFor h names (step_goes_on n left t behind through) (play_behind said p (plays_behind h behind left s))
 moves_by h n names left t behind p s said stands told leaves false is =
     record { step_is = s; said = said; told = told; step_play = p; stands_for = stands; asks_on = is; play_is = refl }
 moves_by h n names left t behind p s said stands told leaves true is =
-    subst (λ (x : Play). StandsFor h names (begun_at (n + 1) (step.leaves t left) behind) (then_play said x (plays_behind h behind left s))) (sym (ended_play h names t p stands is))
+    subst (λ (x : Play). StandsFor h names (begun_at (n + 1) (step.leaves t left) behind) (play_behind said x (plays_behind h behind left s))) (sym (ended_play h names t p stands is))
     (subst (λ (l : Left). StandsFor h names (begun_at (n + 1) (step.leaves t left) behind) (plays_of h behind (record { names = names; left = l }))) leaves
     (begins h (n + 1) names (step.leaves t left) behind stands.0))
 
@@ -96,7 +96,7 @@ moves_so h names (AtStep n left t behind) p q r at asked fit =
     let later = plays_behind h behind left at.step_is in
     let heads : Heads h names (Some q) at.step_play = step_heads h names t at.step_play q at.stands_for asked in
     let fits_step : fits_play at.step_play r ≡ true = fits_then at.said at.step_play later heads.0 r heads.1 (subst (λ (x : Play). fits_play x r ≡ true) at.play_is fit) in
-    let is : follow p r ≡ then_play (at.said ++ r ∷ []) (follow at.step_play r) later = ap (λ (x : Play). follow x r) at.play_is ∙ follow_then at.said at.step_play later heads.0 r heads.1 in
+    let is : follow p r ≡ play_behind (at.said ++ r ∷ []) (follow at.step_play r) later = ap (λ (x : Play). follow x r) at.play_is ∙ follow_then at.said at.step_play later heads.0 r heads.1 in
     let told : step.after t r ≡ step.after_all (step.begun left at.step_is) (at.said ++ r ∷ []) = ap (λ (u : StepTask). step.after u r) at.told ∙ leaving.after_one (step.begun left at.step_is) at.said r in
     subst (λ (x : Play). StandsFor h (settled names q r) (after (AtStep n left t behind) r) x) (sym is)
     (moves_by h n (settled names q r) left (step.after t r) behind (follow at.step_play r) at.step_is (at.said ++ r ∷ [])
@@ -128,15 +128,15 @@ plays_on zone s rs names t q ask r at asked is fit =
       play = follow at.play r;
       stands_for = moves_so s.host names t at.play q r at.stands_for asked fits_it;
       continues = continues_on zone s rs at.play r at.continues;
-      counts = λ more fit_more. subst (λ (xs : List Reply). finished_in (after_all (after t r) more) ≡ finished_by zone xs s) (sym (append_one rs r more)) (at.counts (r ∷ more) (fits_it, fit_more));
+      counts = λ more fit_more. subst (λ (xs : List Reply). finished_in (task_after_all (after t r) more) ≡ finished_by zone xs s) (sym (append_one rs r more)) (at.counts (r ∷ more) (fits_it, fit_more));
     }
 
 -- where the script is played, it goes on there
-pub plays_there : PlaysThere Scripting Goes Plays
+pub plays_there : PlaysThere Scripting GoesScripting Plays
 plays_there zone s rs names t at = (refl, at)
 
 -- what it asks is what comes next in its place
-pub asks_there : AsksThere Scripting asks Goes
+pub asks_there : AsksThere Scripting asks GoesScripting
 asks_there own zone s rs names t goes =
     subst (λ (o : Option Asking). Comes s.host names (asks t names) (place_next o zone s rs)) (sym goes.0)
     (by_heads (asks t names) (asks_so s.host names t goes.1.play goes.1.stands_for))
@@ -149,5 +149,5 @@ asks_there own zone s rs names t goes =
     by_heads (Some q) heads = next_is ∙ (heads.1 ∙ sym heads.2)
 
 -- and it goes on there
-pub goes_there : GoesThere Scripting asks after Goes
+pub goes_there : GoesThere Scripting asks after GoesScripting
 goes_there own zone s rs names t q ask r goes asked is fit = (goes.0, plays_on zone s rs names t q ask r goes.1 asked is fit)

@@ -55,31 +55,31 @@ first_asked left None names = None
 first_asked left (Some s) names = step.asks (step.begun left s) names
 
 -- a step has a request, whatever the names
-abbrev pub GoesOn : StepTask → Type 0
-GoesOn t = (names : Names) → is_none (step.asks t names) ≡ false
+abbrev pub HasRequest : StepTask → Type 0
+HasRequest t = (names : Names) → is_none (step.asks t names) ≡ false
 
 -- a step that has begun is one of those that are to come, and isn't through
-abbrev pub Kept : ℕ → Option StepTask → List Step → Type 0
-Kept n t steps = IfSome t (λ (x : StepTask). (n < length steps) × GoesOn x)
+abbrev pub KeptStep : ℕ → Option StepTask → List Step → Type 0
+KeptStep n t steps = IfSome t (λ (x : StepTask). (n < length steps) × HasRequest x)
 
 -- a step that is through is finished and leaves what it leaves, and the next one begins
-abbrev pub goes_on : ℕ → Left → StepTask → List Step → Bool → Scripting
-goes_on n left t behind false = AtStep n left t behind
-goes_on n left t behind true = begun_at (n + 1) (step.leaves t left) behind
+abbrev pub step_goes_on : ℕ → Left → StepTask → List Step → Bool → Scripting
+step_goes_on n left t behind false = AtStep n left t behind
+step_goes_on n left t behind true = begun_at (n + 1) (step.leaves t left) behind
 
 -- the task after a reply; whether a step is through doesn't hang on the names
 abbrev pub after : Scripting → Reply → Scripting
-after (AtStep n left t behind) r = goes_on n left (step.after t r) behind (is_none (step.asks (step.after t r) (no_names [])))
+after (AtStep n left t behind) r = step_goes_on n left (step.after t r) behind (is_none (step.asks (step.after t r) (no_names [])))
 after (AtEnd n left) r = AtEnd n left
 
 -- the step that has begun, if one has, after a reply
-abbrev pub heard : Option StepTask → Reply → Option StepTask
-heard None r = None
-heard (Some t) r = Some (step.after t r)
+abbrev pub heard_in_step : Option StepTask → Reply → Option StepTask
+heard_in_step None r = None
+heard_in_step (Some t) r = Some (step.after t r)
 
 -- the step after a reply, which begins if it hasn't
-abbrev pub told_by : Left → Option StepTask → Option Step → Reply → Option StepTask
-told_by left t o r = heard (begun_by left t o) r
+abbrev pub told_by_task : Left → Option StepTask → Option Step → Reply → Option StepTask
+told_by_task left t o r = heard_in_step (begun_by left t o) r
 
 -- a step has begun and is through
 abbrev pub is_played : Option StepTask → Names → Bool
@@ -94,14 +94,14 @@ left_by (Some t) left = step.left_by t left
 -- The play that it stands for.
 
 -- a play, after these replies to its events, and then the one that begins with the names that it leaves and all its replies
-abbrev pub then_play : List Reply → Play → (Names → List Reply → Play) → Play
-then_play said (Asks a e next) later = Asks a e (λ (r : Reply). then_play (said ++ r ∷ []) (next r) later)
-then_play said (Ends names) later = later names said
+abbrev pub play_behind : List Reply → Play → (Names → List Reply → Play) → Play
+play_behind said (Asks a e next) later = Asks a e (λ (r : Reply). play_behind (said ++ r ∷ []) (next r) later)
+play_behind said (Ends names) later = later names said
 
 -- the plays of these steps, one after another, where this is kept
 abbrev pub plays_of : ℕ → List Step → Holds → Play
 plays_of h [] k = Ends k.names
-plays_of h (s ∷ ss) k = then_play [] (step_play h k s) (λ (names : Names) (rs : List Reply). plays_of h ss (kept_after k s names rs))
+plays_of h (s ∷ ss) k = play_behind [] (step_play h k s) (λ (names : Names) (rs : List Reply). plays_of h ss (kept_after k s names rs))
 
 -- the plays behind a step, where this was left before it
 abbrev pub plays_behind : ℕ → List Step → Left → Step → Names → List Reply → Play
@@ -116,7 +116,7 @@ pub record InStep (h : ℕ) (names : Names) (left : Left) (t : StepTask) (behind
   pub step_play : Play
   pub stands_for : step.StandsFor h names t step_play
   pub asks_on : is_none (step.asks t names) ≡ false
-  pub play_is : p ≡ then_play said step_play (plays_behind h behind left step_is)
+  pub play_is : p ≡ play_behind said step_play (plays_behind h behind left step_is)
 
 -- on this host, under these names
 abbrev pub StandsFor : ℕ → Names → Scripting → Play → Type 0
@@ -126,9 +126,9 @@ StandsFor h names (AtEnd n left) p = p ≡ Ends names
 -- The script that it plays.
 
 -- the task after these replies
-abbrev pub after_all : Scripting → List Reply → Scripting
-after_all t [] = t
-after_all t (r ∷ rs) = after_all (after t r) rs
+abbrev pub task_after_all : Scripting → List Reply → Scripting
+task_after_all t [] = t
+task_after_all t (r ∷ rs) = task_after_all (after t r) rs
 
 -- each of these replies is one that the play's event can have
 abbrev pub AllFit : Play → List Reply → Type 0
@@ -141,8 +141,8 @@ pub record Plays (zone : Tuples) (s : Script) (rs : List Reply) (names : Names) 
   pub play : Play
   pub stands_for : StandsFor s.host names t play
   pub continues : Continues zone s rs play
-  pub counts : (more : List Reply) → AllFit play more → finished_in (after_all t more) ≡ finished_by zone (rs ++ more) s
+  pub counts : (more : List Reply) → AllFit play more → finished_in (task_after_all t more) ≡ finished_by zone (rs ++ more) s
 
 -- it goes on in the place of the script where that is played there
-abbrev pub Goes : Option Asking → Tuples → Script → List Reply → Names → Scripting → Type 0
-Goes own zone s rs names t = (own ≡ None) × Plays zone s rs names t
+abbrev pub GoesScripting : Option Asking → Tuples → Script → List Reply → Names → Scripting → Type 0
+GoesScripting own zone s rs names t = (own ≡ None) × Plays zone s rs names t

@@ -24,7 +24,7 @@ impl<T: OwnTask> WholeTask for PlaceTask<'_, T> {
 
     ghost Goes = { spec.Goes T.asks T.after T.Keeps };
 
-    ghost Plays = { spec.Plays };
+    ghost Plays = { spec.PlaysPlace };
 
     ghost asks_there = { laws.asks_there T.asks T.after T.Keeps T.keeps_on };
 

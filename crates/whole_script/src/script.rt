@@ -29,13 +29,13 @@ pub struct ScriptTask<'a> {
 
 impl<'a> Model for ScriptTask<'a> {
     ghost use Rattle.std.specs.Prelude.{drop};
-    ghost use Rattle.whole_script.specs.ScriptTasks.{Kept, Scripting, progress};
+    ghost use Rattle.whole_script.specs.ScriptTasks.{KeptStep, Scripting, progress};
 
     ghost Value = { Scripting };
 
     ghost view = { λ s. progress s.finished s.left s.task (drop s.finished s.steps.now) };
 
-    ghost invariant = { λ s. Kept s.finished s.task s.steps.now };
+    ghost invariant = { λ s. KeptStep s.finished s.task s.steps.now };
 }
 
 impl<'a> ScriptTask<'a> {
@@ -123,7 +123,7 @@ impl WholeTask for ScriptTask<'_> {
 
     ghost after = { spec.after };
 
-    ghost Goes = { spec.Goes };
+    ghost Goes = { spec.GoesScripting };
 
     ghost Plays = { spec.Plays };
 
@@ -175,10 +175,10 @@ fn take_reply(
     reply: Reply,
 ) -> Result<bool, AllocError>
     ensures through { IfOk result (λ through. (names : AnyNames)
-        → through ≡ spec.is_played (spec.told_by left.old task.old (slice_get steps.now finished) reply) names) }
+        → through ≡ spec.is_played (spec.told_by_task left.old task.old (slice_get steps.now finished) reply) names) }
     ensures goes_on { IfOk result (λ through. through ≡ false
-        → task.new ≡ spec.told_by left.old task.old (slice_get steps.now finished) reply) }
-    ensures left { OnOk result (left.new ≡ spec.left_by (spec.told_by left.old task.old (slice_get steps.now finished) reply) left.old) }
+        → task.new ≡ spec.told_by_task left.old task.old (slice_get steps.now finished) reply) }
+    ensures left { OnOk result (left.new ≡ spec.left_by (spec.told_by_task left.old task.old (slice_get steps.now finished) reply) left.old) }
     ensures err { OnErr result (spec.begun_by left.new task.new (slice_get steps.now finished)
         ≡ spec.begun_by left.old task.old (slice_get steps.now finished)) }
     ensures kept { OnErr result (left.new ≡ left.old) }
@@ -194,9 +194,9 @@ fn take_reply(
 // Whether no step has begun, and the one behind so many is seen to be through after this reply.
 fn ends_at_once(steps: &[Step], finished: usize, task: &Option<StepTask>, reply: &Reply) -> bool
     ensures through { result ≡ true → (left : AnyLeft) (names : AnyNames)
-        → spec.is_played (spec.told_by left task.now (slice_get steps.now finished) reply.now) names ≡ true }
+        → spec.is_played (spec.told_by_task left task.now (slice_get steps.now finished) reply.now) names ≡ true }
     ensures keeps { result ≡ true → (left : AnyLeft)
-        → spec.left_by (spec.told_by left task.now (slice_get steps.now finished) reply.now) left ≡ left }
+        → spec.left_by (spec.told_by_task left task.now (slice_get steps.now finished) reply.now) left ≡ left }
 {
     match task {
         Some(_) => false,
@@ -208,9 +208,9 @@ fn ends_at_once(steps: &[Step], finished: usize, task: &Option<StepTask>, reply:
 #[tactic(auto, using(crate::proofs::Played::ends_step, crate::proofs::Played::ends_keep))]
 fn ends_first(steps: &[Step], finished: usize, reply: &Reply) -> bool
     ensures through { result ≡ true → (left : AnyLeft) (names : AnyNames)
-        → spec.is_played (spec.told_by left None (slice_get steps.now finished) reply.now) names ≡ true }
+        → spec.is_played (spec.told_by_task left None (slice_get steps.now finished) reply.now) names ≡ true }
     ensures keeps { result ≡ true → (left : AnyLeft)
-        → spec.left_by (spec.told_by left None (slice_get steps.now finished) reply.now) left ≡ left }
+        → spec.left_by (spec.told_by_task left None (slice_get steps.now finished) reply.now) left ≡ left }
 {
     let Some(step) = steps.get(finished) else {
         return false;
@@ -225,8 +225,8 @@ fn hear(
     left: &mut Left,
     reply: Reply,
 ) -> Result<(), AllocError>
-    ensures ok { OnOk result (task.new ≡ spec.heard task.old reply) }
-    ensures left { OnOk result (left.new ≡ spec.left_by (spec.heard task.old reply) left.old) }
+    ensures ok { OnOk result (task.new ≡ spec.heard_in_step task.old reply) }
+    ensures left { OnOk result (left.new ≡ spec.left_by (spec.heard_in_step task.old reply) left.old) }
     ensures err { OnErr result ((task.new ≡ task.old) × (left.new ≡ left.old)) }
 {
     match task {

@@ -1,7 +1,7 @@
 //! Worked calls: an end alone, and two ends with a network between them that loses, repeats and delays.
 ghost use Rattle.std.specs.Prelude.{◌<◌, ◌^◌, IsTrue};
 ghost use Rattle.il_machine.specs.declared.ask.Ask.TheVariants as ask;
-ghost use Rattle.il_machine.specs.Stands.{StandsForSome, is_ready};
+ghost use Rattle.il_machine.specs.Stands.{StandsForSomeEnd, is_asked_ready};
 
 mod alone;
 mod closing;
@@ -89,7 +89,7 @@ impl Ends {
 // Whether what is asked for has an answer, as `ready` tells it.
 #[tactic(auto, unfolding(il_machine::specs::Stands::StandsFor))]
 fn is_ready(end: &IlEnd, ask: Ask) -> bool
-    ensures { IsTrue result → StandsForSome end.now (λ e. IsTrue (is_ready ask e)) }
+    ensures { IsTrue result → StandsForSomeEnd end.now (λ e. IsTrue (is_asked_ready ask e)) }
 {
     end.is_short() && end.ready(ask)
 }

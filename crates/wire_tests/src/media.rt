@@ -1,6 +1,6 @@
 //! Packets on a medium: the order in which they come, the mtu, and the fates of frames.
 ghost use Rattle.std.specs.Prelude.{◌+◌, ◌≤◌};
-ghost use Rattle.medium.specs.OnFates.{AreLines};
+ghost use Rattle.medium.specs.OnFates.{AreFateLines};
 
 use medium::{Laid, Medium};
 use net_base::{
@@ -33,7 +33,7 @@ fn fated(
     fates: Fates,
 ) -> Result<Medium, AllocError>
     requires rates { loss + twice + later ≤ 1000 }
-    requires lines { AreLines fates }
+    requires lines { AreFateLines fates }
 {
     let spec = MediumSpec {
         number: 0,
@@ -105,7 +105,7 @@ fn lines_give(
     expected: &[u64],
 ) -> Result<bool, AllocError>
     requires rates { loss ≤ 1000 }
-    requires lines { AreLines lines.now }
+    requires lines { AreFateLines lines.now }
 {
     let lines = Sequence::from_vec(Vec::from_slice(alloc, lines)?);
     let mut medium = fated(alloc, loss, 0, 0, lines)?;

@@ -8,7 +8,7 @@ use Rattle.net_base.specs.declared.packet.Packet.{Packet}
 use Rattle.wire_text.specs.Ipv4.{Ipv4, IsHeader, SpellsIpv4, flagged_bytes, payload_of}
 use Rattle.wire_text.specs.UdpWire.{SpellsUdp, udp_bytes, dport_of, udp_text}
 use Rattle.wire_text.specs.IlWire.{SpellsIl, il_bytes, il_dport, message_of}
-use Rattle.wire_text.specs.Datagram.{IsBody, IsPacket, header_for, body_bytes, spelling, between, packet_in, packet_of}
+use Rattle.wire_text.specs.Datagram.{IsBody, IsPacket, header_for, body_bytes, packet_spelling, between, headed_packet, datagram_packet}
 use Rattle.wire_text.proofs.Ipv4Laws.{header_again, payload_again}
 use Rattle.wire_text.proofs.UdpLaws.{spells_fields}
 use Rattle.wire_text.proofs.IlLaws.{message_again, sport_again, dport_again}
@@ -33,8 +33,8 @@ body_fits : (src dst : Addr) (b : Body) → IsBody b → 20 + length (body_bytes
 body_fits src dst (body.Il m) p = omega (arith, p.1, il_length_is src.port dst.port m)
 body_fits src dst (body.Udp text) p = omega (arith, p.1, udp_length_is src dst text)
 
-spells_ipv4 : (src dst : Addr) (ttl tos : ℕ) (b : Body) → IsPacket (made src dst ttl tos b) → SpellsIpv4 (header_for (made src dst ttl tos b)) (body_bytes src dst b) (spelling (made src dst ttl tos b))
-unfolding spelling
+spells_ipv4 : (src dst : Addr) (ttl tos : ℕ) (b : Body) → IsPacket (made src dst ttl tos b) → SpellsIpv4 (header_for (made src dst ttl tos b)) (body_bytes src dst b) (packet_spelling (made src dst ttl tos b))
+unfolding packet_spelling
 spells_ipv4 src dst ttl tos b p = record {
   header = header_fits src dst ttl tos b p;
   fits = body_fits src dst b p.body;
@@ -43,7 +43,7 @@ spells_ipv4 src dst ttl tos b p = record {
 }
 
 -- the bytes of a packet spell its header and its body
-pub spells_datagram : (p : Packet) → IsPacket p → SpellsIpv4 (header_for p) (body_bytes p.src p.dst p.body) (spelling p)
+pub spells_datagram : (p : Packet) → IsPacket p → SpellsIpv4 (header_for p) (body_bytes p.src p.dst p.body) (packet_spelling p)
 spells_datagram p h = spells_ipv4 p.src p.dst p.ttl p.tos p.body h
 
 -- the bytes of an IL body spell its message
@@ -65,7 +65,7 @@ spells_udp_body src dst text s d p = record {
   spelled = inl refl;
 }
 
-il_again : (src dst : Addr) (ttl tos : ℕ) (m : IlMsg) → IsPacket (made src dst ttl tos (body.Il m)) → packet_in (header_for (made src dst ttl tos (body.Il m))) (il_bytes src.port dst.port m) ≡ made src dst ttl tos (body.Il m)
+il_again : (src dst : Addr) (ttl tos : ℕ) (m : IlMsg) → IsPacket (made src dst ttl tos (body.Il m)) → headed_packet (header_for (made src dst ttl tos (body.Il m))) (il_bytes src.port dst.port m) ≡ made src dst ttl tos (body.Il m)
 il_again src dst ttl tos m p =
     let h : Ipv4 = header_for (made src dst ttl tos (body.Il m)) in
     let bytes : List ℕ = il_bytes src.port dst.port m in
@@ -73,7 +73,7 @@ il_again src dst ttl tos m p =
     ∙ ap (λ (n : ℕ). between h src.port n (body.Il (message_of bytes))) (dport_again src.port dst.port m p.dst.port)
     ∙ ap (λ (x : IlMsg). between h src.port dst.port (body.Il x)) (message_again src.port dst.port m p.body.0)
 
-udp_again : (src dst : Addr) (ttl tos : ℕ) (text : List ℕ) → IsPacket (made src dst ttl tos (body.Udp text)) → packet_in (header_for (made src dst ttl tos (body.Udp text))) (udp_bytes src dst text) ≡ made src dst ttl tos (body.Udp text)
+udp_again : (src dst : Addr) (ttl tos : ℕ) (text : List ℕ) → IsPacket (made src dst ttl tos (body.Udp text)) → headed_packet (header_for (made src dst ttl tos (body.Udp text))) (udp_bytes src dst text) ≡ made src dst ttl tos (body.Udp text)
 udp_again src dst ttl tos text p =
     let h : Ipv4 = header_for (made src dst ttl tos (body.Udp text)) in
     let bytes : List ℕ = udp_bytes src dst text in
@@ -82,19 +82,19 @@ udp_again src dst ttl tos text p =
     ∙ ap (λ (n : ℕ). between h src.port n (body.Udp (udp_text bytes))) fields.1
     ∙ ap (λ (x : List ℕ). between h src.port dst.port (body.Udp x)) fields.2
 
-body_again : (src dst : Addr) (ttl tos : ℕ) (b : Body) → IsPacket (made src dst ttl tos b) → packet_in (header_for (made src dst ttl tos b)) (body_bytes src dst b) ≡ made src dst ttl tos b
+body_again : (src dst : Addr) (ttl tos : ℕ) (b : Body) → IsPacket (made src dst ttl tos b) → headed_packet (header_for (made src dst ttl tos b)) (body_bytes src dst b) ≡ made src dst ttl tos b
 body_again src dst ttl tos (body.Il m) p = il_again src dst ttl tos m p
 body_again src dst ttl tos (body.Udp text) p = udp_again src dst ttl tos text p
 
-parts_again : (src dst : Addr) (ttl tos : ℕ) (b : Body) → IsPacket (made src dst ttl tos b) → packet_of (spelling (made src dst ttl tos b)) ≡ made src dst ttl tos b
-unfolding spelling packet_of
+parts_again : (src dst : Addr) (ttl tos : ℕ) (b : Body) → IsPacket (made src dst ttl tos b) → datagram_packet (packet_spelling (made src dst ttl tos b)) ≡ made src dst ttl tos b
+unfolding packet_spelling datagram_packet
 parts_again src dst ttl tos b p =
     let h : Ipv4 = header_for (made src dst ttl tos b) in
     let bytes : List ℕ = body_bytes src dst b in
-    ap (λ (x : Ipv4). packet_in x (payload_of (flagged_bytes false h bytes))) (header_again false h bytes (header_fits src dst ttl tos b p))
-    ∙ ap (packet_in h) (payload_again false h bytes)
+    ap (λ (x : Ipv4). headed_packet x (payload_of (flagged_bytes false h bytes))) (header_again false h bytes (header_fits src dst ttl tos b p))
+    ∙ ap (headed_packet h) (payload_again false h bytes)
     ∙ body_again src dst ttl tos b p
 
 -- what was spelled reads back
-pub packet_again : (p : Packet) → IsPacket p → packet_of (spelling p) ≡ p
+pub packet_again : (p : Packet) → IsPacket p → datagram_packet (packet_spelling p) ≡ p
 packet_again p h = parts_again p.src p.dst p.ttl p.tos p.body h

@@ -6,7 +6,7 @@ use Rattle.net_base.specs.declared.il.IlKind.TheVariants as kind
 use Rattle.net_base.specs.declared.il.IlMsg.{IlMsg}
 use Rattle.net_base.specs.Bytes.{word_at, blanked}
 use Rattle.wire_text.specs.Sum.{sum_of}
-use Rattle.wire_text.specs.IlWire.{IsMessage, SpellsIl, type_number, il_with, il_bytes, il_sum, il_length, type_field, kind_of, il_sport, il_dport, message_of}
+use Rattle.wire_text.specs.IlWire.{IsMessage, SpellsIl, type_number, il_with, il_bytes, il_sum, il_length, il_type_field, kind_of, il_sport, il_dport, message_of}
 use Rattle.wire_text.proofs.WireNumbers.{IsBytes, word_again, long_again, word_high, word_low, long_0, long_1, long_2, long_3, items, by_items}
 use Rattle.wire_text.proofs.WireSums.{sum_of-fits}
 
@@ -17,7 +17,7 @@ pub record IsSoundIl (bytes : List ℕ) : Type 0 where
   pub long : 18 ≤ length bytes
   pub summed : word_at 0 bytes ≡ il_sum bytes
   pub whole : il_length bytes ≡ length bytes
-  pub known : type_field bytes ≤ 6
+  pub known : il_type_field bytes ≤ 6
 
 kind_again : (k : IlKind) → kind_of (type_number k) ≡ k
 kind_again kind.Sync = refl

@@ -31,8 +31,8 @@ body_bytes src dst (body.Il m) = il_bytes src.port dst.port m
 body_bytes src dst (body.Udp text) = udp_bytes src dst text
 
 -- the packet as bytes
-unfoldable pub spelling : Packet → List ℕ
-spelling p = ipv4_bytes (header_for p) (body_bytes p.src p.dst p.body)
+unfoldable pub packet_spelling : Packet → List ℕ
+packet_spelling p = ipv4_bytes (header_for p) (body_bytes p.src p.dst p.body)
 
 -- an address whose numbers fit their fields
 pub record IsAddress (a : Addr) : Type 0 where
@@ -73,9 +73,9 @@ abbrev pub udp_packet : Ipv4 → List ℕ → Packet
 udp_packet h bytes = between h (sport_of bytes) (dport_of bytes) (body.Udp (udp_text bytes))
 
 -- the packet of this header, from the bytes after it
-abbrev pub packet_in : Ipv4 → List ℕ → Packet
-packet_in h bytes = if h.proto == 40 then il_packet h bytes else udp_packet h bytes
+abbrev pub headed_packet : Ipv4 → List ℕ → Packet
+headed_packet h bytes = if h.proto == 40 then il_packet h bytes else udp_packet h bytes
 
 -- the packet in the bytes of a datagram of IL or UDP
-unfoldable pub packet_of : List ℕ → Packet
-packet_of bytes = packet_in (header_of bytes) (payload_of bytes)
+unfoldable pub datagram_packet : List ℕ → Packet
+datagram_packet bytes = headed_packet (header_of bytes) (payload_of bytes)

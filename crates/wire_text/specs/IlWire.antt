@@ -57,8 +57,8 @@ il_sum bytes = sum_of (blanked 0 bytes)
 abbrev pub il_length : List ℕ → ℕ
 il_length bytes = word_at 2 bytes
 
-abbrev pub type_field : List ℕ → ℕ
-type_field bytes = slice_index bytes 4
+abbrev pub il_type_field : List ℕ → ℕ
+il_type_field bytes = slice_index bytes 4
 
 -- the type with this number, of those up to six
 abbrev pub kind_of : ℕ → IlKind
@@ -80,7 +80,7 @@ il_dport bytes = word_at 8 bytes
 -- the message in bytes of a known type
 abbrev pub message_of : List ℕ → IlMsg
 message_of bytes = record {
-  kind = kind_of (type_field bytes);
+  kind = kind_of (il_type_field bytes);
   spec = slice_index bytes 5;
   id = long_at 10 bytes;
   ack = long_at 14 bytes;

@@ -64,8 +64,8 @@ abbrev pub version : List ℕ → ℕ
 version bytes = slice_index bytes 0 / 16
 
 -- the length of the header, in words of 32 bits
-abbrev pub header_words : List ℕ → ℕ
-header_words bytes = slice_index bytes 0 % 16
+abbrev pub length_words : List ℕ → ℕ
+length_words bytes = slice_index bytes 0 % 16
 
 abbrev pub total_length : List ℕ → ℕ
 total_length bytes = word_at 2 bytes

@@ -7,10 +7,10 @@ use Rattle.net_base.specs.Net.{opening_net}
 use Rattle.net_base.specs.Number.{number}
 use Rattle.worked_cases.specs.Rounds.{rounds_to}
 use Rattle.worked_worlds.specs.WorkedIl.{lossy_world, lossy_history}
-use Rattle.worked_worlds.specs.WorkedRuns.{callers_of, moves, nobody_world}
+use Rattle.worked_worlds.specs.WorkedRuns.{who_recorded, moves, nobody_world}
 use Rattle.worked_worlds.specs.WorkedUdp.{datagram_world, datagram_history}
 
-pub lossy_passed : callers_of (rounds_to 7 60 lossy_world (opening_net lossy_world)).past ≡ callers_of (take 19 lossy_history) ++ (2 ∷ 2 ∷ 2 ∷ [])
+pub lossy_passed : who_recorded (rounds_to 7 60 lossy_world (opening_net lossy_world)).past ≡ who_recorded (take 19 lossy_history) ++ (2 ∷ 2 ∷ 2 ∷ [])
 unfolding number digits state_after
 lossy_passed = refl
 

@@ -17,14 +17,14 @@ use Rattle.net_base.specs.Next.{by, next_of}
 use Rattle.net_base.specs.Steps.{Ask}
 
 -- the first duty's event, or the caller's next one where none is owed
-abbrev pub asked : World → Net → ℕ → List Duty → Option Ask
-asked w net c [] = next_of w (caller_of w c) net.past c
-asked w net c (d ∷ ds) = Some (record { actor = d.actor; event = d.event })
+abbrev pub round_asked : World → Net → ℕ → List Duty → Option Ask
+round_asked w net c [] = next_of w (caller_of w c) net.past c
+round_asked w net c (d ∷ ds) = Some (record { actor = d.actor; event = d.event })
 
 -- the entry of a step
-abbrev pub entry_of : Net → ℕ → Ask → Option (Step Actor) → Option Entry
-entry_of net c ask None = None
-entry_of net c ask (Some s) =
+abbrev pub round_entry : Net → ℕ → Ask → Option (Step Actor) → Option Entry
+round_entry net c ask None = None
+round_entry net c ask (Some s) =
     Some (record {
       actor = ask.actor;
       caller = c;
@@ -36,40 +36,40 @@ entry_of net c ask (Some s) =
       ended = (shown_of s.outcome).ended;
     })
 
-abbrev pub recorded : World → Net → ℕ → Option Ask → Option Entry
-recorded w net c None = None
-recorded w net c (Some ask) =
-    entry_of net c ask (actor_step w ask.actor (net.actors ask.actor) net.moment (record { event = ask.event; with = with_of (net.owed c) }))
+abbrev pub round_recorded : World → Net → ℕ → Option Ask → Option Entry
+round_recorded w net c None = None
+round_recorded w net c (Some ask) =
+    round_entry net c ask (actor_step w ask.actor (net.actors ask.actor) net.moment (record { event = ask.event; with = with_of (net.owed c) }))
 
-abbrev pub with_entry : World → Net → Option Entry → Net
-with_entry w net None = net
-with_entry w net (Some x) = next_net w net x
+abbrev pub net_with_entry : World → Net → Option Entry → Net
+net_with_entry w net None = net
+net_with_entry w net (Some x) = next_net w net x
 
 -- what a caller records on its turn, where it may record so many entries
 abbrev pub plays : ℕ → World → Net → ℕ → Option Entry
-plays most w net c = if nat_lt (length (by net.past c)) most then recorded w net c (asked w net c (net.owed c)) else None
+plays most w net c = if nat_lt (length (by net.past c)) most then round_recorded w net c (round_asked w net c (net.owed c)) else None
 
 abbrev pub round : ℕ → World → List ℕ → Net → Net
 round most w [] net = net
-round most w (c ∷ cs) net = round most w cs (with_entry w net (plays most w net c))
+round most w (c ∷ cs) net = round most w cs (net_with_entry w net (plays most w net c))
 
 -- the clock moves
-abbrev pub moves : World → Net → Net
-moves w net = with_entry w net (recorded w net (clock_number w) (Some (record { actor = name.Clock; event = event.Move (target w net) })))
+abbrev pub round_moves : World → Net → Net
+round_moves w net = net_with_entry w net (round_recorded w net (clock_number w) (Some (record { actor = name.Clock; event = event.Move (target w net) })))
 
 -- after a round that recorded nothing the run is over where a caller is at its limit; else the clock moves, or the run is over
-abbrev pub goes_on : Bool → Bool → Bool → World → Net → Net → (Net → Net) → Net
-goes_on false is_limited may_move w before after rounds = rounds after
-goes_on true true may_move w before after rounds = before
-goes_on true false true w before after rounds = rounds (moves w before)
-goes_on true false false w before after rounds = before
+abbrev pub round_goes_on : Bool → Bool → Bool → World → Net → Net → (Net → Net) → Net
+round_goes_on false is_limited may_move w before after rounds = rounds after
+round_goes_on true true may_move w before after rounds = before
+round_goes_on true false true w before after rounds = rounds (round_moves w before)
+round_goes_on true false false w before after rounds = before
 
 -- at most so many rounds and moves, where a caller may record so many entries
 abbrev pub rounds_to : ℕ → ℕ → World → Net → Net
 rounds_to most zero w net = net
 rounds_to most (suc n) w net =
     let after = round most w (callers w) net in
-    goes_on (length after.past == length net.past) (limited_to most w net) (movable w net) w net after (rounds_to most n w)
+    round_goes_on (length after.past == length net.past) (limited_to most w net) (movable w net) w net after (rounds_to most n w)
 
 abbrev pub rounds : ℕ → World → Net → Net
 rounds n w net = rounds_to most_entries n w net

@@ -10,7 +10,7 @@ ghost use Rattle.worked_cases.specs.Rounds.{rounds, rounds_to, run_of};
 ghost use Rattle.worked_worlds.specs.WorkedFaults as fault;
 ghost use Rattle.worked_worlds.specs.WorkedFaults.{with_at};
 ghost use Rattle.worked_worlds.specs.WorkedIl.{lossy_world, lossy_history, calling, called, refused_world, refused_history};
-ghost use Rattle.worked_worlds.specs.WorkedRuns.{callers_of, moves, texts_read, kinds, data_ids, hello_world, early_close_world, repeated_world, wrapping_world, cut_world, nobody_world, lost_world, dropped_world, two_calls_world};
+ghost use Rattle.worked_worlds.specs.WorkedRuns.{who_recorded, moves, texts_read, kinds, data_ids, hello_world, early_close_world, repeated_world, wrapping_world, cut_world, nobody_world, lost_world, dropped_world, two_calls_world};
 ghost use Rattle.worked_worlds.specs.WorkedUdp.{datagram_world, datagram_history};
 
 /// A datagram that anna writes is read by helix, in 18 entries.
@@ -89,7 +89,7 @@ pub fn runs_are_as_worked()
 
 /// Where callers may record few entries, one that has so many is passed over, and the run ends as limited, where it could record more.
 pub fn small_limits_end_runs()
-    ensures passed { callers_of (rounds_to 7 60 lossy_world (opening_net lossy_world)).past ≡ callers_of (take 19 lossy_history) ++ (2 ∷ 2 ∷ 2 ∷ []) }
+    ensures passed { who_recorded (rounds_to 7 60 lossy_world (opening_net lossy_world)).past ≡ who_recorded (take 19 lossy_history) ++ (2 ∷ 2 ∷ 2 ∷ []) }
     ensures limited { limited_to 7 lossy_world (rounds_to 7 60 lossy_world (opening_net lossy_world)) ≡ true }
     ensures enough { (rounds_to 8 30 datagram_world (opening_net datagram_world)).past ≡ datagram_history }
     ensures enough_is_unlimited { limited_to 8 datagram_world (rounds_to 8 30 datagram_world (opening_net datagram_world)) ≡ false }

@@ -18,14 +18,14 @@ use Rattle.net_base.specs.Number.{number}
 use Rattle.net_base.specs.Scripts.{Kept, at_first}
 use Rattle.net_base.specs.World.{IsDatabase, IsWorld}
 use Rattle.net_base.specs.Written.{peer}
-use Rattle.import_law.specs.ImportLaw.{calls, of_steps, replies}
+use Rattle.import_law.specs.ImportLaw.{calls, of_steps, got_back}
 use Rattle.import_law.specs.Phases.{Reads, on_own}
 use Rattle.import_law.specs.Scripted.{is_importing, scripted}
-use Rattle.import_law.specs.Spans.{Span, numbered, own_of, spans}
+use Rattle.import_law.specs.Spans.{Span, entries_numbered, own_stamped, spans}
 use Rattle.import_law.specs.WorldImports.{AllExported, AllImported}
 use Rattle.worked_cases.proofs.Shared.{Follow, is_legal, legal_along}
 use Rattle.worked_worlds.specs.Worked.{small_bundle}
-use Rattle.worked_imports.specs.WorkedImport.{answers_attach, answers_version, asks_attach, asks_version, called, calling, carried_history, carried_world, exporter, importer}
+use Rattle.worked_imports.specs.WorkedImport.{answers_attach, answers_version, asks_attach, asks_version, helix_side, anna_side, carried_history, carried_world, exporter, importer}
 use Rattle.worked_imports.proofs.Asked.{stands}
 use Rattle.worked_imports.proofs.Deeds.{all_deeds, deeds}
 
@@ -74,37 +74,37 @@ carried_is_a_world = record {
   versions = All-from_recursion (λ (v : Version). IsDatabase v.db) carried_world.dbs ((small_bundle, refl, refl), tt);
 }
 
-pub calling_is_met : peer carried_world carried_history calling ≡ Some called
+pub calling_is_met : peer carried_world carried_history anna_side ≡ Some helix_side
 unfolding number digits state_after
 calling_is_met = refl
 
 -- anna's deeds
 
-near_deeds : deeds calling (numbered 0 carried_history) ≡ deeds calling (of_steps is_importing (spans (scripted (zone_of carried_world) importer) (own_of carried_history 0)))
+near_deeds : deeds anna_side (entries_numbered 0 carried_history) ≡ deeds anna_side (of_steps is_importing (spans (scripted (zone_of carried_world) importer) (own_stamped carried_history 0)))
 unfolding number digits state_after most_requests t_bytes r_bytes counted_at qid_at list_at many_at t_version t_attach t_at r_version r_attach r_at
 near_deeds = refl
 
-pub all_imported : AllImported carried_world carried_history 0 importer calling
-all_imported = all_deeds carried_history calling (of_steps is_importing (spans (scripted (zone_of carried_world) importer) (own_of carried_history 0))) near_deeds
+pub all_imported : AllImported carried_world carried_history 0 importer anna_side
+all_imported = all_deeds carried_history anna_side (of_steps is_importing (spans (scripted (zone_of carried_world) importer) (own_stamped carried_history 0))) near_deeds
 
-pub calls_are : calls carried_history 0 calling (scripted (zone_of carried_world) importer) is_importing ≡ asks_version ∷ asks_attach ∷ []
+pub calls_are : calls carried_history 0 anna_side (scripted (zone_of carried_world) importer) is_importing ≡ asks_version ∷ asks_attach ∷ []
 unfolding number digits state_after most_requests t_bytes r_bytes counted_at qid_at list_at many_at t_version t_attach t_at r_version r_attach r_at
 calls_are = refl
 
-pub replies_are : replies carried_history 0 calling (scripted (zone_of carried_world) importer) is_importing ≡ answers_version ∷ answers_attach ∷ []
+pub replies_are : got_back carried_history 0 anna_side (scripted (zone_of carried_world) importer) is_importing ≡ answers_version ∷ answers_attach ∷ []
 unfolding number digits state_after most_requests t_bytes r_bytes counted_at qid_at list_at many_at t_version t_attach t_at r_version r_attach r_at
 replies_are = refl
 
 -- helix's
 
 abbrev exporting : Span Kept Step
-exporting = unwrap_or (slice_get (spans (scripted (zone_of carried_world) exporter) (own_of carried_history 1)) 3) (record { step = step.Refresh; kept = at_first []; entries = [] })
+exporting = unwrap_or (slice_get (spans (scripted (zone_of carried_world) exporter) (own_stamped carried_history 1)) 3) (record { step = step.Refresh; kept = at_first []; entries = [] })
 
-far_deeds : deeds called (numbered 0 carried_history) ≡ deeds called (on_own (exported 1) (Reads (unheard exporting.kept.names)) exporting.entries)
+far_deeds : deeds helix_side (entries_numbered 0 carried_history) ≡ deeds helix_side (on_own (exported 1) (Reads (unheard exporting.kept.names)) exporting.entries)
 unfolding number digits state_after most_requests t_bytes r_bytes counted_at qid_at list_at many_at t_version t_attach t_at r_version r_attach r_at
 far_deeds = refl
 
-pub all_exported : AllExported carried_world carried_history 1 exporter called
+pub all_exported : AllExported carried_world carried_history 1 exporter helix_side
 unfolding number digits state_after most_requests t_bytes r_bytes counted_at qid_at list_at many_at t_version t_attach t_at r_version r_attach r_at
 all_exported = record {
   number = 3;
@@ -115,5 +115,5 @@ all_exported = record {
   mode = Both;
   bound = refl;
   here = refl;
-  all = all_deeds carried_history called (on_own (exported 1) (Reads (unheard exporting.kept.names)) exporting.entries) far_deeds;
+  all = all_deeds carried_history helix_side (on_own (exported 1) (Reads (unheard exporting.kept.names)) exporting.entries) far_deeds;
 }

@@ -23,8 +23,8 @@ use Rattle.net_base.specs.declared.timer.Timers.TheVariants.{Fixed}
 abbrev pub ip : ℕ → ℕ → ℕ → ℕ → ℕ
 ip a b c d = a * 16777216 + b * 65536 + c * 256 + d
 
-abbrev pub at : ℕ → ℕ → Addr
-at address port = record { ip = address; port = port }
+abbrev pub addr_at : ℕ → ℕ → Addr
+addr_at address port = record { ip = address; port = port }
 
 abbrev pub anna : ℕ
 anna = ip 135 104 9 6
@@ -32,8 +32,8 @@ anna = ip 135 104 9 6
 abbrev pub helix : ℕ
 helix = ip 135 104 9 31
 
-abbrev pub pair : Addr → Addr → Pair
-pair local remote = record { local = local; remote = remote }
+abbrev pub pair_between_them : Addr → Addr → Pair
+pair_between_them local remote = record { local = local; remote = remote }
 
 -- The database.
 
@@ -79,8 +79,8 @@ world end fates hosts scripts =
       dbs = record { moment = 0; db = tuples } ∷ [];
     }
 
-abbrev pub script : ℕ → List Step → Script
-script h steps = record { host = h; steps = steps }
+abbrev pub script_with : ℕ → List Step → Script
+script_with h steps = record { host = h; steps = steps }
 
 -- the text of the database
 abbrev pub small_bundle : List ℕ
@@ -94,8 +94,8 @@ small_bundle =
 -- Entries.
 
 -- an entry that nothing owed
-abbrev pub own : ℕ → ℕ → ActorName → Event → Reply → Entry
-own now c a e r = record { actor = a; caller = c; moment = now; event = e; cites = None; reply = r; emits = None; ended = false }
+abbrev pub unowed_entry : ℕ → ℕ → ActorName → Event → Reply → Entry
+unowed_entry now c a e r = record { actor = a; caller = c; moment = now; event = e; cites = None; reply = r; emits = None; ended = false }
 
 -- an entry that the entry s owed
 abbrev pub due : ℕ → ℕ → ActorName → ℕ → Event → Reply → Entry

@@ -16,13 +16,13 @@ use Rattle.net_base.specs.declared.world.HostSpec.{HostSpec}
 use Rattle.net_base.specs.declared.world.Step.{Step}
 use Rattle.net_base.specs.declared.world.Step.TheVariants as step
 use Rattle.net_base.specs.declared.world.World.{World}
-use Rattle.worked_worlds.specs.Worked.{anna, helix, host, script, world}
+use Rattle.worked_worlds.specs.Worked.{anna, helix, host, script_with, world}
 
 -- What is seen of a history.
 
 -- who records each entry
-abbrev pub callers_of : List Entry → List ℕ
-callers_of h = map (λ (x : Entry). x.caller) h
+abbrev pub who_recorded : List Entry → List ℕ
+who_recorded h = map (λ (x : Entry). x.caller) h
 
 -- the moments that the clock moves to
 abbrev pub moves : List Entry → List ℕ
@@ -86,7 +86,7 @@ abbrev read : ℕ → Step
 read count = step.Read (codes "e") count
 
 abbrev two_hosts : ℕ → List FateRange → List ℕ → List Step → List Step → World
-two_hosts end fates starts for_anna for_helix = world end fates (hosts starts) (script 0 (calls for_anna) ∷ script 1 (answers for_helix) ∷ [])
+two_hosts end fates starts for_anna for_helix = world end fates (hosts starts) (script_with 0 (calls for_anna) ∷ script_with 1 (answers for_helix) ∷ [])
 
 abbrev pub hello_world : World
 hello_world = two_hosts 60000 [] [] (write (codes "hello") ∷ step.Close (codes "d") ∷ []) (read 8192 ∷ read 8192 ∷ step.Close (codes "e") ∷ [])
@@ -112,7 +112,7 @@ abbrev pub cut_world : World
 cut_world = two_hosts 60000 [] [] (write (codes "hello") ∷ step.Close (codes "d") ∷ []) (read 2 ∷ read 8192 ∷ step.Close (codes "e") ∷ [])
 
 abbrev pub nobody_world : World
-nobody_world = world 60000 [] (hosts []) (script 0 (step.Until 10 ∷ step.Dial (codes "d") (codes "il!135.104.9.99!9fs") ∷ []) ∷ [])
+nobody_world = world 60000 [] (hosts []) (script_with 0 (step.Until 10 ∷ step.Dial (codes "d") (codes "il!135.104.9.99!9fs") ∷ []) ∷ [])
 
 -- From the fourth frame on all are lost, and anna writes more than her window holds.
 
@@ -128,11 +128,11 @@ lost_world = two_hosts 20000 (record { first = 4; last = 100000; fate = Lose } �
 abbrev pub dropped_world : World
 dropped_world =
     world 60000 [] (hosts [])
-    (script 0 (step.Open (codes "c") (codes "/net/udp/clone") None
+    (script_with 0 (step.Open (codes "c") (codes "/net/udp/clone") None
     ∷ step.Write (codes "c") (codes "connect 135.104.9.31!7 5000")
     ∷ step.Open (codes "d") (codes "/net/udp/0/data") None
     ∷ step.Write (codes "d") (codes "hello") ∷ [])
-    ∷ script 1 (step.Open (codes "c") (codes "/net/udp/clone") None
+    ∷ script_with 1 (step.Open (codes "c") (codes "/net/udp/clone") None
     ∷ step.Write (codes "c") (codes "connect 135.104.9.6!5000 7")
     ∷ step.Open (codes "d") (codes "/net/udp/0/data") None
     ∷ step.Read (codes "d") 2
@@ -152,8 +152,8 @@ listener address text =
 abbrev pub two_calls_world : World
 two_calls_world =
     world 60000 [] (hosts [])
-    (script 0 (caller (codes "il!helix!9fs") (codes "one"))
-    ∷ script 0 (caller (codes "il!helix!7777") (codes "two"))
-    ∷ script 1 (listener (codes "il!*!9fs") (codes "eno"))
-    ∷ script 1 (listener (codes "il!*!7777") (codes "owt"))
+    (script_with 0 (caller (codes "il!helix!9fs") (codes "one"))
+    ∷ script_with 0 (caller (codes "il!helix!7777") (codes "two"))
+    ∷ script_with 1 (listener (codes "il!*!9fs") (codes "eno"))
+    ∷ script_with 1 (listener (codes "il!*!7777") (codes "owt"))
     ∷ [])

@@ -14,7 +14,7 @@ use Rattle.world_text.specs.WorldText.{Cut, cuts_of}
 use Rattle.world_text.proofs.Shared.{Free, any-free, before-all, before-at, begins-some, bundle-told, free-later, last-at, last-free, moved, or_else, own-at, version-bad, version-goes, versions-append}
 use Rattle.world_file.specs.declared.fault.WorldError.{WorldError}
 use Rattle.world_file.specs.declared.fault.WorldError.TheVariants as error
-use Rattle.world_file.specs.Bundles.{IsFront, IsLast, TellsMoment}
+use Rattle.world_file.specs.Bundles.{IsFront, IsWithoutVersion, TellsMoment}
 use Rattle.world_file.specs.Told.{TellsBehind}
 use Rattle.world_file.proofs.Scanning.{Ahead, ahead, laid_lines, line_without}
 
@@ -117,7 +117,7 @@ at_first text first = record { before = []; reading = refl; own = refl; last = r
 
 -- The last bundle.
 
-module _ (text : List ℕ) (first number moment : ℕ) (versions : List Version) (rest : List ℕ) (a : At text first number moment versions rest) (none : IsLast rest) where
+module _ (text : List ℕ) (first number moment : ℕ) (versions : List Version) (rest : List ℕ) (a : At text first number moment versions rest) (none : IsWithoutVersion rest) where
   last-told : bad_version_line text ≡ moved (length a.before) (bad_line rest)
   last-told = a.reading ∙ bundle-told (length a.before) a.before [] (lines_of rest) a.own (omega arith) (any-free (lines_of rest) none)
 

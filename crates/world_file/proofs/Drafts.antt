@@ -13,7 +13,7 @@ use Rattle.net_base.specs.Routes.{has_ip}
 use Rattle.net_base.specs.World.{all_apart, is_mask}
 use Rattle.world_text.specs.declared.line.LineCause.{LineCause}
 use Rattle.world_text.specs.declared.line.LineCause.TheVariants as cause
-use Rattle.world_text.specs.WorldLines.{Draft, at_last, has_iface_on, has_medium, host_under, if_cause, is_medium_named, is_net, is_under, knows_network, medium_number, on_medium, reaches, refuse, route_cause}
+use Rattle.world_text.specs.WorldLines.{Draft, at_last, has_iface_on, has_medium, host_under, if_cause, is_medium_named, is_net, is_under, knows_network, medium_number, on_named_medium, reaches, refuse, route_cause}
 use Rattle.world_text.proofs.Shared.{unrefused}
 use Rattle.world_file.proofs.Placed.{last_is, last_set, medium_none, medium_set}
 
@@ -43,14 +43,14 @@ pub set_last : {A : Type 0} (f : A → A) (xs : List A) (len : ℕ) (d new : A) 
 set_last f xs len d new e lt is to = last_set f xs (len - 1) d new (omega (arith, e, lt)) (to ∙ ap f is)
 
 pub set_medium : (called : List ℕ) (f : MediumSpec → MediumSpec) (ms : List MediumSpec) (n : ℕ) (d new : MediumSpec) → all_apart bytes_eq (map (λ (s : MediumSpec). s.name) ms) ≡ true
-    → n ≡ position_or_len (is_medium_named called) ms → n < length ms → d ≡ get_or ms n d → new ≡ f d → slice_set ms n new ≡ on_medium called f ms
+    → n ≡ position_or_len (is_medium_named called) ms → n < length ms → d ≡ get_or ms n d → new ≡ f d → slice_set ms n new ≡ on_named_medium called f ms
 set_medium called f ms n d new apart at lt is to =
     ap (λ (m : ℕ). slice_set ms m new) at
     ∙ medium_set called f ms d new apart (subst (λ (m : ℕ). m < length ms) at lt) (to ∙ ap f (is ∙ ap (λ (m : ℕ). get_or ms m d) at))
 
 -- no medium has the name where its place is past the last
 pub past_name : (called : List ℕ) (f : MediumSpec → MediumSpec) (xs ms : List MediumSpec) (n len : ℕ) → n ≡ position_or_len (is_medium_named called) xs → xs ≡ ms → len ≡ length xs → len ≤ n
-    → on_medium called f ms ≡ ms
+    → on_named_medium called f ms ≡ ms
 past_name called f xs ms n len at same long past =
     let all = ap length same in
     let there = at ∙ ap (position_or_len (is_medium_named called)) same in

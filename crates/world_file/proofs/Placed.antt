@@ -8,7 +8,7 @@ use Rattle.std.proofs.lemmas.List.Sums.{prefix_len-le-length}
 use Rattle.std.proofs.lemmas.Option.{none-some, same_Some}
 use Rattle.net_base.specs.declared.world.MediumSpec.{MediumSpec}
 use Rattle.net_base.specs.World.{all_apart}
-use Rattle.world_text.specs.WorldLines.{at_last, is_medium_named, on_medium}
+use Rattle.world_text.specs.WorldLines.{at_last, is_medium_named, on_named_medium}
 use Rattle.world_text.proofs.Shared.{false-of-not}
 use Rattle.net_base.proofs.Shared.{equal_texts}
 
@@ -59,17 +59,17 @@ place_none p xs e = by (nat_lt (position_or_len p xs) (length xs)) refl e (prefi
 -- The medium of a name.
 
 -- media with other names stay
-others_stay : (called : List ℕ) (f : MediumSpec → MediumSpec) (ms : List MediumSpec) → list_any (bytes_eq called) (map (λ (s : MediumSpec). s.name) ms) ≡ false → on_medium called f ms ≡ ms
+others_stay : (called : List ℕ) (f : MediumSpec → MediumSpec) (ms : List MediumSpec) → list_any (bytes_eq called) (map (λ (s : MediumSpec). s.name) ms) ≡ false → on_named_medium called f ms ≡ ms
 others_stay called f [] none = refl
 others_stay called f (s ∷ ms) none =
     let parts = or_parts (bytes_eq called s.name) (list_any (bytes_eq called) (map (λ (m : MediumSpec). m.name) ms)) none in
-    ap (λ b. (if b then f s else s) ∷ on_medium called f ms) parts.0 ∙ ap (λ xs. s ∷ xs) (others_stay called f ms parts.1)
+    ap (λ b. (if b then f s else s) ∷ on_named_medium called f ms) parts.0 ∙ ap (λ xs. s ∷ xs) (others_stay called f ms parts.1)
 
 abbrev place : List ℕ → List MediumSpec → ℕ
 place called ms = position_or_len (is_medium_named called) ms
 
 pub medium_set : (called : List ℕ) (f : MediumSpec → MediumSpec) (ms : List MediumSpec) (d new : MediumSpec) → all_apart bytes_eq (map (λ (s : MediumSpec). s.name) ms) ≡ true
-    → place called ms < length ms → new ≡ f (get_or ms (place called ms) d) → slice_set ms (place called ms) new ≡ on_medium called f ms
+    → place called ms < length ms → new ≡ f (get_or ms (place called ms) d) → slice_set ms (place called ms) new ≡ on_named_medium called f ms
 medium_set called f [] d new apart lt is = absurd (omega (arith, lt))
 medium_set called f (s ∷ ms) d new apart lt is =
     let parts = and_parts (not (list_any (bytes_eq s.name) (map (λ (m : MediumSpec). m.name) ms))) (all_apart bytes_eq (map (λ (m : MediumSpec). m.name) ms)) apart in
@@ -77,24 +77,24 @@ medium_set called f (s ∷ ms) d new apart lt is =
   where
     by : (b : Bool) → bytes_eq called s.name ≡ b → list_any (bytes_eq s.name) (map (λ (m : MediumSpec). m.name) ms) ≡ false
         → cond (not b) (1 + place called ms) 0 < suc (length ms) → new ≡ f (get_or (s ∷ ms) (cond (not b) (1 + place called ms) 0) d)
-        → (place called ms < length ms → new ≡ f (get_or ms (place called ms) d) → slice_set ms (place called ms) new ≡ on_medium called f ms)
-        → slice_set (s ∷ ms) (cond (not b) (1 + place called ms) 0) new ≡ (if b then f s else s) ∷ on_medium called f ms
+        → (place called ms < length ms → new ≡ f (get_or ms (place called ms) d) → slice_set ms (place called ms) new ≡ on_named_medium called f ms)
+        → slice_set (s ∷ ms) (cond (not b) (1 + place called ms) 0) new ≡ (if b then f s else s) ∷ on_named_medium called f ms
     by true e none h g later =
         ap (λ x. x ∷ ms) g ∙ ap (λ xs. f s ∷ xs) (sym (others_stay called f ms (ap (λ c. list_any (bytes_eq c) (map (λ (m : MediumSpec). m.name) ms)) (equal_texts called s.name e) ∙ none)))
     by false e none h g later = next (place called ms) h g later
       where
-        next : (n : ℕ) → 1 + n < suc (length ms) → new ≡ f (get_or (s ∷ ms) (1 + n) d) → (n < length ms → new ≡ f (get_or ms n d) → slice_set ms n new ≡ on_medium called f ms)
-            → slice_set (s ∷ ms) (1 + n) new ≡ s ∷ on_medium called f ms
+        next : (n : ℕ) → 1 + n < suc (length ms) → new ≡ f (get_or (s ∷ ms) (1 + n) d) → (n < length ms → new ≡ f (get_or ms n d) → slice_set ms n new ≡ on_named_medium called f ms)
+            → slice_set (s ∷ ms) (1 + n) new ≡ s ∷ on_named_medium called f ms
         next n h2 g2 later2 =
             let one : 1 + n ≡ suc n = omega arith in
             ap (λ m. slice_set (s ∷ ms) m new) one ∙ ap (λ xs. s ∷ xs) (later2 (omega (arith, h2)) (g2 ∙ ap (λ m. f (get_or (s ∷ ms) m d)) one))
 
 -- no medium has the name where its place is past the last
-pub medium_none : (called : List ℕ) (f : MediumSpec → MediumSpec) (ms : List MediumSpec) → (place called ms < length ms → ⊥) → on_medium called f ms ≡ ms
+pub medium_none : (called : List ℕ) (f : MediumSpec → MediumSpec) (ms : List MediumSpec) → (place called ms < length ms → ⊥) → on_named_medium called f ms ≡ ms
 medium_none called f [] past = refl
 medium_none called f (s ∷ ms) past = by (bytes_eq called s.name) refl past (λ h. medium_none called f ms h)
   where
-    by : (b : Bool) → bytes_eq called s.name ≡ b → (cond (not b) (1 + place called ms) 0 < suc (length ms) → ⊥) → ((place called ms < length ms → ⊥) → on_medium called f ms ≡ ms)
-        → (if b then f s else s) ∷ on_medium called f ms ≡ s ∷ ms
+    by : (b : Bool) → bytes_eq called s.name ≡ b → (cond (not b) (1 + place called ms) 0 < suc (length ms) → ⊥) → ((place called ms < length ms → ⊥) → on_named_medium called f ms ≡ ms)
+        → (if b then f s else s) ∷ on_named_medium called f ms ≡ s ∷ ms
     by true e h later = absurd (h (omega arith))
     by false e h later = ap (λ xs. s ∷ xs) (later (λ lt. h (omega (arith, lt))))

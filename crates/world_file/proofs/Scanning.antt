@@ -10,7 +10,7 @@ use Rattle.world_text.specs.VersionLines.{is_at_line}
 use Rattle.world_text.specs.WorldSpelling.{is_line, laid}
 use Rattle.world_text.specs.WorldText.{cuts_of}
 use Rattle.world_text.proofs.Shared.{false-of-not, Shape, shape}
-use Rattle.world_file.specs.Bundles.{IsFront, IsLast}
+use Rattle.world_file.specs.Bundles.{IsFront, IsWithoutVersion}
 
 -- Lines of a text.
 
@@ -67,7 +67,7 @@ pub record Passed (text rest : List ℕ) (lines : ℕ) : Type 0 where
 
 -- so far no line begins a version; where nothing is left the last line may have had no newline
 pub record Scan (text rest : List ℕ) (lines : ℕ) : Type 0 where
-  pub last : list_any is_at_line (lines_of rest) ≡ false → IsLast text
+  pub last : list_any is_at_line (lines_of rest) ≡ false → IsWithoutVersion text
   pub passed : 0 < length rest → Passed text rest lines
   pub room : lines + length rest ≤ length text
 
@@ -137,9 +137,9 @@ scan_found text rest line behind lines s some cut begins =
       begins = begins;
     }
 
-pub scan_end : (text rest : List ℕ) (lines : ℕ) → Scan text rest lines → length rest ≡ 0 → IsLast text
+pub scan_end : (text rest : List ℕ) (lines : ℕ) → Scan text rest lines → length rest ≡ 0 → IsWithoutVersion text
 scan_end text rest lines s none = by rest none s.last
   where
-    by : (left : List ℕ) → length left ≡ 0 → (list_any is_at_line (lines_of left) ≡ false → IsLast text) → IsLast text
+    by : (left : List ℕ) → length left ≡ 0 → (list_any is_at_line (lines_of left) ≡ false → IsWithoutVersion text) → IsWithoutVersion text
     by [] none last = last refl
     by (b ∷ left) none last = absurd (omega (arith, none))

@@ -13,10 +13,10 @@ use Rattle.world_text.specs.declared.line.MediumLine.TheVariants as medium
 use Rattle.world_text.specs.declared.line.WorldLine.{WorldLine}
 use Rattle.world_text.specs.declared.line.WorldLine.TheVariants as line
 use Rattle.world_text.specs.LineReading.{argued, read_line, script_of, words_line}
-use Rattle.world_text.specs.WorldLines.{Draft, Goes, after, at_last, good_line, host_number, is_passed, line_verdict, with_step, world_of}
-use Rattle.world_text.specs.WorldWords.{words_of}
+use Rattle.world_text.specs.WorldLines.{Draft, Goes, after, at_last, good_line, host_number, passes_over, line_verdict, with_step, world_of}
+use Rattle.world_text.specs.WorldWords.{words_in_line}
 use Rattle.world_text.proofs.Shared.{without-none, First, Good, Passed, Refused, View, bad-goes, begins-goes, same-goes, view}
-use Rattle.world_file.specs.SessionText.{Feeds, OpensSession, Other, Passes, as_script, row_by, row_of}
+use Rattle.world_file.specs.SessionText.{Feeds, OpensSession, Other, Passes, as_script, row_by, session_row}
 
 -- ---- scripts
 
@@ -77,38 +77,38 @@ grows d e text goes = by (view d text)
 pub record Opens (d : Draft) (text : List ℕ) : Type 0 where
   pub begun : (d.group == 0) ≡ false
   pub args : List (List ℕ)
-  pub words : words_of text ≡ codes "session" ∷ args
+  pub words : words_in_line text ≡ codes "session" ∷ args
 
-pub opens : (d : Draft) (text : List ℕ) → row_of d text ≡ OpensSession → Opens d text
-opens d text is = by (is_passed text) (d.group == 0) (words_of text) refl refl is
+pub opens : (d : Draft) (text : List ℕ) → session_row d text ≡ OpensSession → Opens d text
+opens d text is = by (passes_over text) (d.group == 0) (words_in_line text) refl refl is
   where
-    named : (b : Bool) (word : List ℕ) (args : List (List ℕ)) → bytes_eq word (codes "session") ≡ b → (d.group == 0) ≡ false → words_of text ≡ word ∷ args → (if b then OpensSession else Other) ≡ OpensSession → Opens d text
+    named : (b : Bool) (word : List ℕ) (args : List (List ℕ)) → bytes_eq word (codes "session") ≡ b → (d.group == 0) ≡ false → words_in_line text ≡ word ∷ args → (if b then OpensSession else Other) ≡ OpensSession → Opens d text
     named true word args same late are e = record { begun = late; args = args; words = are ∙ ap (λ (w : List ℕ). w ∷ args) (equal_texts word (codes "session") same) }
     named false word args same late are e = absurd (cc)
 
-    first : (b : Bool) (word : List ℕ) (args : List (List ℕ)) (fed : Option (List ℕ)) → (d.group == 0) ≡ false → words_of text ≡ word ∷ args
+    first : (b : Bool) (word : List ℕ) (args : List (List ℕ)) (fed : Option (List ℕ)) → (d.group == 0) ≡ false → words_in_line text ≡ word ∷ args
         → (if b then Feeds fed else (if bytes_eq word (codes "session") then OpensSession else Other)) ≡ OpensSession → Opens d text
     first true word args fed late are e = absurd (cc)
     first false word args fed late are e = named (bytes_eq word (codes "session")) word args refl late are e
 
-    words : (ws : List (List ℕ)) → (d.group == 0) ≡ false → words_of text ≡ ws → row_by ws ≡ OpensSession → Opens d text
+    words : (ws : List (List ℕ)) → (d.group == 0) ≡ false → words_in_line text ≡ ws → row_by ws ≡ OpensSession → Opens d text
     words [] late are e = absurd (cc)
     words (word ∷ args) late are e = first (bytes_eq word (codes "feed")) word args _ late are e
 
-    by : (b first : Bool) (ws : List (List ℕ)) → (d.group == 0) ≡ first → words_of text ≡ ws → (if b then Passes else (if first then Other else row_by ws)) ≡ OpensSession → Opens d text
+    by : (b first : Bool) (ws : List (List ℕ)) → (d.group == 0) ≡ first → words_in_line text ≡ ws → (if b then Passes else (if first then Other else row_by ws)) ≡ OpensSession → Opens d text
     by true first ws late are e = absurd (cc)
     by false true ws late are e = absurd (cc)
     by false false ws late are e = words ws late are e
 
 -- its first word is another, and the others stay
-as-script-words : (text : List ℕ) (args : List (List ℕ)) → words_of text ≡ codes "session" ∷ args → (others : List (List ℕ)) × (words_of (as_script text) ≡ codes "script" ∷ others)
+as-script-words : (text : List ℕ) (args : List (List ℕ)) → words_in_line text ≡ codes "session" ∷ args → (others : List (List ℕ)) × (words_in_line (as_script text) ≡ codes "script" ∷ others)
 as-script-words text args are = by args (sym (join_with_byte-slice_split 32 text) ∙ ap (join_with_byte 32) are)
   where
-    by : (args : List (List ℕ)) → text ≡ join_with_byte 32 (codes "session" ∷ args) → (others : List (List ℕ)) × (words_of (as_script text) ≡ codes "script" ∷ others)
-    by [] is = ([], ap (λ (t : List ℕ). words_of (as_script t)) is)
+    by : (args : List (List ℕ)) → text ≡ join_with_byte 32 (codes "session" ∷ args) → (others : List (List ℕ)) × (words_in_line (as_script text) ≡ codes "script" ∷ others)
+    by [] is = ([], ap (λ (t : List ℕ). words_in_line (as_script t)) is)
     by (a ∷ more) is = (
-      words_of (join_with_byte 32 (a ∷ more)),
-      ap (λ (t : List ℕ). words_of (as_script t)) is ∙ cut_at 32 (codes "script") (join_with_byte 32 (a ∷ more)) (words_of (join_with_byte 32 (a ∷ more))) (without-none 32 (codes "script") refl) refl,
+      words_in_line (join_with_byte 32 (a ∷ more)),
+      ap (λ (t : List ℕ). words_in_line (as_script t)) is ∙ cut_at 32 (codes "script") (join_with_byte 32 (a ∷ more)) (words_in_line (join_with_byte 32 (a ∷ more))) (without-none 32 (codes "script") refl) refl,
     )
 
 -- so it adds a script without steps
@@ -128,7 +128,7 @@ script-is (a ∷ b ∷ rest) l e = absurd (cc)
 pub opened : (d e : Draft) (text : List ℕ) → Opens d text → line_verdict d (as_script text) ≡ Goes e → (called : List ℕ) × (e ≡ after d (line.Script called))
 opened d e text o goes = by (view d (as_script text))
   where
-    w : (others : List (List ℕ)) × (words_of (as_script text) ≡ codes "script" ∷ others)
+    w : (others : List (List ℕ)) × (words_in_line (as_script text) ≡ codes "script" ∷ others)
     w = as-script-words text o.args o.words
 
     good : (l : WorldLine) → read_line (as_script text) ≡ Ok l → good_line d l ≡ Goes e → (called : List ℕ) × (e ≡ after d (line.Script called))

@@ -17,14 +17,14 @@ use Rattle.sessions.specs.Worlds.{HaveHosts, HaveStreams, same_place}
 use Rattle.world_text.specs.LineReading.{read_line}
 use Rattle.world_text.specs.VersionLines.{bad_version_line, versions_in}
 use Rattle.world_text.specs.WorldLines.{Bad, Begins, Draft, Goes, Verdict, after, at_last, empty_script, host_number, line_verdict, opening_draft, world_of}
-use Rattle.world_text.specs.WorldRefusal.{Leads}
+use Rattle.world_text.specs.WorldRefusal.{LeadsToWorld}
 use Rattle.world_text.specs.WorldText.{Cut, cuts_of, with_first, with_versions}
 use Rattle.world_text.proofs.Shared.{versions-databases, versions-timed, apart-map, apart-push, at_last-push, last-push, same-numbers, led-next, Behind, Opening, Stage, read-all, complete, Ends, ends}
 use Rattle.world_text.specs.declared.line.LineCause.{LineCause}
 use Rattle.world_text.specs.declared.line.LineCause.TheVariants as cause
 use Rattle.world_text.specs.declared.line.WorldLine.{WorldLine}
 use Rattle.world_text.specs.declared.line.WorldLine.TheVariants as line
-use Rattle.world_file.specs.SessionText.{Closes, Extends, Feeds, Follows, IsStreamOf, Judges, OpensSession, Other, Passes, Row, Says, SaysFrom, Told, as_script, bad_stream, extended, host_of_last, is_step_read, last_stream, opened_at, opening_told, other_verdict, row_of, with_bytes, with_sessions}
+use Rattle.world_file.specs.SessionText.{ClosesLines, Extends, Feeds, FollowsLine, IsStreamOf, Judges, OpensSession, Other, Passes, Row, SaysSessions, SaysFrom, ToldLines, as_script, bad_stream, extended, host_of_last, is_step_read, last_stream, opened_at, opening_told, other_verdict, session_row, with_bytes, with_sessions}
 use Rattle.world_file.proofs.SessionLines.{Grows, grows, hosts_of, map-at_last, opened, opens}
 use Rattle.world_text.proofs.WorldRefusals.{goes-bad}
 
@@ -85,9 +85,9 @@ Whole None xs = AllWhole xs
 Whole (Some n) xs = GoesOn xs
 
 -- what holds of the lines so far
-pub record Kept (told : Told) : Type 0 where
+pub record Kept (told : ToldLines) : Type 0 where
   pub lines : List (List ℕ)
-  pub led : Leads opening_draft lines told.draft
+  pub led : LeadsToWorld opening_draft lines told.draft
   pub sit : (x : Session) → In x told.sessions → Sits (hosts_of told.draft.scripts) x
   pub apart : all_apart same_place told.sessions ≡ true
   pub whole : Whole told.under told.sessions
@@ -108,7 +108,7 @@ closed xs g stream x i = by (in-push x g.front g.last (subst (In x) g.are i))
     by (inl j) = g.whole x j
     by (inr e) = subst (λ (y : Session). IsStreamOf y.stream) (sym e) (subst IsStreamOf same stream)
 
-closes-ok : (xs : List Session) (o : Option ℕ) (P : Type 0) (w : SessionWorld) → Whole o xs → Closes xs o P (Ok w) → AllWhole xs × P
+closes-ok : (xs : List Session) (o : Option ℕ) (P : Type 0) (w : SessionWorld) → Whole o xs → ClosesLines xs o P (Ok w) → AllWhole xs × P
 closes-ok xs None P w whole p = (whole, p)
 closes-ok xs (Some n) P w whole (inl p) = (closed xs whole p.0, p.1)
 closes-ok xs (Some n) P w whole (inr p) = absurd (ok-err w (n, bad_stream) (Ok w) refl p.1)
@@ -124,7 +124,7 @@ same-told : (w v : SessionWorld) (r : Result SessionWorld (ℕ × ℕ)) → r �
 same-told w v r e f = cc
 
 -- the lines so far, and a bundle
-abbrev told_world : Told → List ℕ → SessionWorld
+abbrev told_world : ToldLines → List ℕ → SessionWorld
 told_world told behind = record { world = record (world_of told.draft) { dbs = versions_in (lines_of behind) }; sessions = told.sessions }
 
 seated : (hosts : List ℕ) (scripts : List Script) (x : Session) (s : Script) → hosts ≡ hosts_of scripts → Sits hosts x → slice_get scripts x.place ≡ Some s → s.host ≡ x.host
@@ -133,7 +133,7 @@ seated hosts scripts x s are sits there =
     (sym (ap (λ (o : Option Script). option_map (λ (c : Script). c.host) o) there)
     ∙ (sym (slice_get-map (λ (c : Script). c.host) scripts x.place) ∙ (ap (λ (hs : List ℕ). slice_get hs x.place) (sym are) ∙ sits)))
 
-world-said : (told : Told) (k : Kept told) (text behind : List ℕ) (v : World) → list_all is_byte behind ≡ true → bad_version_line behind ≡ None → Ends told.draft text v
+world-said : (told : ToldLines) (k : Kept told) (text behind : List ℕ) (v : World) → list_all is_byte behind ≡ true → bad_version_line behind ≡ None → Ends told.draft text v
     → IsWorld (record (world_of told.draft) { dbs = versions_in (lines_of behind) })
 world-said told k text behind v all fine e = at (read-all k.lines told.draft k.led).lines (read-all k.lines told.draft k.led).stage
   where
@@ -141,7 +141,7 @@ world-said told k text behind v all fine e = at (read-all k.lines told.draft k.l
     at ls (Opening lines draft) = absurd (false≢true (sym e.begun ∙ ap (λ (g : Draft). g.group == 0) draft))
     at ls (Behind so) = (complete ls told.draft so e.good).is_ready (versions_in (lines_of behind)) (versions-timed behind fine) (versions-databases behind all fine)
 
-fine-said : (told : Told) (k : Kept told) (text behind : List ℕ) (v : World) → AllWhole told.sessions → list_all is_byte behind ≡ true → bad_version_line behind ≡ None → Ends told.draft text v
+fine-said : (told : ToldLines) (k : Kept told) (text behind : List ℕ) (v : World) → AllWhole told.sessions → list_all is_byte behind ≡ true → bad_version_line behind ≡ None → Ends told.draft text v
     → Fine (told_world told behind)
 fine-said told k text behind v whole all fine e = record {
   world = world-said told k text behind v all fine e;
@@ -153,7 +153,7 @@ fine-said told k text behind v whole all fine e = record {
   hosts = λ x s i there. seated (hosts_of told.draft.scripts) told.draft.scripts x s refl (k.sit x i) there;
 }
 
-ended : (told : Told) (k : Kept told) (n : ℕ) (text behind : List ℕ) (v : World) (w : SessionWorld) → AllWhole told.sessions → list_all is_byte behind ≡ true → line_verdict told.draft text ≡ Begins v
+ended : (told : ToldLines) (k : Kept told) (n : ℕ) (text behind : List ℕ) (v : World) (w : SessionWorld) → AllWhole told.sessions → list_all is_byte behind ≡ true → line_verdict told.draft text ≡ Begins v
     → Ok w ≡ with_sessions told.sessions (with_versions n v behind (bad_version_line behind)) → Fine w
 ended told k n text behind v w whole all begins is = by (bad_version_line behind) refl is
   where
@@ -170,7 +170,7 @@ ended told k n text behind v w whole all begins is = by (bad_version_line behind
 
 -- ---- lines
 
-fed : (told : Told) (line : ℕ) (bytes : List ℕ) → told.under ≡ Some line → Kept told → Kept (extended bytes told)
+fed : (told : ToldLines) (line : ℕ) (bytes : List ℕ) → told.under ≡ Some line → Kept told → Kept (extended bytes told)
 fed told line bytes under k = record {
   lines = k.lines;
   led = k.led;
@@ -192,7 +192,7 @@ grown : (d e : Draft) (x : Session) → Grows d e → Sits (hosts_of d.scripts) 
 grown d e x g sits = subst (λ (hs : List ℕ). Sits hs x) (sym g.1) (get-more (hosts_of d.scripts) g.0 x.place x.host sits)
 
 -- the session of a line
-begun-session : (told : Told) (n : ℕ) (text : List ℕ) (e : Draft) → Kept told → AllWhole told.sessions → row_of told.draft text ≡ OpensSession → line_verdict told.draft (as_script text) ≡ Goes e
+begun-session : (told : ToldLines) (n : ℕ) (text : List ℕ) (e : Draft) → Kept told → AllWhole told.sessions → session_row told.draft text ≡ OpensSession → line_verdict told.draft (as_script text) ≡ Goes e
     → Kept (record { draft = e; sessions = told.sessions ++ opened_at told.draft (host_of_last e) ∷ []; under = Some n })
 begun-session told n text e k whole row goes = record {
   lines = k.lines ++ as_script text ∷ [];
@@ -241,7 +241,7 @@ other-line d text (Some n) v e good = by (is_step_read (read_line text)) e
     by true f = absurd (good cause.OutOfOrder (sym f))
     by false f = f
 
-went : (told : Told) (text : List ℕ) (e : Draft) → Kept told → AllWhole told.sessions → line_verdict told.draft text ≡ Goes e → Kept (record { draft = e; sessions = told.sessions; under = None })
+went : (told : ToldLines) (text : List ℕ) (e : Draft) → Kept told → AllWhole told.sessions → line_verdict told.draft text ≡ Goes e → Kept (record { draft = e; sessions = told.sessions; under = None })
 went told text e k whole goes = record {
   lines = k.lines ++ text ∷ [];
   led = led-next k.lines text told.draft e k.led goes;
@@ -272,15 +272,15 @@ cuts-bytes (b ∷ bytes) all c i = by (is_newline b) (cuts_of bytes) i (cuts-byt
     by false (x ∷ cs) (inr j) more = more c (inr j)
 
 -- what follows a line of each row
-abbrev Next : SessionWorld → (Told → Type 0) → Type 0
-Next w P = (later : Told) → Kept later → P later → Fine w
+abbrev Next : SessionWorld → (ToldLines → Type 0) → Type 0
+Next w P = (later : ToldLines) → Kept later → P later → Fine w
 
-follows-feed : (told : Told) (n : ℕ) (o : Option ℕ) (bytes : Option (List ℕ)) (P : Told → Type 0) (w : SessionWorld) → told.under ≡ o → Kept told → Extends told n o bytes P (Ok w) → Next w P → Fine w
+follows-feed : (told : ToldLines) (n : ℕ) (o : Option ℕ) (bytes : Option (List ℕ)) (P : ToldLines → Type 0) (w : SessionWorld) → told.under ≡ o → Kept told → Extends told n o bytes P (Ok w) → Next w P → Fine w
 follows-feed told n o None P w is k e go = absurd (ok-err w _ (Ok w) refl e)
 follows-feed told n None (Some bytes) P w is k e go = absurd (ok-err w _ (Ok w) refl e)
 follows-feed told n (Some line) (Some bytes) P w is k e go = go _ (fed told line bytes is k) e
 
-follows-session : (told : Told) (n : ℕ) (c : Cut) (P : Told → Type 0) (w : SessionWorld) (v : Verdict) → list_all is_byte c.behind ≡ true → row_of told.draft c.line ≡ OpensSession → Kept told
+follows-session : (told : ToldLines) (n : ℕ) (c : Cut) (P : ToldLines → Type 0) (w : SessionWorld) (v : Verdict) → list_all is_byte c.behind ≡ true → session_row told.draft c.line ≡ OpensSession → Kept told
     → AllWhole told.sessions → line_verdict told.draft (as_script c.line) ≡ v
     → Judges told.sessions n c.behind v (λ (d : Draft). P (record { draft = d; sessions = told.sessions ++ opened_at told.draft (host_of_last d) ∷ []; under = Some n })) (Ok w)
     → Next w P → Fine w
@@ -288,7 +288,7 @@ follows-session told n c P w (Goes e) all row k whole goes j go = go _ (begun-se
 follows-session told n c P w (Begins v) all row k whole begins j go = ended told k n (as_script c.line) c.behind v w whole all begins j
 follows-session told n c P w (Bad why) all row k whole bad j go = absurd (ok-err w _ (Ok w) refl j)
 
-follows-other : (told : Told) (n : ℕ) (c : Cut) (P : Told → Type 0) (w : SessionWorld) (v : Verdict) → list_all is_byte c.behind ≡ true → Kept told
+follows-other : (told : ToldLines) (n : ℕ) (c : Cut) (P : ToldLines → Type 0) (w : SessionWorld) (v : Verdict) → list_all is_byte c.behind ≡ true → Kept told
     → AllWhole told.sessions → other_verdict told.under told.draft c.line ≡ v → Judges told.sessions n c.behind v (λ (d : Draft). P (record { draft = d; sessions = told.sessions; under = None })) (Ok w)
     → Next w P → Fine w
 follows-other told n c P w (Goes e) all k whole goes j go = go _ (went told c.line e k whole (other-line told.draft c.line told.under (Goes e) goes (goes-bad e))) j
@@ -296,7 +296,7 @@ follows-other told n c P w (Begins v) all k whole begins j go =
     ended told k n c.line c.behind v w whole all (other-line told.draft c.line told.under (Begins v) begins (begins-bad v)) j
 follows-other told n c P w (Bad why) all k whole bad j go = absurd (ok-err w _ (Ok w) refl j)
 
-follows : (told : Told) (n : ℕ) (c : Cut) (P : Told → Type 0) (w : SessionWorld) (row : Row) → list_all is_byte c.behind ≡ true → row_of told.draft c.line ≡ row → Kept told → Follows told n c row P (Ok w) → Next w P
+follows : (told : ToldLines) (n : ℕ) (c : Cut) (P : ToldLines → Type 0) (w : SessionWorld) (row : Row) → list_all is_byte c.behind ≡ true → session_row told.draft c.line ≡ row → Kept told → FollowsLine told n c row P (Ok w) → Next w P
     → Fine w
 follows told n c P w Passes all is k f go = go told k f
 follows told n c P w (Feeds bytes) all is k f go = follows-feed told n told.under bytes P w refl k f go
@@ -305,20 +305,20 @@ follows told n c P w OpensSession all is k f go =
 follows told n c P w Other all is k f go =
     let closing = closes-ok told.sessions told.under _ w k.whole f in follows-other told n c P w (other_verdict told.under told.draft c.line) all k closing.0 refl closing.1 go
 
-said : (told : Told) (n : ℕ) (cs : List Cut) (w : SessionWorld) → AllBytes cs → Kept told → SaysFrom told n cs (Ok w) → Fine w
+said : (told : ToldLines) (n : ℕ) (cs : List Cut) (w : SessionWorld) → AllBytes cs → Kept told → SaysFrom told n cs (Ok w) → Fine w
 said told n [] w all k says = absurd (ok-err w _ (Ok w) refl (closes-ok told.sessions told.under _ w k.whole says).1)
 said told n (c ∷ cs) w all k says =
-    follows told n c (λ (later : Told). SaysFrom later (n + 1) cs (Ok w)) w (row_of told.draft c.line) (all c (inl refl)) refl k says
-    (λ (later : Told). said later (n + 1) cs w (λ x i. all x (inr i)))
+    follows told n c (λ (later : ToldLines). SaysFrom later (n + 1) cs (Ok w)) w (session_row told.draft c.line) (all c (inl refl)) refl k says
+    (λ (later : ToldLines). said later (n + 1) cs w (λ x i. all x (inr i)))
 
-fine : (text : List ℕ) (w : SessionWorld) → list_all is_byte text ≡ true → Says text (Ok w) → Fine w
+fine : (text : List ℕ) (w : SessionWorld) → list_all is_byte text ≡ true → SaysSessions text (Ok w) → Fine w
 fine text w all says = said opening_told 1 (cuts_of text) w (cuts-bytes text all) kept-first says
 
-pub said-world : (text : List ℕ) (w : SessionWorld) → list_all is_byte text ≡ true → Says text (Ok w) → IsWorld w.world
+pub said-world : (text : List ℕ) (w : SessionWorld) → list_all is_byte text ≡ true → SaysSessions text (Ok w) → IsWorld w.world
 said-world text w all says = (fine text w all says).world
 
-pub said-streams : (text : List ℕ) (w : SessionWorld) → list_all is_byte text ≡ true → Says text (Ok w) → HaveStreams w
+pub said-streams : (text : List ℕ) (w : SessionWorld) → list_all is_byte text ≡ true → SaysSessions text (Ok w) → HaveStreams w
 said-streams text w all says = (fine text w all says).streams
 
-pub said-hosts : (text : List ℕ) (w : SessionWorld) → list_all is_byte text ≡ true → Says text (Ok w) → HaveHosts w
+pub said-hosts : (text : List ℕ) (w : SessionWorld) → list_all is_byte text ≡ true → SaysSessions text (Ok w) → HaveHosts w
 said-hosts text w all says = (fine text w all says).hosts

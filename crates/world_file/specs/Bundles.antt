@@ -23,8 +23,8 @@ pub record IsFront (text : List ℕ) (place lines : ℕ) : Type 0 where
   pub begins : is_at_line line ≡ true
 
 -- no line of the text begins a version
-abbrev pub IsLast : List ℕ → Type 0
-IsLast text = list_any is_at_line (lines_of text) ≡ false
+abbrev pub IsWithoutVersion : List ℕ → Type 0
+IsWithoutVersion text = list_any is_at_line (lines_of text) ≡ false
 
 -- an error tells the cause of this line, which begins a version behind one from that moment on
 abbrev pub TellsMoment : ℕ → ℕ → List ℕ → WorldError → Type 0

@@ -16,24 +16,24 @@ use Rattle.world_text.specs.declared.line.LineCause.{LineCause}
 use Rattle.world_text.specs.declared.line.LineCause.TheVariants as cause
 use Rattle.world_text.specs.declared.line.WorldLine.{WorldLine}
 use Rattle.world_text.specs.declared.line.WorldLine.TheVariants as line
-use Rattle.world_text.specs.LineCauses.{number_of}
+use Rattle.world_text.specs.LineCauses.{cause_number_of}
 use Rattle.world_text.specs.LineReading.{read_line}
-use Rattle.world_text.specs.WorldLines.{Bad, Begins, Draft, Goes, Verdict, at_last, is_passed, line_verdict, opening_draft}
+use Rattle.world_text.specs.WorldLines.{Bad, Begins, Draft, Goes, Verdict, at_last, passes_over, line_verdict, opening_draft}
 use Rattle.world_text.specs.WorldText.{Cut, cuts_of, missing, with_versions}
-use Rattle.world_text.specs.WorldWords.{hex_text, one, words_of}
+use Rattle.world_text.specs.WorldWords.{hex_text, single_word, words_in_line}
 
 -- cause 51: the bytes of a session aren't whole messages, each no longer than was agreed before it
 abbrev pub bad_stream : ℕ
 bad_stream = 51
 
 -- what the lines so far say
-pub record Told : Type 0 where
+pub record ToldLines : Type 0 where
   pub draft : Draft
   pub sessions : List Session
   -- the number of the `session` line under which the next lines stand
   pub under : Option ℕ
 
-abbrev pub opening_told : Told
+abbrev pub opening_told : ToldLines
 opening_told = record { draft = opening_draft; sessions = []; under = None }
 
 -- ---- lines
@@ -47,12 +47,12 @@ pub data Row : Type 0 where
   Other : Row
 
 abbrev pub row_by : List (List ℕ) → Row
-row_by (word ∷ args) = if bytes_eq word (codes "feed") then Feeds (option_and_then hex_text (one args)) else (if bytes_eq word (codes "session") then OpensSession else Other)
+row_by (word ∷ args) = if bytes_eq word (codes "feed") then Feeds (option_and_then hex_text (single_word args)) else (if bytes_eq word (codes "session") then OpensSession else Other)
 row_by [] = Other
 
 -- the first line names the timers, whatever its words
-abbrev pub row_of : Draft → List ℕ → Row
-row_of d text = if is_passed text then Passes else (if d.group == 0 then Other else row_by (words_of text))
+abbrev pub session_row : Draft → List ℕ → Row
+session_row d text = if passes_over text then Passes else (if d.group == 0 then Other else row_by (words_in_line text))
 
 -- `session HOST` is judged as `script HOST` is, and is a script without steps in its place
 abbrev pub as_script : List ℕ → List ℕ
@@ -87,7 +87,7 @@ abbrev pub with_bytes : List ℕ → Session → Session
 with_bytes bytes s = record s { stream = s.stream ++ bytes }
 
 -- the last session has these bytes more
-abbrev pub extended : List ℕ → Told → Told
+abbrev pub extended : List ℕ → ToldLines → ToldLines
 extended bytes told = record told { sessions = at_last (with_bytes bytes) told.sessions }
 
 -- the bytes of the last session
@@ -105,39 +105,39 @@ IsStreamOf bytes = (steps : List Step) × IsScript bytes steps
 -- ---- what comes of the lines
 
 -- a session's lines end here: its bytes are whole messages, or its line is bad
-abbrev pub Closes : List Session → Option ℕ → Type 0 → Result SessionWorld (ℕ × ℕ) → Type 0
-Closes sessions None Next r = Next
-Closes sessions (Some n) Next r = (IsStreamOf (last_stream sessions) × Next) ⊎ (IsBadStream (last_stream sessions) × (r ≡ Err (n, bad_stream)))
+abbrev pub ClosesLines : List Session → Option ℕ → Type 0 → Result SessionWorld (ℕ × ℕ) → Type 0
+ClosesLines sessions None Next r = Next
+ClosesLines sessions (Some n) Next r = (IsStreamOf (last_stream sessions) × Next) ⊎ (IsBadStream (last_stream sessions) × (r ≡ Err (n, bad_stream)))
 
 -- the n-th line goes on, begins the bundle or is bad
 abbrev pub Judges : List Session → ℕ → List ℕ → Verdict → (Draft → Type 0) → Result SessionWorld (ℕ × ℕ) → Type 0
 Judges sessions n behind (Goes d) next r = next d
 Judges sessions n behind (Begins w) next r = r ≡ with_sessions sessions (with_versions n w behind (bad_version_line behind))
-Judges sessions n behind (Bad c) next r = r ≡ Err (n, number_of c)
+Judges sessions n behind (Bad c) next r = r ≡ Err (n, cause_number_of c)
 
 -- a line `feed` adds its bytes to the session under which it stands
-abbrev pub Extends : Told → ℕ → Option ℕ → Option (List ℕ) → (Told → Type 0) → Result SessionWorld (ℕ × ℕ) → Type 0
-Extends told n under None next r = r ≡ Err (n, number_of cause.WrongArgument)
-Extends told n None (Some bytes) next r = r ≡ Err (n, number_of cause.OutOfOrder)
+abbrev pub Extends : ToldLines → ℕ → Option ℕ → Option (List ℕ) → (ToldLines → Type 0) → Result SessionWorld (ℕ × ℕ) → Type 0
+Extends told n under None next r = r ≡ Err (n, cause_number_of cause.WrongArgument)
+Extends told n None (Some bytes) next r = r ≡ Err (n, cause_number_of cause.OutOfOrder)
 Extends told n (Some line) (Some bytes) next r = next (extended bytes told)
 
 -- what comes of the n-th line, and of those behind it
-abbrev pub Follows : Told → ℕ → Cut → Row → (Told → Type 0) → Result SessionWorld (ℕ × ℕ) → Type 0
-Follows told n c Passes next r = next told
-Follows told n c (Feeds bytes) next r = Extends told n told.under bytes next r
-Follows told n c OpensSession next r =
-    Closes told.sessions told.under
+abbrev pub FollowsLine : ToldLines → ℕ → Cut → Row → (ToldLines → Type 0) → Result SessionWorld (ℕ × ℕ) → Type 0
+FollowsLine told n c Passes next r = next told
+FollowsLine told n c (Feeds bytes) next r = Extends told n told.under bytes next r
+FollowsLine told n c OpensSession next r =
+    ClosesLines told.sessions told.under
     (Judges told.sessions n c.behind (line_verdict told.draft (as_script c.line))
     (λ (d : Draft). next (record { draft = d; sessions = told.sessions ++ opened_at told.draft (host_of_last d) ∷ []; under = Some n })) r) r
-Follows told n c Other next r =
-    Closes told.sessions told.under
+FollowsLine told n c Other next r =
+    ClosesLines told.sessions told.under
     (Judges told.sessions n c.behind (other_verdict told.under told.draft c.line) (λ (d : Draft). next (record { draft = d; sessions = told.sessions; under = None })) r) r
 
 -- what comes of lines that begin with the n-th
-abbrev pub SaysFrom : Told → ℕ → List Cut → Result SessionWorld (ℕ × ℕ) → Type 0
-SaysFrom told n [] r = Closes told.sessions told.under (r ≡ Err (n, number_of (missing told.draft))) r
-SaysFrom told n (c ∷ cs) r = Follows told n c (row_of told.draft c.line) (λ (later : Told). SaysFrom later (n + 1) cs r) r
+abbrev pub SaysFrom : ToldLines → ℕ → List Cut → Result SessionWorld (ℕ × ℕ) → Type 0
+SaysFrom told n [] r = ClosesLines told.sessions told.under (r ≡ Err (n, cause_number_of (missing told.draft))) r
+SaysFrom told n (c ∷ cs) r = FollowsLine told n c (session_row told.draft c.line) (λ (later : ToldLines). SaysFrom later (n + 1) cs r) r
 
 -- what a text says: a world with its sessions, or its first bad line, counted from 1, and that line's least cause
-abbrev pub Says : List ℕ → Result SessionWorld (ℕ × ℕ) → Type 0
-Says text r = SaysFrom opening_told 1 (cuts_of text) r
+abbrev pub SaysSessions : List ℕ → Result SessionWorld (ℕ × ℕ) → Type 0
+SaysSessions text r = SaysFrom opening_told 1 (cuts_of text) r

@@ -3,7 +3,7 @@ use Rattle.std.specs.Prelude.{◌≡◌, ◌≤◌, ℕ, ◌+◌, length, map, b
 use Rattle.net_base.specs.declared.world.MediumSpec.{MediumSpec}
 use Rattle.net_base.specs.declared.world.World.{World}
 use Rattle.net_base.specs.World.{all_apart}
-use Rattle.world_text.specs.LineCauses.{number_of}
+use Rattle.world_text.specs.LineCauses.{cause_number_of}
 use Rattle.world_text.specs.WorldLines.{Draft, Verdict, Goes, Begins, Bad, world_of}
 use Rattle.world_words.specs.declared.fault.LineFault.{LineFault}
 use Rattle.world_words.specs.declared.fault.LineFault.TheVariants as fault
@@ -33,10 +33,10 @@ going begins d = if begins then Begins (world_of d) else Goes d
 -- the fault of the line with this number
 abbrev pub TellsAt : LineFault → ℕ → WorldError → Type 0
 TellsAt fault.Memory number e = e ≡ error.Memory
-TellsAt (fault.Cause cause) number e = e ≡ error.Bad number (number_of cause)
+TellsAt (fault.Cause cause) number e = e ≡ error.Bad number (cause_number_of cause)
 
 -- so few media and hosts that their numbers fit, and media with names of their own
-pub record IsSmall (d : Draft) : Type 0 where
+pub record IsSmallDraft (d : Draft) : Type 0 where
   pub media : length d.media ≤ 4
   pub hosts : length d.hosts ≤ 8
   pub named : all_apart bytes_eq (map (λ (s : MediumSpec). s.name) d.media) ≡ true

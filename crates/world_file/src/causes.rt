@@ -2,7 +2,7 @@
 ghost use Rattle.std.specs.Prelude.{◌≡◌, ◌+◌, ◌==◌, ◌&&◌};
 ghost use Rattle.net_base.specs.World as world;
 ghost use Rattle.world_text.specs.WorldLines as spec;
-ghost use Rattle.world_file.specs.Told.{IsSmall};
+ghost use Rattle.world_file.specs.Told.{IsSmallDraft};
 
 use crate::draft::Draft;
 use net_base::{Fate, FateRange, RouteLine};
@@ -40,7 +40,7 @@ fn is_net(net: u32, mask: u32) -> bool
 impl Draft {
     /// The least cause for which a line is bad behind those so far, if there is one.
     pub(crate) fn line_cause(&self, line: &WorldLine) -> Option<LineCause>
-        requires { IsSmall self.now }
+        requires { IsSmallDraft self.now }
         ensures { result ≡ spec.line_cause self.now line.now }
     {
         match line {
@@ -170,7 +170,7 @@ impl Draft {
     }
 
     fn host_line_cause(&self, line: &HostLine) -> Option<LineCause>
-        requires { IsSmall self.now }
+        requires { IsSmallDraft self.now }
         ensures { result ≡ spec.host_line_cause self.now line.now }
     {
         match line {
@@ -181,7 +181,7 @@ impl Draft {
     }
 
     fn if_cause(&self, medium: &[u8], ip: u32, mask: u32) -> Option<LineCause>
-        requires { IsSmall self.now }
+        requires { IsSmallDraft self.now }
         ensures { result ≡ spec.if_cause self.now medium.now ip mask }
     {
         if !self.has_medium(medium) {

@@ -4,7 +4,7 @@ ghost use Rattle.world_text.specs.declared.line.MediumLine.TheVariants as medium
 ghost use Rattle.world_text.specs.declared.line.WorldLine.TheVariants as line;
 ghost use Rattle.world_text.specs.LineFit.{fit_medium_line, is_fit};
 ghost use Rattle.world_text.specs.WorldLines as spec;
-ghost use Rattle.world_file.specs.Told.{IsSmall};
+ghost use Rattle.world_file.specs.Told.{IsSmallDraft};
 
 use crate::causes::range_of;
 use crate::draft::{Draft, medium_place};
@@ -17,7 +17,7 @@ use world_text::{HostLine, MediumLine, WorldLine};
 impl Draft {
     /// Goes on behind a line that isn't bad.
     pub(crate) fn take_line(&mut self, alloc: Global, line: WorldLine) -> Result<(), AllocError>
-        requires small { IsSmall self.old }
+        requires small { IsSmallDraft self.old }
         requires fit { is_fit line ≡ true }
         requires good { spec.line_cause self.old line ≡ None }
         ensures { OnOk result (self.new ≡ spec.after self.old line) }
@@ -48,7 +48,7 @@ impl Draft {
     }
 
     fn take_medium_line(&mut self, alloc: Global, line: MediumLine) -> Result<(), AllocError>
-        requires small { IsSmall self.old }
+        requires small { IsSmallDraft self.old }
         requires fit { fit_medium_line line ≡ true }
         requires good { spec.medium_line_cause self.old line ≡ None }
         ensures { OnOk result (self.new ≡ spec.after_medium_line self.old line) }
@@ -84,7 +84,7 @@ impl Draft {
         twice: u32,
         later: u32,
     ) -> Result<(), AllocError>
-        requires { IsSmall self.old }
+        requires { IsSmallDraft self.old }
         ensures { OnOk result (self.new ≡ spec.after_medium_line self.old (medium.Rates name loss twice later)) }
     {
         self.set_rates(name.as_slice(), loss, twice, later);
@@ -94,8 +94,8 @@ impl Draft {
 
     /// Sets the rates of the medium with this name.
     fn set_rates(&mut self, name: &[u8], loss: u32, twice: u32, later: u32)
-        requires { IsSmall self.old }
-        ensures { self.new ≡ record self.old { media = spec.on_medium name.now (spec.with_rates loss twice later) self.old.media } }
+        requires { IsSmallDraft self.old }
+        ensures { self.new ≡ record self.old { media = spec.on_named_medium name.now (spec.with_rates loss twice later) self.old.media } }
     {
         let place = medium_place(self.media.as_slice(), name);
         if place < self.media.len() {
@@ -106,10 +106,10 @@ impl Draft {
 
     /// Adds a fate to the medium with this name.
     fn take_fate(&mut self, name: &[u8], fate: FateRange) -> Result<(), AllocError>
-        requires small { IsSmall self.old }
+        requires small { IsSmallDraft self.old }
         requires forward { fate.first ≤ fate.last }
         requires apart { spec.has_fate name.now fate self.old ≡ false }
-        ensures { OnOk result (self.new ≡ record self.old { media = spec.on_medium name.now (spec.with_fate fate) self.old.media }) }
+        ensures { OnOk result (self.new ≡ record self.old { media = spec.on_named_medium name.now (spec.with_fate fate) self.old.media }) }
     {
         let place = medium_place(self.media.as_slice(), name);
         if place < self.media.len() {
@@ -129,7 +129,7 @@ impl Draft {
     }
 
     fn take_host_line(&mut self, line: HostLine) -> Result<(), AllocError>
-        requires small { IsSmall self.old }
+        requires small { IsSmallDraft self.old }
         requires good { spec.host_line_cause self.old line ≡ None }
         ensures { OnOk result (self.new ≡ spec.after_host_line self.old line) }
     {

@@ -3,7 +3,7 @@ ghost use Rattle.std.specs.Prelude.{◌≡◌, Ok, IfOk, IfErr};
 ghost use Rattle.world_text.specs.LineReading.{read_line};
 ghost use Rattle.world_text.specs.WorldLines as spec;
 ghost use Rattle.world_file.specs.SessionText.{is_step_read, other_verdict, under_session};
-ghost use Rattle.world_file.specs.Told.{IsSmall, TellsCause, going};
+ghost use Rattle.world_file.specs.Told.{IsSmallDraft, TellsCause, going};
 
 use crate::draft::Draft;
 use net_base::Timers;
@@ -14,7 +14,7 @@ use world_words::{LineFault, read_line};
 impl Draft {
     /// What a line is, behind those so far: whether it begins the bundle.
     pub(crate) fn take_text(&mut self, alloc: Global, line: &[u8]) -> Result<bool, LineFault>
-        requires { IsSmall self.old }
+        requires { IsSmallDraft self.old }
         ensures ok { IfOk result (λ begins. spec.line_verdict self.old line.now ≡ going begins self.new) }
         ensures bad { IfErr result (λ fault. TellsCause fault (spec.line_verdict self.old line.now)) }
     {
@@ -34,7 +34,7 @@ impl Draft {
         session: Option<u64>,
         line: &[u8],
     ) -> Result<bool, LineFault>
-        requires { IsSmall self.old }
+        requires { IsSmallDraft self.old }
         ensures ok { IfOk result (λ begins. other_verdict session self.old line.now ≡ going begins self.new) }
         ensures bad { IfErr result (λ fault. TellsCause fault (other_verdict session self.old line.now)) }
     {
@@ -46,7 +46,7 @@ impl Draft {
 
     /// A line under a session, where no step stands.
     fn take_under_session(&mut self, alloc: Global, line: &[u8]) -> Result<bool, LineFault>
-        requires { IsSmall self.old }
+        requires { IsSmallDraft self.old }
         ensures ok { IfOk result (λ begins. under_session self.old line.now ≡ going begins self.new) }
         ensures bad { IfErr result (λ fault. TellsCause fault (under_session self.old line.now)) }
     {
@@ -58,7 +58,7 @@ impl Draft {
 
     /// A line behind the first that isn't passed over.
     fn take_read(&mut self, alloc: Global, text: &[u8]) -> Result<bool, LineFault>
-        requires { IsSmall self.old }
+        requires { IsSmallDraft self.old }
         ensures ok { IfOk result (λ begins. spec.judged_line self.old (read_line text.now) ≡ going begins self.new) }
         ensures bad { IfErr result (λ fault. TellsCause fault (spec.judged_line self.old (read_line text.now))) }
     {
@@ -102,7 +102,7 @@ fn is_ndb(line: &WorldLine) -> bool
 
 /// Empty lines and comments.
 fn is_passed(line: &[u8]) -> bool
-    ensures { result ≡ spec.is_passed line.now }
+    ensures { result ≡ spec.passes_over line.now }
 {
     line.is_empty() || line[0] == b'#'
 }

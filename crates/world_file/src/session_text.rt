@@ -5,17 +5,17 @@ ghost use Rattle.std.specs.Option.{option_and_then};
 ghost use Rattle.net_base.specs.World.{IsWorld};
 ghost use Rattle.sessions.specs.Worlds.{HaveHosts, HaveStreams};
 ghost use Rattle.world_text.specs.VersionLines.{bad_version_line};
-ghost use Rattle.world_text.specs.LineCauses.{number_of};
+ghost use Rattle.world_text.specs.LineCauses.{cause_number_of};
 ghost use Rattle.world_text.specs.WorldLines as lines;
 ghost use Rattle.world_text.specs.WorldLines.{at_last, line_verdict};
 ghost use Rattle.world_text.specs.WorldText.{with_versions};
-ghost use Rattle.world_text.specs.WorldWords.{hex_text, one};
+ghost use Rattle.world_text.specs.WorldWords.{hex_text, single_word};
 ghost use Rattle.world_file.specs.SessionText as spec;
-ghost use Rattle.world_file.specs.SessionText.{IsStreamOf, Says};
+ghost use Rattle.world_file.specs.SessionText.{IsStreamOf, SaysSessions};
 ghost use Rattle.session_script.specs.declared.fault.ExportError.TheVariants as fault;
 ghost use Rattle.world_file.specs.declared.fault.WorldError.TheVariants as told;
-ghost use Rattle.world_file.specs.SessionTold.{StreamBad, session_at, args_of, BundleBad, ClosesBad, IsClosed, SaysBad, Taken, TakenAs, row_seen, word_seen};
-ghost use Rattle.world_file.specs.Told.{IsSmall, TellsCause, going};
+ghost use Rattle.world_file.specs.SessionTold.{StreamBad, session_at, args_of, BundleBad, ClosesBad, IsWholeSession, SaysBad, TakenLine, TakenAs, row_seen, word_seen};
+ghost use Rattle.world_file.specs.Told.{IsSmallDraft, TellsCause, going};
 
 use crate::draft::Draft;
 use crate::fault::WorldError;
@@ -32,7 +32,7 @@ use world_words::{LineFault, are_bytes};
 
 /// The world with sessions that a text says, or its first bad line. It goes once through the bytes.
 pub fn read_sessions(alloc: Global, bytes: &[u8]) -> Result<SessionWorld, WorldError>
-    ensures ok { IfOk result (λ w. Says bytes.now (Ok w)) }
+    ensures ok { IfOk result (λ w. SaysSessions bytes.now (Ok w)) }
     ensures bad { IfErr result (λ e. SaysBad bytes.now e) }
     ensures world { IfOk result (λ w. IsWorld w.world) }
     ensures streams { IfOk result (λ w. HaveStreams w) }
@@ -45,7 +45,7 @@ pub fn read_sessions(alloc: Global, bytes: &[u8]) -> Result<SessionWorld, WorldE
 
 #[tactic(auto, using(crate::proofs::SessionTaken::so_first, crate::proofs::SessionTaken::so_next, crate::proofs::SessionTaken::so_bad, crate::proofs::SessionTaken::so_ok, crate::proofs::SessionTaken::so_unread, crate::proofs::SessionTaken::end_unclosed, crate::proofs::SessionTaken::end_missing))]
 fn read_session_lines(alloc: Global, bytes: &[u8]) -> Result<SessionWorld, WorldError>
-    ensures ok { IfOk result (λ w. Says bytes.now (Ok w)) }
+    ensures ok { IfOk result (λ w. SaysSessions bytes.now (Ok w)) }
     ensures bad { IfErr result (λ e. SaysBad bytes.now e) }
 {
     let mut told = Told::new(alloc);
@@ -86,7 +86,7 @@ enum Row<'a> {
 }
 
 impl Model for Told {
-    ghost use Rattle.world_file.specs.SessionText.{Told as AnyTold};
+    ghost use Rattle.world_file.specs.SessionText.{ToldLines as AnyTold};
 
     ghost Value = { AnyTold };
 
@@ -107,9 +107,9 @@ impl Told {
     // Takes a line: whether it begins the bundle.
     #[tactic(auto, using(crate::proofs::SessionTaken::taken_by, crate::proofs::SessionTaken::taken_passed))]
     fn take_line(&mut self, alloc: Global, line: &[u8], number: u64) -> Result<bool, WorldError>
-        requires small { IsSmall self.old.draft }
+        requires small { IsSmallDraft self.old.draft }
         requires few { length self.old.draft.scripts ≤ 32 }
-        ensures { Taken self.old self.new number line.now result }
+        ensures { TakenLine self.old self.new number line.now result }
     {
         match self.row_of(line) {
             Row::Passes => Ok(false),
@@ -122,7 +122,7 @@ impl Told {
     // The first line names the timers, whatever its words.
     #[tactic(auto, using(crate::proofs::SessionRows::row_of_words))]
     fn row_of<'a>(&self, line: &'a [u8]) -> Row<'a>
-        ensures { row_seen result ≡ spec.row_of self.now.draft line.now }
+        ensures { row_seen result ≡ spec.session_row self.now.draft line.now }
     {
         if line.is_empty() || line[0] == b'#' {
             return Row::Passes;
@@ -172,7 +172,7 @@ impl Told {
     // `session HOST` is judged as `script HOST` is, and is a script without steps in its place.
     #[tactic(auto, using(crate::proofs::SessionTaken::session_taken, crate::proofs::SessionTaken::session_begins, crate::proofs::SessionTaken::session_bad, crate::proofs::SessionTaken::session_unclosed))]
     fn take_session(&mut self, alloc: Global, line: &[u8], number: u64) -> Result<bool, WorldError>
-        requires small { IsSmall self.old.draft }
+        requires small { IsSmallDraft self.old.draft }
         requires few { length self.old.draft.scripts ≤ 32 }
         ensures { TakenAs spec.OpensSession self.old self.new number line.now result }
     {
@@ -191,7 +191,7 @@ impl Told {
 
     // A line `session`, as a line `script`.
     fn take_script(&mut self, alloc: Global, line: &[u8]) -> Result<bool, LineFault>
-        requires { IsSmall self.old.draft }
+        requires { IsSmallDraft self.old.draft }
         ensures ok { IfOk result (λ begins. line_verdict self.old.draft (spec.as_script line.now) ≡ going begins self.new.draft) }
         ensures bad { IfErr result (λ fault. TellsCause fault (line_verdict self.old.draft (spec.as_script line.now))) }
         ensures same { self.new ≡ record self.old { draft = self.new.draft } }
@@ -217,7 +217,7 @@ impl Told {
     // A line of a world; a step doesn't stand under a session.
     #[tactic(auto, using(crate::proofs::SessionTaken::other_taken, crate::proofs::SessionTaken::other_bad, crate::proofs::SessionTaken::other_unclosed))]
     fn take_other(&mut self, alloc: Global, line: &[u8], number: u64) -> Result<bool, WorldError>
-        requires { IsSmall self.old.draft }
+        requires { IsSmallDraft self.old.draft }
         ensures { TakenAs spec.Other self.old self.new number line.now result }
     {
         if let Err(error) = self.close(alloc) {
@@ -231,7 +231,7 @@ impl Told {
 
     // The line by itself, behind which no session goes on.
     fn take_under(&mut self, alloc: Global, line: &[u8]) -> Result<bool, LineFault>
-        requires { IsSmall self.old.draft }
+        requires { IsSmallDraft self.old.draft }
         ensures ok { IfOk result (λ begins. spec.other_verdict self.old.under self.old.draft line.now ≡ going begins self.new.draft) }
         ensures bad { IfErr result (λ fault. TellsCause fault (spec.other_verdict self.old.under self.old.draft line.now)) }
         ensures same { self.new ≡ record { draft = self.new.draft; sessions = self.old.sessions; under = None } }
@@ -242,7 +242,7 @@ impl Told {
 
     // The lines of a session end: its bytes are whole messages, or its line is bad.
     fn close(&self, alloc: Global) -> Result<(), WorldError>
-        ensures ok { OnOk result (IsClosed self.now.sessions self.now.under) }
+        ensures ok { OnOk result (IsWholeSession self.now.sessions self.now.under) }
         ensures bad { IfErr result (ClosesBad self.now) }
     {
         match self.under {
@@ -287,7 +287,7 @@ impl Told {
 const BAD_STREAM: u32 = 51;
 
 fn bad(line: u64, cause: LineCause) -> WorldError
-    ensures { result ≡ told.Bad line (number_of cause) }
+    ensures { result ≡ told.Bad line (cause_number_of cause) }
 {
     WorldError::Bad {
         line,
@@ -368,7 +368,7 @@ fn extend_last(sessions: &mut Vec<Session>, bytes: &[u8]) -> Result<(), AllocErr
 // The only word behind the first.
 #[tactic(auto, using(crate::proofs::SessionRows::none_seen, crate::proofs::SessionRows::single_seen))]
 fn only_word(rest: Option<&[u8]>) -> Option<&[u8]>
-    ensures { word_seen result ≡ option_and_then hex_text (one (args_of rest.entry)) }
+    ensures { word_seen result ≡ option_and_then hex_text (single_word (args_of rest.entry)) }
 {
     single(rest?, b' ')
 }

@@ -2,9 +2,9 @@
 ghost use Rattle.std.specs.Prelude.{◌≡◌, ◌+◌, ◌-◌, ◌<◌, ◌≤◌, ◌^◌, length, take, drop, Some, None, IfOk, IfErr, IfSome, IfNone};
 ghost use Rattle.net_base.specs.NdbBundle.{bad_line, database};
 ghost use Rattle.net_base.specs.NdbText.{lines_of};
-ghost use Rattle.world_text.specs.LineCauses.{number_of};
+ghost use Rattle.world_text.specs.LineCauses.{cause_number_of};
 ghost use Rattle.world_text.specs.VersionLines as spec;
-ghost use Rattle.world_file.specs.Bundles.{IsFront, IsLast, TellsMoment};
+ghost use Rattle.world_file.specs.Bundles.{IsFront, IsWithoutVersion, TellsMoment};
 ghost use Rattle.world_file.specs.Told.{TellsBehind};
 ghost use Rattle.world_file.specs.declared.fault.WorldError.TheVariants as error;
 
@@ -43,7 +43,7 @@ pub(crate) fn read_versions(alloc: Global, number: u64, text: &[u8]) -> Result<V
 fn next_version(text: &[u8]) -> Option<(usize, u64)>
     requires { length text.now < 2 ^ 63 }
     ensures some { IfSome result (λ found. IsFront text.now found.0 found.1) }
-    ensures none { IfNone result (IsLast text.now) }
+    ensures none { IfNone result (IsWithoutVersion text.now) }
 {
     let mut lines = 0;
     let mut rest = text;
@@ -96,7 +96,7 @@ fn moment_behind(last: u64, line: &[u8], number: u64) -> Result<u64, WorldError>
 }
 
 fn bad_at(line: u64, cause: LineCause) -> WorldError
-    ensures { result ≡ error.Bad line (number_of cause) }
+    ensures { result ≡ error.Bad line (cause_number_of cause) }
 {
     WorldError::Bad {
         line,

@@ -32,9 +32,9 @@ use Rattle.world_text.specs.declared.line.HostLine.TheVariants as host
 use Rattle.world_text.specs.declared.line.MediumLine.TheVariants as medium
 use Rattle.world_text.specs.declared.line.WorldLine.{WorldLine}
 use Rattle.world_text.specs.declared.line.WorldLine.TheVariants as line
-use Rattle.world_text.specs.WorldWords.{address_in, joined, mode_named, nets_named, number_in}
-use Rattle.world_text.specs.LineReading.{argued, cs_of, fate_from, fate_named, frame_in, frames_in, frames_of, if_from, kept, named, range_from, rate_in, rates_from, read_line, route_from, rwrite_of, step_read, words_line, write_of}
-use Rattle.world_text.specs.WorldSpelling.{fate_word, frames_spelled, is_line, spaced, speaks, spelling, timers_word, words_of_line, words_of_step}
+use Rattle.world_text.specs.WorldWords.{address_in, words_left, mode_named, nets_named, number_in}
+use Rattle.world_text.specs.LineReading.{argued, cs_of, fate_from, fate_named, frame_in, frames_in, frames_of, if_from, row_kept, if_named, range_from, rate_in, rates_from, read_line, route_from, rwrite_of, step_read, words_line, write_of}
+use Rattle.world_text.specs.WorldSpelling.{fate_word, frames_spelled, is_line, spaced_line, speaks, line_spelling, timers_word, words_of_line, words_of_step}
 use Rattle.world_text.proofs.Controls.{dotted_is_without}
 use Rattle.world_text.specs.LineFit.{fit_frames, is_fit, is_frame, is_rate}
 use Rattle.world_text.proofs.WorldLists.{list-without}
@@ -228,20 +228,20 @@ line-free s p line.Ndb plain fit = (letters-free s p (codes "ndb") refl, tt)
 
 -- Words that are joined and split.
 
-split-back : (word : List ℕ) (words : List (List ℕ)) → AreFree 32 (word ∷ words) → parts_at 32 (spaced (word ∷ words)) ≡ word ∷ words
+split-back : (word : List ℕ) (words : List (List ℕ)) → AreFree 32 (word ∷ words) → parts_at 32 (spaced_line (word ∷ words)) ≡ word ∷ words
 split-back word [] free = one_part 32 word free.0
-split-back word (next ∷ words) free = cut_at 32 word (spaced (next ∷ words)) (next ∷ words) free.0 (split-back next words free.1)
+split-back word (next ∷ words) free = cut_at 32 word (spaced_line (next ∷ words)) (next ∷ words) free.0 (split-back next words free.1)
 
-spaced-free : (words : List (List ℕ)) → AreFree 10 words → IsWithout 10 (spaced words)
+spaced-free : (words : List (List ℕ)) → AreFree 10 words → IsWithout 10 (spaced_line words)
 spaced-free [] free = All-nil (λ (x : ℕ). (x == 10) ≡ false)
 spaced-free (word ∷ []) free = free.0
 spaced-free (word ∷ next ∷ words) free =
-    All-append (λ (x : ℕ). (x == 10) ≡ false) word (32 ∷ spaced (next ∷ words)) free.0 (without_one 10 32 (spaced (next ∷ words)) refl (spaced-free (next ∷ words) free.1))
+    All-append (λ (x : ℕ). (x == 10) ≡ false) word (32 ∷ spaced_line (next ∷ words)) free.0 (without_one 10 32 (spaced_line (next ∷ words)) refl (spaced-free (next ∷ words) free.1))
 
 -- What is read of the words.
 
 rates-back : (called : List ℕ) (a b c : ℕ) → is_name called ≡ true → is_rate a ≡ true → is_rate b ≡ true → is_rate c ≡ true
-    → argued (named called (rates_from called (rate_in (decimal a)) (rate_in (decimal b)) (rate_in (decimal c)))) ≡ Ok (line.OfMedium (medium.Rates called a b c))
+    → argued (if_named called (rates_from called (rate_in (decimal a)) (rate_in (decimal b)) (rate_in (decimal c)))) ≡ Ok (line.OfMedium (medium.Rates called a b c))
 rates-back called a b c name fa fb fc =
     ap (λ v. argued (if v then rates_from called (rate_in (decimal a)) (rate_in (decimal b)) (rate_in (decimal c)) else None)) name
     ∙ (ap (λ o. argued (rates_from called o (rate_in (decimal b)) (rate_in (decimal c)))) (number-back 0 4294967295 a (omega arith) fa)
@@ -286,7 +286,7 @@ nets-back (proto.Udp ∷ proto.Udp ∷ q ∷ nets) is = absurd (false≢true is)
 address-read : (ip : ℕ) → is_address ip ≡ true → address_in (dotted ip) ≡ Some ip
 address-read ip e = address-back ip (ltb-true ip (2 ^ 32) e)
 
-kept-back : (x : Step) → is_step x ≡ true → step_read (Some (kept x)) ≡ Ok (line.OfScript x)
+kept-back : (x : Step) → is_step x ≡ true → step_read (Some (row_kept x)) ≡ Ok (line.OfScript x)
 kept-back x fit = ap (λ v. step_read (Some (if v then Some x else None))) fit
 
 mode-back : (m : Mode) → mode_named (mode_word m) ≡ Some m
@@ -297,19 +297,19 @@ mode-back mode.Both = refl
 step-back : (x : Step) → PlainStep x → is_step x ≡ true → words_line (words_of_step x) ≡ Ok (line.OfScript x)
 step-back (step.Open called path None) plain fit = kept-back (step.Open called path None) fit
 step-back (step.Open called path (Some m)) plain fit =
-    ap (λ o. step_read (Some (option_and_then (λ (n : Mode). kept (step.Open called path (Some n))) o))) (mode-back m) ∙ kept-back (step.Open called path (Some m)) fit
+    ap (λ o. step_read (Some (option_and_then (λ (n : Mode). row_kept (step.Open called path (Some n))) o))) (mode-back m) ∙ kept-back (step.Open called path (Some m)) fit
 step-back (step.Read called count) plain fit =
-    ap (λ o. step_read (Some (option_and_then (λ n. kept (step.Read called n)) o))) (number-back 1 65536 count (omega arith) ((and_parts (is_name called) (is_within 1 65536 count) fit).1))
+    ap (λ o. step_read (Some (option_and_then (λ n. row_kept (step.Read called n)) o))) (number-back 1 65536 count (omega arith) ((and_parts (is_name called) (is_within 1 65536 count) fit).1))
     ∙ kept-back (step.Read called count) fit
 step-back (step.Write called text) plain fit = absurd plain
 step-back (step.Writex called bytes) plain fit =
-    ap (λ o. step_read (Some (option_and_then (λ bs. kept (step.Writex called bs)) o))) (hex-back bytes ((and_parts (is_name called) (list_all is_byte bytes) fit).1))
+    ap (λ o. step_read (Some (option_and_then (λ bs. row_kept (step.Writex called bs)) o))) (hex-back bytes ((and_parts (is_name called) (list_all is_byte bytes) fit).1))
     ∙ kept-back (step.Writex called bytes) fit
 step-back (step.Close called) plain fit = kept-back (step.Close called) fit
 step-back (step.Ls path) plain fit = kept-back (step.Ls path) fit
 step-back (step.Cs query) plain fit = absurd plain
 step-back (step.Until moment) plain fit =
-    ap (λ o. step_read (Some (option_and_then (λ n. kept (step.Until n)) o))) (number-back 1 1000000000 moment (omega arith) fit) ∙ kept-back (step.Until moment) fit
+    ap (λ o. step_read (Some (option_and_then (λ n. row_kept (step.Until n)) o))) (number-back 1 1000000000 moment (omega arith) fit) ∙ kept-back (step.Until moment) fit
 step-back step.Refresh plain fit = kept-back step.Refresh fit
 step-back (step.Dial called address) plain fit = kept-back (step.Dial called address) fit
 step-back (step.Announce called address) plain fit = kept-back (step.Announce called address) fit
@@ -318,21 +318,21 @@ step-back (step.Accept called from) plain fit = kept-back (step.Accept called fr
 step-back (step.Reject called) plain fit = kept-back (step.Reject called) fit
 step-back (step.Hangup called) plain fit = kept-back (step.Hangup called) fit
 step-back (step.Hread called count) plain fit =
-    ap (λ o. step_read (Some (option_and_then (λ n. kept (step.Hread called n)) o))) (number-back 1 65536 count (omega arith) ((and_parts (is_name called) (is_within 1 65536 count) fit).1))
+    ap (λ o. step_read (Some (option_and_then (λ n. row_kept (step.Hread called n)) o))) (number-back 1 65536 count (omega arith) ((and_parts (is_name called) (is_within 1 65536 count) fit).1))
     ∙ kept-back (step.Hread called count) fit
 step-back (step.Hwrite called bytes) plain fit =
     let both = and_parts (is_name called) (list_all is_byte bytes && has_headers bytes) fit in
-    ap (λ o. step_read (Some (option_and_then (λ bs. kept (step.Hwrite called bs)) o))) (hex-back bytes ((and_parts (list_all is_byte bytes) (has_headers bytes) both.1).0))
+    ap (λ o. step_read (Some (option_and_then (λ bs. row_kept (step.Hwrite called bs)) o))) (hex-back bytes ((and_parts (list_all is_byte bytes) (has_headers bytes) both.1).0))
     ∙ kept-back (step.Hwrite called bytes) fit
 step-back (step.Dns called times) plain fit =
-    ap (λ o. step_read (Some (option_and_then (λ n. kept (step.Dns called n)) o))) (number-back 1 1000 times (omega arith) ((and_parts (is_name called) (is_within 1 1000 times) fit).1))
+    ap (λ o. step_read (Some (option_and_then (λ n. row_kept (step.Dns called n)) o))) (number-back 1 1000 times (omega arith) ((and_parts (is_name called) (is_within 1 1000 times) fit).1))
     ∙ kept-back (step.Dns called times) fit
 step-back (step.Export called) plain fit = kept-back (step.Export called) fit
 step-back (step.Import called) plain fit = kept-back (step.Import called) fit
 step-back (step.Ropen called call path m) plain fit =
-    ap (λ o. step_read (Some (option_and_then (λ (n : Mode). kept (step.Ropen called call path n)) o))) (mode-back m) ∙ kept-back (step.Ropen called call path m) fit
+    ap (λ o. step_read (Some (option_and_then (λ (n : Mode). row_kept (step.Ropen called call path n)) o))) (mode-back m) ∙ kept-back (step.Ropen called call path m) fit
 step-back (step.Rread called count) plain fit =
-    ap (λ o. step_read (Some (option_and_then (λ n. kept (step.Rread called n)) o))) (number-back 1 488 count (omega arith) ((and_parts (is_name called) (is_within 1 488 count) fit).1))
+    ap (λ o. step_read (Some (option_and_then (λ n. row_kept (step.Rread called n)) o))) (number-back 1 488 count (omega arith) ((and_parts (is_name called) (is_within 1 488 count) fit).1))
     ∙ kept-back (step.Rread called count) fit
 step-back (step.Rwrite called text) plain fit = absurd plain
 step-back (step.Rclose called) plain fit = kept-back (step.Rclose called) fit
@@ -376,44 +376,44 @@ words-back line.Ndb plain fit = refl
 
 -- Texts.
 
-write-back : (called text : List ℕ) → is_name called ≡ true → is_step (step.Write called text) ≡ true → read_line (spelling (line.OfScript (step.Write called text))) ≡ Ok (line.OfScript (step.Write called text))
+write-back : (called text : List ℕ) → is_name called ≡ true → is_step (step.Write called text) ≡ true → read_line (line_spelling (line.OfScript (step.Write called text))) ≡ Ok (line.OfScript (step.Write called text))
 write-back called text name fit =
     ap words_line (cut_at 32 (codes "write") (called ++ (32 ∷ text)) (called ∷ parts_at 32 text) (letters-free 32 apart-blank (codes "write") refl)
     (cut_at 32 called text (parts_at 32 text) (name-free 32 apart-blank called name) refl))
     ∙ by (parts_at 32 text) (some_part 32 text) (join_with_byte-slice_split 32 text)
   where
-    by : (parts : List (List ℕ)) → 0 < length parts → joined parts ≡ text → step_read (Some (write_of (called ∷ parts))) ≡ Ok (line.OfScript (step.Write called text))
+    by : (parts : List (List ℕ)) → 0 < length parts → words_left parts ≡ text → step_read (Some (write_of (called ∷ parts))) ≡ Ok (line.OfScript (step.Write called text))
     by [] some is = absurd (omega (arith, some))
-    by (word ∷ words) some is = ap (λ (t : List ℕ). step_read (Some (kept (step.Write called t)))) is ∙ kept-back (step.Write called text) fit
+    by (word ∷ words) some is = ap (λ (t : List ℕ). step_read (Some (row_kept (step.Write called t)))) is ∙ kept-back (step.Write called text) fit
 
-rwrite-back : (called text : List ℕ) → is_name called ≡ true → is_step (step.Rwrite called text) ≡ true → read_line (spelling (line.OfScript (step.Rwrite called text))) ≡ Ok (line.OfScript (step.Rwrite called text))
+rwrite-back : (called text : List ℕ) → is_name called ≡ true → is_step (step.Rwrite called text) ≡ true → read_line (line_spelling (line.OfScript (step.Rwrite called text))) ≡ Ok (line.OfScript (step.Rwrite called text))
 rwrite-back called text name fit =
     ap words_line (cut_at 32 (codes "rwrite") (called ++ (32 ∷ text)) (called ∷ parts_at 32 text) (letters-free 32 apart-blank (codes "rwrite") refl)
     (cut_at 32 called text (parts_at 32 text) (name-free 32 apart-blank called name) refl))
     ∙ by (parts_at 32 text) (some_part 32 text) (join_with_byte-slice_split 32 text)
   where
-    by : (parts : List (List ℕ)) → 0 < length parts → joined parts ≡ text → step_read (Some (rwrite_of (called ∷ parts))) ≡ Ok (line.OfScript (step.Rwrite called text))
+    by : (parts : List (List ℕ)) → 0 < length parts → words_left parts ≡ text → step_read (Some (rwrite_of (called ∷ parts))) ≡ Ok (line.OfScript (step.Rwrite called text))
     by [] some is = absurd (omega (arith, some))
-    by (word ∷ words) some is = ap (λ (t : List ℕ). step_read (Some (kept (step.Rwrite called t)))) is ∙ kept-back (step.Rwrite called text) fit
+    by (word ∷ words) some is = ap (λ (t : List ℕ). step_read (Some (row_kept (step.Rwrite called t)))) is ∙ kept-back (step.Rwrite called text) fit
 
-cs-back : (query : List ℕ) → is_step (step.Cs query) ≡ true → read_line (spelling (line.OfScript (step.Cs query))) ≡ Ok (line.OfScript (step.Cs query))
+cs-back : (query : List ℕ) → is_step (step.Cs query) ≡ true → read_line (line_spelling (line.OfScript (step.Cs query))) ≡ Ok (line.OfScript (step.Cs query))
 cs-back query fit =
     ap words_line (cut_at 32 (codes "cs") query (parts_at 32 query) (letters-free 32 apart-blank (codes "cs") refl) refl)
     ∙ by (parts_at 32 query) (some_part 32 query) (join_with_byte-slice_split 32 query)
   where
-    by : (parts : List (List ℕ)) → 0 < length parts → joined parts ≡ query → step_read (Some (cs_of parts)) ≡ Ok (line.OfScript (step.Cs query))
+    by : (parts : List (List ℕ)) → 0 < length parts → words_left parts ≡ query → step_read (Some (cs_of parts)) ≡ Ok (line.OfScript (step.Cs query))
     by [] some is = absurd (omega (arith, some))
-    by (word ∷ words) some is = ap (λ (t : List ℕ). step_read (Some (kept (step.Cs t)))) is ∙ kept-back (step.Cs query) fit
+    by (word ∷ words) some is = ap (λ (t : List ℕ). step_read (Some (row_kept (step.Cs t)))) is ∙ kept-back (step.Cs query) fit
 
 -- Lines.
 
-plain-back : (l : WorldLine) → IsPlain l → is_fit l ≡ true → (words : List (List ℕ)) → words_of_line l ≡ words → 0 < length words → read_line (spelling l) ≡ Ok l
+plain-back : (l : WorldLine) → IsPlain l → is_fit l ≡ true → (words : List (List ℕ)) → words_of_line l ≡ words → 0 < length words → read_line (line_spelling l) ≡ Ok l
 plain-back l plain fit [] is some = absurd (omega (arith, some))
 plain-back l plain fit (word ∷ words) is some =
-    ap (λ ws. read_line (spaced ws)) is
+    ap (λ ws. read_line (spaced_line ws)) is
     ∙ (ap words_line (split-back word words (subst (AreFree 32) is (line-free 32 apart-blank l plain fit))) ∙ (ap words_line (sym is) ∙ words-back l plain fit))
 
-back-step : (x : Step) → is_step x ≡ true → read_line (spelling (line.OfScript x)) ≡ Ok (line.OfScript x)
+back-step : (x : Step) → is_step x ≡ true → read_line (line_spelling (line.OfScript x)) ≡ Ok (line.OfScript x)
 back-step (step.Open called path None) fit = plain-back (line.OfScript (step.Open called path None)) tt fit _ refl (omega arith)
 back-step (step.Open called path (Some m)) fit = plain-back (line.OfScript (step.Open called path (Some m))) tt fit _ refl (omega arith)
 back-step (step.Read called count) fit = plain-back (line.OfScript (step.Read called count)) tt fit _ refl (omega arith)
@@ -440,7 +440,7 @@ back-step (step.Rread called count) fit = plain-back (line.OfScript (step.Rread 
 back-step (step.Rwrite called text) fit = rwrite-back called text ((and_parts (is_name called) (is_text text && is_within 1 488 (length text)) fit).0) fit
 back-step (step.Rclose called) fit = plain-back (line.OfScript (step.Rclose called)) tt fit _ refl (omega arith)
 
-pub back : (l : WorldLine) → is_fit l ≡ true → read_line (spelling l) ≡ Ok l
+pub back : (l : WorldLine) → is_fit l ≡ true → read_line (line_spelling l) ≡ Ok l
 back (line.Networld timers.Fixed) fit = refl
 back (line.Networld timers.Measured) fit = refl
 back (line.End m) fit = plain-back (line.End m) tt fit _ refl (omega arith)
@@ -457,7 +457,7 @@ back (line.OfScript x) fit = back-step x fit
 back line.Ndb fit = refl
 
 -- a spelled line isn't passed over
-loud-step : (x : Step) → speaks (spelling (line.OfScript x)) ≡ true
+loud-step : (x : Step) → speaks (line_spelling (line.OfScript x)) ≡ true
 loud-step (step.Open called path None) = refl
 loud-step (step.Open called path (Some m)) = refl
 loud-step (step.Read called count) = refl
@@ -484,7 +484,7 @@ loud-step (step.Rread called count) = refl
 loud-step (step.Rwrite called text) = refl
 loud-step (step.Rclose called) = refl
 
-pub loud : (l : WorldLine) → speaks (spelling l) ≡ true
+pub loud : (l : WorldLine) → speaks (line_spelling l) ≡ true
 loud (line.Networld timers.Fixed) = refl
 loud (line.Networld timers.Measured) = refl
 loud (line.End m) = refl
@@ -503,8 +503,8 @@ loud line.Ndb = refl
 text-free : (text : List ℕ) → is_text text ≡ true → IsWithout 10 text
 text-free text is = list-without (λ b. is_byte b && not (b == 10)) 10 text refl is
 
-whole-words : (words : List (List ℕ)) → AreFree 10 words → is_line (spaced words) ≡ true
-whole-words words free = ap not (list_any_none is_newline (spaced words) (spaced-free words free))
+whole-words : (words : List (List ℕ)) → AreFree 10 words → is_line (spaced_line words) ≡ true
+whole-words words free = ap not (list_any_none is_newline (spaced_line words) (spaced-free words free))
 
 one-step : (x : Step) → is_step x ≡ true → AreFree 10 (words_of_step x)
 one-step (step.Write called text) fit =
@@ -549,5 +549,5 @@ one-free-line (line.Script called) fit = line-free 10 apart-newline (line.Script
 one-free-line line.Ndb fit = line-free 10 apart-newline line.Ndb tt fit
 
 -- a spelled line stands on one line
-pub one_line : (l : WorldLine) → is_fit l ≡ true → is_line (spelling l) ≡ true
+pub one_line : (l : WorldLine) → is_fit l ≡ true → is_line (line_spelling l) ≡ true
 one_line l fit = whole-words (words_of_line l) (one-free-line l fit)

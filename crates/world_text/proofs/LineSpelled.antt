@@ -28,9 +28,9 @@ use Rattle.world_text.specs.declared.line.LineCause.{LineCause}
 use Rattle.world_text.specs.declared.line.MediumLine.TheVariants as medium
 use Rattle.world_text.specs.declared.line.WorldLine.{WorldLine}
 use Rattle.world_text.specs.declared.line.WorldLine.TheVariants as line
-use Rattle.world_text.specs.WorldWords.{Four, Three, Two, address_in, both_nets, four, hex_text, is_padded, joined, mode_named, nets_named, number_in, one, three, two, words_of}
-use Rattle.world_text.specs.LineReading.{argued, cs_of, dns_of, end_of, fate_from, fate_named, fate_of, frame_in, frames_in, frames_of, host_of, hread_of, hwrite_of, if_from, if_of, import_of, kept, medium_of, named, ndb_of, networld_of, of_one, of_two, open_of, other_of, range_from, rate_in, rates_from, rates_of, read_line, read_of, refresh_of, route_from, route_of, ropen_of, rread_of, rwrite_of, script_of, seed_of, start_of, step_of, step_read, timers_named, until_of, words_line, write_of, writex_of}
-use Rattle.world_text.specs.WorldSpelling.{fate_word, frames_spelled, spelling, timers_word, words_of_line}
+use Rattle.world_text.specs.WorldWords.{Four, Three, Two, address_in, both_nets, four, hex_text, is_padded, words_left, mode_named, nets_named, number_in, single_word, three, two, words_in_line}
+use Rattle.world_text.specs.LineReading.{argued, cs_of, dns_of, read_end_line, fate_from, fate_named, read_fate_line, frame_in, frames_in, frames_of, host_line_of, hread_of, hwrite_of, if_from, if_of, import_of, row_kept, medium_line_of, if_named, ndb_of, networld_of, of_one, of_two, open_of, other_of, range_from, rate_in, rates_from, rates_of, read_line, read_step_of, refresh_of, route_from, route_of, ropen_of, rread_of, rwrite_of, script_of, seed_of, start_line, step_in_line, step_read, timers_named, until_of, words_line, write_of, writex_of}
+use Rattle.world_text.specs.WorldSpelling.{fate_word, frames_spelled, line_spelling, timers_word, words_of_line}
 use Rattle.world_text.specs.LineFit.{fit_frames, is_fit, is_frame, is_rate}
 use Rattle.net_base.proofs.Shared.{hex-spelled, address-dotted, number_in-spelled, equal_texts}
 
@@ -38,7 +38,7 @@ use Rattle.net_base.proofs.Shared.{hex-spelled, address-dotted, number_in-spelle
 
 -- the words spell the line
 pub record Spells (words : List (List ℕ)) (l : WorldLine) : Type 0 where
-  pub is : joined words ≡ spelling l
+  pub is : words_left words ≡ line_spelling l
   pub fit : is_fit l ≡ true
 
 abbrev pub Said : List (List ℕ) → Option WorldLine → Type 0
@@ -53,7 +53,7 @@ said-then : {A : Type 0} (words : List (List ℕ)) (f : A → Option WorldLine) 
 said-then words f None h = tt
 said-then words f (Some x) h = h x refl
 
-said-named : (words : List (List ℕ)) (called : List ℕ) (o : Option WorldLine) → (is_name called ≡ true → Said words o) → Said words (named called o)
+said-named : (words : List (List ℕ)) (called : List ℕ) (o : Option WorldLine) → (is_name called ≡ true → Said words o) → Said words (if_named called o)
 said-named words called o h = by (is_name called) refl
   where
     by : (b : Bool) → is_name called ≡ b → Said words (if b then o else None)
@@ -62,11 +62,11 @@ said-named words called o h = by (is_name called) refl
 
 -- what is read of words that are these
 spells : (words : List (List ℕ)) (l : WorldLine) → words ≡ words_of_line l → is_fit l ≡ true → Spells words l
-spells words l is fit = record { is = ap joined is; fit = fit }
+spells words l is fit = record { is = ap words_left is; fit = fit }
 
 -- Arguments.
 
-pub one-is : (args : List (List ℕ)) (word : List ℕ) → one args ≡ Some word → args ≡ word ∷ []
+pub one-is : (args : List (List ℕ)) (word : List ℕ) → single_word args ≡ Some word → args ≡ word ∷ []
 one-is [] word e = absurd (none-some word e)
 one-is (a ∷ []) word e = ap (λ (w : List ℕ). w ∷ []) (same_Some a word e)
 one-is (a ∷ b ∷ args) word e = absurd (none-some word e)
@@ -119,10 +119,10 @@ number-is least greatest word n fits e = (number_in-spelled least greatest word 
 -- the only argument, a number
 said-number : (word : List ℕ) (args : List (List ℕ)) (least greatest : ℕ) (make : ℕ → WorldLine) → greatest < 2 ^ 64
     → ((n : ℕ) → words_of_line (make n) ≡ word ∷ decimal n ∷ []) → ((n : ℕ) → is_within least greatest n ≡ true → is_fit (make n) ≡ true)
-    → Said (word ∷ args) (option_map make (option_and_then (number_in least greatest) (one args)))
+    → Said (word ∷ args) (option_map make (option_and_then (number_in least greatest) (single_word args)))
 said-number word args least greatest make bound words fit =
-    said-map (word ∷ args) make (option_and_then (number_in least greatest) (one args)) (λ n e.
-    let t = then-some (number_in least greatest) (one args) n e in
+    said-map (word ∷ args) make (option_and_then (number_in least greatest) (single_word args)) (λ n e.
+    let t = then-some (number_in least greatest) (single_word args) n e in
     spells (word ∷ args) (make n)
     (ap (λ (vs : List (List ℕ)). word ∷ vs) (one-is args t.0 t.1 ∙ ap (λ (w : List ℕ). w ∷ []) (number-is least greatest t.0 n bound t.2)) ∙ sym (words n))
     (fit n (number-within least greatest t.0 n t.2)))
@@ -140,8 +140,8 @@ timers-is word kind e = by (bytes_eq word (codes "1")) refl (bytes_eq word (code
 
 said-networld : (args : List (List ℕ)) → Said (codes "networld" ∷ args) (networld_of args)
 said-networld args =
-    said-map (codes "networld" ∷ args) (λ (kind : Timers). line.Networld kind) (option_and_then timers_named (one args)) (λ kind e.
-    let t = then-some timers_named (one args) kind e in
+    said-map (codes "networld" ∷ args) (λ (kind : Timers). line.Networld kind) (option_and_then timers_named (single_word args)) (λ kind e.
+    let t = then-some timers_named (single_word args) kind e in
     spells (codes "networld" ∷ args) (line.Networld kind)
     (ap (λ (vs : List (List ℕ)). codes "networld" ∷ vs) (one-is args t.0 t.1 ∙ ap (λ (w : List ℕ). w ∷ []) (timers-is t.0 kind t.2))) refl)
 
@@ -151,8 +151,8 @@ said-ndb (a ∷ args) = tt
 
 -- Media.
 
-said-medium : (args : List (List ℕ)) → Said (codes "medium" ∷ args) (medium_of args)
-said-medium args = said-then (codes "medium" ∷ args) (λ (w : Two). named w.first (option_map (λ mtu. line.OfMedium (medium.Medium w.first mtu)) (number_in 576 16384 w.second))) (two args) (λ w e.
+said-medium : (args : List (List ℕ)) → Said (codes "medium" ∷ args) (medium_line_of args)
+said-medium args = said-then (codes "medium" ∷ args) (λ (w : Two). if_named w.first (option_map (λ mtu. line.OfMedium (medium.Medium w.first mtu)) (number_in 576 16384 w.second))) (two args) (λ w e.
     said-named (codes "medium" ∷ args) w.first (option_map (λ mtu. line.OfMedium (medium.Medium w.first mtu)) (number_in 576 16384 w.second)) (λ name.
     said-map (codes "medium" ∷ args) (λ mtu. line.OfMedium (medium.Medium w.first mtu)) (number_in 576 16384 w.second) (λ mtu f.
     spells (codes "medium" ∷ args) (line.OfMedium (medium.Medium w.first mtu))
@@ -160,7 +160,7 @@ said-medium args = said-then (codes "medium" ∷ args) (λ (w : Two). named w.fi
     (and_from (is_name w.first) (is_within 576 16384 mtu) name (number-within 576 16384 w.second mtu f)))))
 
 said-rates : (args : List (List ℕ)) → Said (codes "rates" ∷ args) (rates_of args)
-said-rates args = said-then (codes "rates" ∷ args) (λ (w : Four). named w.first (rates_from w.first (rate_in w.second) (rate_in w.third) (rate_in w.fourth))) (four args) (λ w e.
+said-rates args = said-then (codes "rates" ∷ args) (λ (w : Four). if_named w.first (rates_from w.first (rate_in w.second) (rate_in w.third) (rate_in w.fourth))) (four args) (λ w e.
     said-named (codes "rates" ∷ args) w.first (rates_from w.first (rate_in w.second) (rate_in w.third) (rate_in w.fourth)) (λ name.
     by w e name (rate_in w.second) refl (rate_in w.third) refl (rate_in w.fourth) refl))
   where
@@ -231,8 +231,8 @@ fate-is word x e = by (bytes_eq word (codes "deliver")) refl (bytes_eq word (cod
     by false ea false eb false ec true ed f = put (codes "later") fate.Later ed refl (same_Some fate.Later x f)
     by false ea false eb false ec false ed f = absurd (none-some x f)
 
-said-fate : (args : List (List ℕ)) → Said (codes "fate" ∷ args) (fate_of args)
-said-fate args = said-then (codes "fate" ∷ args) (λ (w : Three). named w.first (fate_from w.first (frames_in w.second) (fate_named w.third))) (three args) (λ w e.
+said-fate : (args : List (List ℕ)) → Said (codes "fate" ∷ args) (read_fate_line args)
+said-fate args = said-then (codes "fate" ∷ args) (λ (w : Three). if_named w.first (fate_from w.first (frames_in w.second) (fate_named w.third))) (three args) (λ w e.
     said-named (codes "fate" ∷ args) w.first (fate_from w.first (frames_in w.second) (fate_named w.third)) (λ name.
     by w e name (frames_in w.second) refl (fate_named w.third) refl))
   where
@@ -271,7 +271,7 @@ nets-are (a ∷ b ∷ []) e = by (proto_named a) refl (proto_named b) refl e
     by None ea q eb f = absurd (false≢true f)
 nets-are (a ∷ b ∷ c ∷ nets) e = absurd (false≢true e)
 
-said-host : (args : List (List ℕ)) → Said (codes "host" ∷ args) (host_of args)
+said-host : (args : List (List ℕ)) → Said (codes "host" ∷ args) (host_line_of args)
 said-host [] = tt
 said-host (called ∷ nets) = by (is_name called && is_nets (nets_named nets)) refl
   where
@@ -285,7 +285,7 @@ address-fits : (word : List ℕ) (ip : ℕ) → address_in word ≡ Some ip → 
 address-fits word ip e = lt-ltb ip (2 ^ 32) ((address-dotted word ip e).fits)
 
 said-if : (args : List (List ℕ)) → Said (codes "if" ∷ args) (if_of args)
-said-if args = said-then (codes "if" ∷ args) (λ (w : Three). named w.first (if_from w.first (address_in w.second) (address_in w.third))) (three args) (λ w e.
+said-if args = said-then (codes "if" ∷ args) (λ (w : Three). if_named w.first (if_from w.first (address_in w.second) (address_in w.third))) (three args) (λ w e.
     said-named (codes "if" ∷ args) w.first (if_from w.first (address_in w.second) (address_in w.third)) (λ name.
     by w e name (address_in w.second) refl (address_in w.third) refl))
   where
@@ -319,7 +319,7 @@ said-route args = said-then (codes "route" ∷ args) (λ (w : Three). route_from
 -- Scripts.
 
 said-script : (args : List (List ℕ)) → Said (codes "script" ∷ args) (script_of args)
-said-script args = said-then (codes "script" ∷ args) (λ called. named called (Some (line.Script called))) (one args) (λ called e.
+said-script args = said-then (codes "script" ∷ args) (λ called. if_named called (Some (line.Script called))) (single_word args) (λ called e.
     said-named (codes "script" ∷ args) called (Some (line.Script called)) (λ name.
     spells (codes "script" ∷ args) (line.Script called) (ap (λ (vs : List (List ℕ)). codes "script" ∷ vs) (one-is args called e)) name))
 
@@ -329,7 +329,7 @@ abbrev SaidStep : List (List ℕ) → Option Step → Type 0
 SaidStep words None = ⊤
 SaidStep words (Some s) = Spells words (line.OfScript s)
 
-said-kept : (words : List (List ℕ)) (s : Step) → joined words ≡ spelling (line.OfScript s) → SaidStep words (kept s)
+said-kept : (words : List (List ℕ)) (s : Step) → words_left words ≡ line_spelling (line.OfScript s) → SaidStep words (row_kept s)
 said-kept words s is = by (is_step s) refl
   where
     by : (b : Bool) → is_step s ≡ b → SaidStep words (if b then Some s else None)
@@ -354,21 +354,21 @@ said-open : (args : List (List ℕ)) → SaidStep (codes "open" ∷ args) (open_
 said-open [] = tt
 said-open (a ∷ []) = tt
 said-open (called ∷ path ∷ []) = said-kept (codes "open" ∷ called ∷ path ∷ []) (step.Open called path None) refl
-said-open (called ∷ path ∷ word ∷ []) = step-then (codes "open" ∷ called ∷ path ∷ word ∷ []) (λ (m : Mode). kept (step.Open called path (Some m))) (mode_named word) (λ m e.
-    said-kept (codes "open" ∷ called ∷ path ∷ word ∷ []) (step.Open called path (Some m)) (ap (λ (w : List ℕ). joined (codes "open" ∷ called ∷ path ∷ w ∷ [])) (mode-is word m e)))
+said-open (called ∷ path ∷ word ∷ []) = step-then (codes "open" ∷ called ∷ path ∷ word ∷ []) (λ (m : Mode). row_kept (step.Open called path (Some m))) (mode_named word) (λ m e.
+    said-kept (codes "open" ∷ called ∷ path ∷ word ∷ []) (step.Open called path (Some m)) (ap (λ (w : List ℕ). words_left (codes "open" ∷ called ∷ path ∷ w ∷ [])) (mode-is word m e)))
 said-open (a ∷ b ∷ c ∷ d ∷ args) = tt
 
-said-read : (args : List (List ℕ)) → SaidStep (codes "read" ∷ args) (read_of args)
-said-read args = step-then (codes "read" ∷ args) (λ (w : Two). option_and_then (λ count. kept (step.Read w.first count)) (number_in 1 65536 w.second)) (two args) (λ w e.
-    step-then (codes "read" ∷ args) (λ count. kept (step.Read w.first count)) (number_in 1 65536 w.second) (λ count f.
+said-read : (args : List (List ℕ)) → SaidStep (codes "read" ∷ args) (read_step_of args)
+said-read args = step-then (codes "read" ∷ args) (λ (w : Two). option_and_then (λ count. row_kept (step.Read w.first count)) (number_in 1 65536 w.second)) (two args) (λ w e.
+    step-then (codes "read" ∷ args) (λ count. row_kept (step.Read w.first count)) (number_in 1 65536 w.second) (λ count f.
     said-kept (codes "read" ∷ args) (step.Read w.first count)
-    (ap (λ (vs : List (List ℕ)). joined (codes "read" ∷ vs)) (two-is args w e ∙ ap (λ (x : List ℕ). w.first ∷ x ∷ []) (number-is 1 65536 w.second count (omega arith) f)))))
+    (ap (λ (vs : List (List ℕ)). words_left (codes "read" ∷ vs)) (two-is args w e ∙ ap (λ (x : List ℕ). w.first ∷ x ∷ []) (number-is 1 65536 w.second count (omega arith) f)))))
 
 said-until : (args : List (List ℕ)) → SaidStep (codes "until" ∷ args) (until_of args)
-said-until args = step-then (codes "until" ∷ args) (λ word. option_and_then (λ moment. kept (step.Until moment)) (number_in 1 1000000000 word)) (one args) (λ word e.
-    step-then (codes "until" ∷ args) (λ moment. kept (step.Until moment)) (number_in 1 1000000000 word) (λ moment f.
+said-until args = step-then (codes "until" ∷ args) (λ word. option_and_then (λ moment. row_kept (step.Until moment)) (number_in 1 1000000000 word)) (single_word args) (λ word e.
+    step-then (codes "until" ∷ args) (λ moment. row_kept (step.Until moment)) (number_in 1 1000000000 word) (λ moment f.
     said-kept (codes "until" ∷ args) (step.Until moment)
-    (ap (λ (vs : List (List ℕ)). joined (codes "until" ∷ vs)) (one-is args word e ∙ ap (λ (x : List ℕ). x ∷ []) (number-is 1 1000000000 word moment (omega arith) f)))))
+    (ap (λ (vs : List (List ℕ)). words_left (codes "until" ∷ vs)) (one-is args word e ∙ ap (λ (x : List ℕ). x ∷ []) (number-is 1 1000000000 word moment (omega arith) f)))))
 
 said-refresh : (args : List (List ℕ)) → SaidStep (codes "refresh" ∷ args) (refresh_of args)
 said-refresh [] = said-kept (codes "refresh" ∷ []) step.Refresh refl
@@ -377,42 +377,42 @@ said-refresh (a ∷ args) = tt
 said-write : (args : List (List ℕ)) → SaidStep (codes "write" ∷ args) (write_of args)
 said-write [] = tt
 said-write (called ∷ []) = tt
-said-write (called ∷ word ∷ words) = said-kept (codes "write" ∷ called ∷ word ∷ words) (step.Write called (joined (word ∷ words))) refl
+said-write (called ∷ word ∷ words) = said-kept (codes "write" ∷ called ∷ word ∷ words) (step.Write called (words_left (word ∷ words))) refl
 
 said-writex : (args : List (List ℕ)) → SaidStep (codes "writex" ∷ args) (writex_of args)
-said-writex args = step-then (codes "writex" ∷ args) (λ (w : Two). option_and_then (λ bytes. kept (step.Writex w.first bytes)) (hex_text w.second)) (two args) (λ w e.
-    step-then (codes "writex" ∷ args) (λ bytes. kept (step.Writex w.first bytes)) (hex_text w.second) (λ bytes f.
+said-writex args = step-then (codes "writex" ∷ args) (λ (w : Two). option_and_then (λ bytes. row_kept (step.Writex w.first bytes)) (hex_text w.second)) (two args) (λ w e.
+    step-then (codes "writex" ∷ args) (λ bytes. row_kept (step.Writex w.first bytes)) (hex_text w.second) (λ bytes f.
     said-kept (codes "writex" ∷ args) (step.Writex w.first bytes)
-    (ap (λ (vs : List (List ℕ)). joined (codes "writex" ∷ vs)) (two-is args w e ∙ ap (λ (x : List ℕ). w.first ∷ x ∷ []) (hex-spelled w.second bytes f)))))
+    (ap (λ (vs : List (List ℕ)). words_left (codes "writex" ∷ vs)) (two-is args w e ∙ ap (λ (x : List ℕ). w.first ∷ x ∷ []) (hex-spelled w.second bytes f)))))
 
 said-hread : (args : List (List ℕ)) → SaidStep (codes "hread" ∷ args) (hread_of args)
-said-hread args = step-then (codes "hread" ∷ args) (λ (w : Two). option_and_then (λ count. kept (step.Hread w.first count)) (number_in 1 65536 w.second)) (two args) (λ w e.
-    step-then (codes "hread" ∷ args) (λ count. kept (step.Hread w.first count)) (number_in 1 65536 w.second) (λ count f.
+said-hread args = step-then (codes "hread" ∷ args) (λ (w : Two). option_and_then (λ count. row_kept (step.Hread w.first count)) (number_in 1 65536 w.second)) (two args) (λ w e.
+    step-then (codes "hread" ∷ args) (λ count. row_kept (step.Hread w.first count)) (number_in 1 65536 w.second) (λ count f.
     said-kept (codes "hread" ∷ args) (step.Hread w.first count)
-    (ap (λ (vs : List (List ℕ)). joined (codes "hread" ∷ vs)) (two-is args w e ∙ ap (λ (x : List ℕ). w.first ∷ x ∷ []) (number-is 1 65536 w.second count (omega arith) f)))))
+    (ap (λ (vs : List (List ℕ)). words_left (codes "hread" ∷ vs)) (two-is args w e ∙ ap (λ (x : List ℕ). w.first ∷ x ∷ []) (number-is 1 65536 w.second count (omega arith) f)))))
 
 said-hwrite : (args : List (List ℕ)) → SaidStep (codes "hwrite" ∷ args) (hwrite_of args)
-said-hwrite args = step-then (codes "hwrite" ∷ args) (λ (w : Two). option_and_then (λ bytes. kept (step.Hwrite w.first bytes)) (hex_text w.second)) (two args) (λ w e.
-    step-then (codes "hwrite" ∷ args) (λ bytes. kept (step.Hwrite w.first bytes)) (hex_text w.second) (λ bytes f.
+said-hwrite args = step-then (codes "hwrite" ∷ args) (λ (w : Two). option_and_then (λ bytes. row_kept (step.Hwrite w.first bytes)) (hex_text w.second)) (two args) (λ w e.
+    step-then (codes "hwrite" ∷ args) (λ bytes. row_kept (step.Hwrite w.first bytes)) (hex_text w.second) (λ bytes f.
     said-kept (codes "hwrite" ∷ args) (step.Hwrite w.first bytes)
-    (ap (λ (vs : List (List ℕ)). joined (codes "hwrite" ∷ vs)) (two-is args w e ∙ ap (λ (x : List ℕ). w.first ∷ x ∷ []) (hex-spelled w.second bytes f)))))
+    (ap (λ (vs : List (List ℕ)). words_left (codes "hwrite" ∷ vs)) (two-is args w e ∙ ap (λ (x : List ℕ). w.first ∷ x ∷ []) (hex-spelled w.second bytes f)))))
 
 said-dns : (args : List (List ℕ)) → SaidStep (codes "dns" ∷ args) (dns_of args)
-said-dns args = step-then (codes "dns" ∷ args) (λ (w : Two). option_and_then (λ times. kept (step.Dns w.first times)) (number_in 1 1000 w.second)) (two args) (λ w e.
-    step-then (codes "dns" ∷ args) (λ times. kept (step.Dns w.first times)) (number_in 1 1000 w.second) (λ times f.
+said-dns args = step-then (codes "dns" ∷ args) (λ (w : Two). option_and_then (λ times. row_kept (step.Dns w.first times)) (number_in 1 1000 w.second)) (two args) (λ w e.
+    step-then (codes "dns" ∷ args) (λ times. row_kept (step.Dns w.first times)) (number_in 1 1000 w.second) (λ times f.
     said-kept (codes "dns" ∷ args) (step.Dns w.first times)
-    (ap (λ (vs : List (List ℕ)). joined (codes "dns" ∷ vs)) (two-is args w e ∙ ap (λ (x : List ℕ). w.first ∷ x ∷ []) (number-is 1 1000 w.second times (omega arith) f)))))
+    (ap (λ (vs : List (List ℕ)). words_left (codes "dns" ∷ vs)) (two-is args w e ∙ ap (λ (x : List ℕ). w.first ∷ x ∷ []) (number-is 1 1000 w.second times (omega arith) f)))))
 
 said-cs : (args : List (List ℕ)) → SaidStep (codes "cs" ∷ args) (cs_of args)
 said-cs [] = tt
-said-cs (word ∷ words) = said-kept (codes "cs" ∷ word ∷ words) (step.Cs (joined (word ∷ words))) refl
+said-cs (word ∷ words) = said-kept (codes "cs" ∷ word ∷ words) (step.Cs (words_left (word ∷ words))) refl
 
-said-one : (word : List ℕ) (make : List ℕ → Step) (args : List (List ℕ)) → ((a : List ℕ) → joined (word ∷ a ∷ []) ≡ spelling (line.OfScript (make a))) → SaidStep (word ∷ args) (of_one make args)
+said-one : (word : List ℕ) (make : List ℕ → Step) (args : List (List ℕ)) → ((a : List ℕ) → words_left (word ∷ a ∷ []) ≡ line_spelling (line.OfScript (make a))) → SaidStep (word ∷ args) (of_one make args)
 said-one word make [] f = tt
 said-one word make (a ∷ []) f = said-kept (word ∷ a ∷ []) (make a) (f a)
 said-one word make (a ∷ b ∷ args) f = tt
 
-said-two : (word : List ℕ) (make : List ℕ → List ℕ → Step) (args : List (List ℕ)) → ((a b : List ℕ) → joined (word ∷ a ∷ b ∷ []) ≡ spelling (line.OfScript (make a b))) → SaidStep (word ∷ args) (of_two make args)
+said-two : (word : List ℕ) (make : List ℕ → List ℕ → Step) (args : List (List ℕ)) → ((a b : List ℕ) → words_left (word ∷ a ∷ b ∷ []) ≡ line_spelling (line.OfScript (make a b))) → SaidStep (word ∷ args) (of_two make args)
 said-two word make [] f = tt
 said-two word make (a ∷ []) f = tt
 said-two word make (a ∷ b ∷ []) f = said-kept (word ∷ a ∷ b ∷ []) (make a b) (f a b)
@@ -431,21 +431,21 @@ own-if word args called o p here later = by (bytes_eq word called) refl
     by false is = later
 
 said-ropen : (args : List (List ℕ)) → SaidStep (codes "ropen" ∷ args) (ropen_of args)
-said-ropen args = step-then (codes "ropen" ∷ args) (λ (w : Four). option_and_then (λ (m : Mode). kept (step.Ropen w.first w.second w.third m)) (mode_named w.fourth)) (four args) (λ w e.
-    step-then (codes "ropen" ∷ args) (λ (m : Mode). kept (step.Ropen w.first w.second w.third m)) (mode_named w.fourth) (λ m f.
+said-ropen args = step-then (codes "ropen" ∷ args) (λ (w : Four). option_and_then (λ (m : Mode). row_kept (step.Ropen w.first w.second w.third m)) (mode_named w.fourth)) (four args) (λ w e.
+    step-then (codes "ropen" ∷ args) (λ (m : Mode). row_kept (step.Ropen w.first w.second w.third m)) (mode_named w.fourth) (λ m f.
     said-kept (codes "ropen" ∷ args) (step.Ropen w.first w.second w.third m)
-    (ap (λ (vs : List (List ℕ)). joined (codes "ropen" ∷ vs)) (four-is args w e ∙ ap (λ (x : List ℕ). w.first ∷ w.second ∷ w.third ∷ x ∷ []) (mode-is w.fourth m f)))))
+    (ap (λ (vs : List (List ℕ)). words_left (codes "ropen" ∷ vs)) (four-is args w e ∙ ap (λ (x : List ℕ). w.first ∷ w.second ∷ w.third ∷ x ∷ []) (mode-is w.fourth m f)))))
 
 said-rread : (args : List (List ℕ)) → SaidStep (codes "rread" ∷ args) (rread_of args)
-said-rread args = step-then (codes "rread" ∷ args) (λ (w : Two). option_and_then (λ count. kept (step.Rread w.first count)) (number_in 1 488 w.second)) (two args) (λ w e.
-    step-then (codes "rread" ∷ args) (λ count. kept (step.Rread w.first count)) (number_in 1 488 w.second) (λ count f.
+said-rread args = step-then (codes "rread" ∷ args) (λ (w : Two). option_and_then (λ count. row_kept (step.Rread w.first count)) (number_in 1 488 w.second)) (two args) (λ w e.
+    step-then (codes "rread" ∷ args) (λ count. row_kept (step.Rread w.first count)) (number_in 1 488 w.second) (λ count f.
     said-kept (codes "rread" ∷ args) (step.Rread w.first count)
-    (ap (λ (vs : List (List ℕ)). joined (codes "rread" ∷ vs)) (two-is args w e ∙ ap (λ (x : List ℕ). w.first ∷ x ∷ []) (number-is 1 488 w.second count (omega arith) f)))))
+    (ap (λ (vs : List (List ℕ)). words_left (codes "rread" ∷ vs)) (two-is args w e ∙ ap (λ (x : List ℕ). w.first ∷ x ∷ []) (number-is 1 488 w.second count (omega arith) f)))))
 
 said-rwrite : (args : List (List ℕ)) → SaidStep (codes "rwrite" ∷ args) (rwrite_of args)
 said-rwrite [] = tt
 said-rwrite (called ∷ []) = tt
-said-rwrite (called ∷ word ∷ words) = said-kept (codes "rwrite" ∷ called ∷ word ∷ words) (step.Rwrite called (joined (word ∷ words))) refl
+said-rwrite (called ∷ word ∷ words) = said-kept (codes "rwrite" ∷ called ∷ word ∷ words) (step.Rwrite called (words_left (word ∷ words))) refl
 
 said-import : (word : List ℕ) (args : List (List ℕ)) → SaidOwn (word ∷ args) (import_of word args)
 said-import word args =
@@ -470,10 +470,10 @@ said-other word args =
     (own-if word args (codes "hwrite") (hwrite_of args) _ (said-hwrite args)
     (own-if word args (codes "dns") (dns_of args) (import_of word args) (said-dns args) (said-import word args)))))))))))
 
-said-step : (word : List ℕ) (args : List (List ℕ)) → SaidOwn (word ∷ args) (step_of word args)
+said-step : (word : List ℕ) (args : List (List ℕ)) → SaidOwn (word ∷ args) (step_in_line word args)
 said-step word args =
     own-if word args (codes "open") (open_of args) _ (said-open args)
-    (own-if word args (codes "read") (read_of args) _ (said-read args)
+    (own-if word args (codes "read") (read_step_of args) _ (said-read args)
     (own-if word args (codes "write") (write_of args) _ (said-write args)
     (own-if word args (codes "writex") (writex_of args) _ (said-writex args)
     (own-if word args (codes "close") (of_one (λ n. step.Close n) args) _ (said-one (codes "close") (λ n. step.Close n) args (λ a. refl))
@@ -508,20 +508,20 @@ said-words [] = tt
 said-words (word ∷ args) =
     line-if word args (codes "ndb") (ndb_of args) _ (said-ndb args)
     (line-if word args (codes "networld") (networld_of args) _ (said-networld args)
-    (line-if word args (codes "end") (end_of args) _ (said-number (codes "end") args 1 1000000000 (λ m. line.End m) (omega arith) (λ n. refl) (λ n e. e))
+    (line-if word args (codes "end") (read_end_line args) _ (said-number (codes "end") args 1 1000000000 (λ m. line.End m) (omega arith) (λ n. refl) (λ n e. e))
     (line-if word args (codes "seed") (seed_of args) _ (said-number (codes "seed") args 0 18446744073709551615 (λ s. line.Seed s) (omega arith) (λ n. refl) (λ n e. e))
-    (line-if word args (codes "medium") (medium_of args) _ (said-medium args)
+    (line-if word args (codes "medium") (medium_line_of args) _ (said-medium args)
     (line-if word args (codes "rates") (rates_of args) _ (said-rates args)
-    (line-if word args (codes "fate") (fate_of args) _ (said-fate args)
-    (line-if word args (codes "host") (host_of args) _ (said-host args)
+    (line-if word args (codes "fate") (read_fate_line args) _ (said-fate args)
+    (line-if word args (codes "host") (host_line_of args) _ (said-host args)
     (line-if word args (codes "if") (if_of args) _ (said-if args)
     (line-if word args (codes "route") (route_of args) _ (said-route args)
-    (line-if word args (codes "start") (start_of args) _ (said-number (codes "start") args 1 4294967295 (λ n. line.OfHost (host.Start n)) (omega arith) (λ n. refl) (λ n e. e))
+    (line-if word args (codes "start") (start_line args) _ (said-number (codes "start") args 1 4294967295 (λ n. line.OfHost (host.Start n)) (omega arith) (λ n. refl) (λ n e. e))
     (line-if word args (codes "script") (script_of args) _ (said-script args)
-    (said-read_step (word ∷ args) (step_of word args) (said-step word args)))))))))))))
+    (said-read_step (word ∷ args) (step_in_line word args) (said-step word args)))))))))))))
 
 -- what is read of a line is what it spells
-pub spelled : (text : List ℕ) (l : WorldLine) → read_line text ≡ Ok l → (text ≡ spelling l) × (is_fit l ≡ true)
+pub spelled : (text : List ℕ) (l : WorldLine) → read_line text ≡ Ok l → (text ≡ line_spelling l) × (is_fit l ≡ true)
 spelled text l e =
-    let s : Spells (words_of text) l = subst (SaidLine (words_of text)) e (said-words (words_of text)) in
+    let s : Spells (words_in_line text) l = subst (SaidLine (words_in_line text)) e (said-words (words_in_line text)) in
     (sym (join_with_byte-slice_split 32 text) ∙ s.is, s.fit)

@@ -16,7 +16,7 @@ use Rattle.net_base.specs.NdbBundle.{cause, causes_of, first_bad, has_tuple, is_
 use Rattle.net_base.specs.NdbText.{begins, begins_with, is_percent}
 use Rattle.net_base.specs.Versions.{are_later}
 use Rattle.world_text.specs.declared.line.LineCause.TheVariants as line_cause
-use Rattle.world_text.specs.LineCauses.{number_of}
+use Rattle.world_text.specs.LineCauses.{cause_number_of}
 use Rattle.world_text.specs.VersionLines.{at_causes, begins_at, first_bad_version, is_at_line, last_moment, later_versions, moment_of, own_lines, version_causes, versions_in, with_version}
 use Rattle.world_text.specs.WorldSpelling.{IsGoodBundle, LaterText, line_of_moment, lines_of_later, version_said}
 use Rattle.net_base.proofs.Shared.{number-back, number_in-spelled}
@@ -235,8 +235,8 @@ split before (line ∷ lines) good =
   where
     begins : (o : Option ℕ) → moment_of line ≡ o → is_at_line line ≡ true → at_causes (last_moment before) o ≡ []
         → Split (last_moment (before ++ line ∷ [])) (own_lines (before ++ line ∷ [])) lines → Split (last_moment before) (own_lines before) (line ∷ lines)
-    begins None is at none s = absurd (no_cons (number_of line_cause.WrongArgument) [] none)
-    begins (Some moment) is at none s = split-at before line lines moment at is (cause-alone (number_of line_cause.EarlyVersion) (nat_le moment (last_moment before)) none) s
+    begins None is at none s = absurd (no_cons (cause_number_of line_cause.WrongArgument) [] none)
+    begins (Some moment) is at none s = split-at before line lines moment at is (cause-alone (cause_number_of line_cause.EarlyVersion) (nat_le moment (last_moment before)) none) s
 
     by : (b : Bool) → is_at_line line ≡ b → cond b (at_causes (last_moment before) (moment_of line)) (causes_of (has_tuple (own_lines before)) line) ≡ []
         → Split (last_moment (before ++ line ∷ [])) (own_lines (before ++ line ∷ [])) lines → Split (last_moment before) (own_lines before) (line ∷ lines)
@@ -275,7 +275,7 @@ later-back before (v ∷ later) good rising =
     let two = and_parts (nat_le v.moment 1000000000) (are_later v.moment (saids later)) one.1 in
     let is = named (last_moment before) v later rising in
     let none : version_causes before line ≡ [] =
-    ap (at_causes (last_moment before)) is ∙ ap (cause (number_of line_cause.EarlyVersion)) (le-not v.moment (last_moment before) one.0) in
+    ap (at_causes (last_moment before)) is ∙ ap (cause (cause_number_of line_cause.EarlyVersion)) (le-not v.moment (last_moment before) one.0) in
     let last : last_moment ((before ++ line ∷ []) ++ v.bundle) ≡ v.moment =
     last-free (before ++ line ∷ []) v.bundle (good-free [] v.bundle good.0) ∙ last-at before line v.moment (at-line v.moment) is in
     version-more before line (v.bundle ++ flat_map lines_of_later later) none
@@ -385,7 +385,7 @@ pub version-goes : (before : List (List ℕ)) (line : List ℕ) (tail : List (Li
 version-goes before line tail moment at is late =
     let none : version_causes before line ≡ [] =
     ap (λ (b : Bool). cond b (at_causes (last_moment before) (moment_of line)) (causes_of (has_tuple (own_lines before)) line)) at
-    ∙ (ap (at_causes (last_moment before)) is ∙ ap (cause (number_of line_cause.EarlyVersion)) (not-late moment (last_moment before) late)) in
+    ∙ (ap (at_causes (last_moment before)) is ∙ ap (cause (cause_number_of line_cause.EarlyVersion)) (not-late moment (last_moment before) late)) in
     ap (λ (cs : List ℕ). told_line (length before + 1) (least_of_causes cs) (first_bad_version (before ++ line ∷ []) tail)) none
   where
     not-late : (m n : ℕ) → n < m → nat_le m n ≡ false

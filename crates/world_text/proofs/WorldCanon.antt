@@ -16,7 +16,7 @@ use Rattle.world_text.specs.declared.line.MediumLine.{MediumLine}
 use Rattle.world_text.specs.declared.line.MediumLine.TheVariants as medium
 use Rattle.world_text.specs.declared.line.WorldLine.TheVariants as line
 use Rattle.world_text.specs.WorldLines.{range_of}
-use Rattle.world_text.specs.WorldSpelling.{EachBehind, IsBehindMedium, Rates, SaysMedium, fate_on, fate_word, line_of_fate, lines_of_medium, lines_of_rates, media_named, media_said, medium_names, medium_said, name_said, no_rates, rated_name, rates_on, rates_said, spaced, spelling}
+use Rattle.world_text.specs.WorldSpelling.{EachBehind, IsBehindMedium, Rates, SaysMedium, fate_on, fate_word, line_of_fate, lines_of_medium, lines_of_rates, media_named, media_said, medium_names, medium_said, name_said, no_rates, rated_name, rates_on, rates_said, spaced_line, line_spelling}
 use Rattle.world_text.proofs.WorldLists.{any-insert, apart-insert, each-none, each-push, false-of-not, same-bytes}
 use Rattle.world_text.proofs.WorldMedia.{named-front, names}
 use Rattle.world_text.proofs.WorldLed.{of_media}
@@ -47,38 +47,38 @@ media_lines ms = flat_map medium_lines ms
 
 -- their spelling
 
-spelled-fates : (called : List ℕ) (fs : List FateRange) → map spelling (of_media (fate_lines called fs)) ≡ map (line_of_fate called) fs
+spelled-fates : (called : List ℕ) (fs : List FateRange) → map line_spelling (of_media (fate_lines called fs)) ≡ map (line_of_fate called) fs
 spelled-fates called [] = refl
 spelled-fates called (f ∷ fs) = by (f.first == f.last) (spelled-fates called fs)
   where
-    by : (b : Bool) → map spelling (of_media (fate_lines called fs)) ≡ map (line_of_fate called) fs
-        → spelling (line.OfMedium (medium.Fate called (if b then frames.One f.first else frames.Range f.first f.last) f.fate)) ∷ map spelling (of_media (fate_lines called fs))
-        ≡ spaced (codes "fate" ∷ called ∷ (if b then decimal f.first else decimal f.first ++ (codes "-" ++ decimal f.last)) ∷ fate_word f.fate ∷ []) ∷ map (line_of_fate called) fs
-    by true h = ap (λ ls. spelling (line.OfMedium (medium.Fate called (frames.One f.first) f.fate)) ∷ ls) h
-    by false h = ap (λ ls. spelling (line.OfMedium (medium.Fate called (frames.Range f.first f.last) f.fate)) ∷ ls) h
+    by : (b : Bool) → map line_spelling (of_media (fate_lines called fs)) ≡ map (line_of_fate called) fs
+        → line_spelling (line.OfMedium (medium.Fate called (if b then frames.One f.first else frames.Range f.first f.last) f.fate)) ∷ map line_spelling (of_media (fate_lines called fs))
+        ≡ spaced_line (codes "fate" ∷ called ∷ (if b then decimal f.first else decimal f.first ++ (codes "-" ++ decimal f.last)) ∷ fate_word f.fate ∷ []) ∷ map (line_of_fate called) fs
+    by true h = ap (λ ls. line_spelling (line.OfMedium (medium.Fate called (frames.One f.first) f.fate)) ∷ ls) h
+    by false h = ap (λ ls. line_spelling (line.OfMedium (medium.Fate called (frames.Range f.first f.last) f.fate)) ∷ ls) h
 
-spelled-rates : (s : MediumSpec) → map spelling (of_media (rates_lines s)) ≡ lines_of_rates s
+spelled-rates : (s : MediumSpec) → map line_spelling (of_media (rates_lines s)) ≡ lines_of_rates s
 spelled-rates s = by (is_still s)
   where
-    by : (b : Bool) → map spelling (of_media (if b then [] else medium.Rates s.name s.loss s.twice s.later ∷ []))
-        ≡ (if b then [] else spaced (codes "rates" ∷ s.name ∷ decimal s.loss ∷ decimal s.twice ∷ decimal s.later ∷ []) ∷ [])
+    by : (b : Bool) → map line_spelling (of_media (if b then [] else medium.Rates s.name s.loss s.twice s.later ∷ []))
+        ≡ (if b then [] else spaced_line (codes "rates" ∷ s.name ∷ decimal s.loss ∷ decimal s.twice ∷ decimal s.later ∷ []) ∷ [])
     by true = refl
     by false = refl
 
-spelled-append : (xs ys : List MediumLine) → map spelling (of_media (xs ++ ys)) ≡ map spelling (of_media xs) ++ map spelling (of_media ys)
-spelled-append xs ys = ap (map spelling) (map-append (λ (l : MediumLine). line.OfMedium l) xs ys) ∙ map-append spelling (of_media xs) (of_media ys)
+spelled-append : (xs ys : List MediumLine) → map line_spelling (of_media (xs ++ ys)) ≡ map line_spelling (of_media xs) ++ map line_spelling (of_media ys)
+spelled-append xs ys = ap (map line_spelling) (map-append (λ (l : MediumLine). line.OfMedium l) xs ys) ∙ map-append line_spelling (of_media xs) (of_media ys)
 
-spelled-medium : (s : MediumSpec) → map spelling (of_media (medium_lines s)) ≡ lines_of_medium s
+spelled-medium : (s : MediumSpec) → map line_spelling (of_media (medium_lines s)) ≡ lines_of_medium s
 spelled-medium s =
-    ap (λ ls. spelling (line.OfMedium (medium.Medium s.name s.mtu)) ∷ ls)
+    ap (λ ls. line_spelling (line.OfMedium (medium.Medium s.name s.mtu)) ∷ ls)
     (spelled-append (rates_lines s) (fate_lines s.name s.fates)
-    ∙ (ap (λ ls. ls ++ map spelling (of_media (fate_lines s.name s.fates))) (spelled-rates s) ∙ ap (λ ls. lines_of_rates s ++ ls) (spelled-fates s.name s.fates)))
+    ∙ (ap (λ ls. ls ++ map line_spelling (of_media (fate_lines s.name s.fates))) (spelled-rates s) ∙ ap (λ ls. lines_of_rates s ++ ls) (spelled-fates s.name s.fates)))
 
-spelled-media : (ms : List MediumSpec) → map spelling (of_media (media_lines ms)) ≡ flat_map lines_of_medium ms
+spelled-media : (ms : List MediumSpec) → map line_spelling (of_media (media_lines ms)) ≡ flat_map lines_of_medium ms
 spelled-media [] = refl
 spelled-media (s ∷ ms) =
     spelled-append (medium_lines s) (media_lines ms)
-    ∙ (ap (λ ls. ls ++ map spelling (of_media (media_lines ms))) (spelled-medium s) ∙ ap (λ ls. lines_of_medium s ++ ls) (spelled-media ms))
+    ∙ (ap (λ ls. ls ++ map line_spelling (of_media (media_lines ms))) (spelled-medium s) ∙ ap (λ ls. lines_of_medium s ++ ls) (spelled-media ms))
 
 -- what they say
 
@@ -305,7 +305,7 @@ media-behind before (s ∷ rest) each apart =
     (media-behind (before ++ s ∷ []) rest (subst (EachBehind IsBehindMedium) lines third) (ap (λ ms. all_apart bytes_eq (medium_names ms)) same ∙ apart))
 
 pub record CanonMedia (ms : List MediumSpec) : Type 0 where
-  pub spelled : map spelling (of_media (media_lines ms)) ≡ flat_map lines_of_medium ms
+  pub spelled : map line_spelling (of_media (media_lines ms)) ≡ flat_map lines_of_medium ms
   pub said : ms ≡ media_said (media_lines ms)
   pub behind : EachBehind IsBehindMedium (media_lines ms)
 

@@ -18,7 +18,7 @@ use Rattle.net_base.specs.World.{addresses, all_apart, is_address, is_host, is_i
 use Rattle.world_text.specs.declared.line.HostLine.{HostLine}
 use Rattle.world_text.specs.declared.line.HostLine.TheVariants as host
 use Rattle.world_text.specs.WorldLines.{is_near, is_net}
-use Rattle.world_text.specs.WorldSpelling.{EachBehind, HostText, IsReached, host_said, iface_said, place_of, route_said, start_said}
+use Rattle.world_text.specs.WorldSpelling.{EachBehind, HostText, IsReached, host_said, iface_said, place_among, route_said, start_said}
 use Rattle.world_text.specs.LineFit.{fit_host_line}
 use Rattle.world_text.proofs.WorldLists.{all-at, all-if, apart-map, false-of-not, place-there}
 use Rattle.world_text.proofs.WorldMediums.{all-found}
@@ -319,8 +319,8 @@ lines-of-host ns h names_fit reached is_so =
         (route-is (iface_routes 0 (ifaces ns h.under)) l (all-found (is_route (iface_routes 0 (ifaces ns h.under))) route_said h.under before (host.Route l) rest l e refl p.routed)).fit
     at p before (host.Start start) rest e = all-found is_start start_said h.under before (host.Start start) rest start e refl p.started
     at p before (host.If called ip mask) rest e =
-        let a = and_parts (nat_lt (place_of ns called) (length ns)) (is_address ip && is_mask mask)
-        (all-found (is_iface (length ns)) (iface_said ns) h.under before (host.If called ip mask) rest (record { medium = place_of ns called; ip = ip; mask = mask }) e refl p.on) in
+        let a = and_parts (nat_lt (place_among ns called) (length ns)) (is_address ip && is_mask mask)
+        (all-found (is_iface (length ns)) (iface_said ns) h.under before (host.If called ip mask) rest (record { medium = place_among ns called; ip = ip; mask = mask }) e refl p.on) in
         let b = and_parts (is_address ip) (is_mask mask) a.1 in
         and_from (is_name called) (is_address ip && is_address mask) (name-known called ns names_fit (sym (place-there (bytes_eq called) ns) ∙ a.0))
         (and_from (is_address ip) (is_address mask) b.0 (mask-small mask b.1))

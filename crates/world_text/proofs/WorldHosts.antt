@@ -20,7 +20,7 @@ use Rattle.world_text.specs.declared.line.HostLine.{HostLine}
 use Rattle.world_text.specs.declared.line.HostLine.TheVariants as host
 use Rattle.world_text.specs.declared.line.LineCause.TheVariants as cause
 use Rattle.world_text.specs.WorldLines.{Draft, after_host_line, at_last, bare_host, has_host, has_iface_on, has_medium, host_cause, host_line_cause, host_under, is_before, is_host_named, is_medium_named, is_near, is_net, is_network, is_past, is_under, knows_network, leads_to, medium_number, reaches, with_host_line}
-use Rattle.world_text.specs.WorldSpelling.{EachBehind, HostText, IsReached, host_said, iface_said, medium_names, place_of, route_said, start_said}
+use Rattle.world_text.specs.WorldSpelling.{EachBehind, HostText, IsReached, host_said, iface_said, medium_names, place_among, route_said, start_said}
 use Rattle.world_text.specs.LineFit.{fit_host_line}
 use Rattle.world_text.proofs.WorldLists.{all-parts, all-push, any-cong, any-map, apart-front, apart-insert, apart-push, at_last-push, each-front, each-last, each-none, each-push, false-of-not, last-push, place-map, place-there, same-bytes, same-numbers}
 use Rattle.world_text.proofs.WorldMedia.{passes, room-from, unrefused}
@@ -146,11 +146,11 @@ same-starts lines x e = filter_map-append start_said lines (x ∷ []) ∙ (ap (�
 abbrev host_with : HostText → List Iface → List RouteLine → List ℕ → HostSpec
 host_with h is rs ss = record { name = h.name; nets = h.nets; ifaces = is; routes = rs; starts = ss }
 
-said-pushed : (ns : List (List ℕ)) (number : List ℕ → ℕ) → ((called : List ℕ) → number called ≡ place_of ns called) → (h : HostText) (x : HostLine)
+said-pushed : (ns : List (List ℕ)) (number : List ℕ → ℕ) → ((called : List ℕ) → number called ≡ place_among ns called) → (h : HostText) (x : HostLine)
     → with_host_line number x (host_said ns h) ≡ host_said ns (with_line h x)
 said-pushed ns number same h (host.If called ip mask) =
     let x : HostLine = host.If called ip mask in
-    let i : Iface = record { medium = place_of ns called; ip = ip; mask = mask } in
+    let i : Iface = record { medium = place_among ns called; ip = ip; mask = mask } in
     ap (λ m. host_with h (ifaces ns h.under ++ record { medium = m; ip = ip; mask = mask } ∷ []) (routes h.under) (starts h.under)) (same called)
     ∙ (ap (λ is. host_with h is (routes h.under) (starts h.under)) (sym (more-ifaces ns h.under x i refl))
     ∙ (ap (λ rs. host_with h (ifaces ns (h.under ++ x ∷ [])) rs (starts h.under)) (sym (same-routes h.under x refl))
@@ -169,7 +169,7 @@ said-pushed ns number same h (host.Start start) =
 abbrev position_in : List MediumSpec → List ℕ → ℕ
 position_in media called = position_or_len (is_medium_named called) media
 
-same-number : (media : List MediumSpec) (called : List ℕ) → position_in media called ≡ place_of (medium_names media) called
+same-number : (media : List MediumSpec) (called : List ℕ) → position_in media called ≡ place_among (medium_names media) called
 same-number media called = sym (place-map (bytes_eq called) (λ (s : MediumSpec). s.name) media)
 
 saids-pushed : (ns : List (List ℕ)) (front : List HostText) (h : HostText) → saids ns (front ++ h ∷ []) ≡ saids ns front ++ host_said ns h ∷ []
@@ -306,7 +306,7 @@ same-media : (i j : Iface) → same_medium i j ≡ same_medium j i
 same-media i j = same-numbers i.medium j.medium
 
 -- whether a medium has a name, by the names
-pub knows-medium : (media : List MediumSpec) (called : List ℕ) → list_any (is_medium_named called) media ≡ nat_lt (place_of (medium_names media) called) (length (medium_names media))
+pub knows-medium : (media : List MediumSpec) (called : List ℕ) → list_any (is_medium_named called) media ≡ nat_lt (place_among (medium_names media) called) (length (medium_names media))
 knows-medium media called =
     sym (any-map (bytes_eq called) (λ (m : MediumSpec). m.name) media) ∙ sym (place-there (bytes_eq called) (medium_names media))
 
@@ -317,7 +317,7 @@ line_fits_if kind e s media rated front h called ip mask k fit good =
     let ns : List (List ℕ) = medium_names media in
     let d : Draft = host_draft kind e s media rated (front ++ h ∷ []) in
     let x : HostLine = host.If called ip mask in
-    let i : Iface = record { medium = place_of ns called; ip = ip; mask = mask } in
+    let i : Iface = record { medium = place_among ns called; ip = ip; mask = mask } in
     let unknown = unrefused cause.UnknownName (not (has_medium called d)) _ good in
     let twice = unrefused cause.NameTwice (is_under (has_iface_on (medium_number called d)) d) _ unknown.1 in
     let address = unrefused cause.AddressTwice (list_any (has_ip ip) (saids ns (front ++ h ∷ []))) _ twice.1 in
@@ -327,9 +327,9 @@ line_fits_if kind e s media rated front h called ip mask k fit good =
     let mine = each-last (EachFine ns) front h k.each in
     let parts = and_parts (is_name called) (is_address ip && is_address mask) fit in
     let small = and_parts (is_address ip) (is_address mask) parts.1 in
-    let there : nat_lt (place_of ns called) (length ns) ≡ true = sym (knows-medium media called) ∙ not-false (has_medium called d) unknown.0 in
+    let there : nat_lt (place_among ns called) (length ns) ≡ true = sym (knows-medium media called) ∙ not-false (has_medium called d) unknown.0 in
     let fresh : list_any (same_medium i) (ifaces ns h.under) ≡ false =
-    any-cong (same_medium i) (λ (j : Iface). j.medium == place_of ns called) (λ j. same-numbers (place_of ns called) j.medium) (ifaces ns h.under)
+    any-cong (same_medium i) (λ (j : Iface). j.medium == place_among ns called) (λ j. same-numbers (place_among ns called) j.medium) (ifaces ns h.under)
     ∙ (ap (λ n. has_iface_on n (host_said ns h)) (sym (same-number media called))
     ∙ (sym (holds-under (has_iface_on (medium_number called d)) kind e s media rated front h) ∙ twice.0)) in
     let new_net : list_any (same_network (record { net = bit_and ip mask; mask = mask; iface = 0 + length (ifaces ns h.under); next = None })) (networks ns h.under) ≡ false =
@@ -342,7 +342,7 @@ line_fits_if kind e s media rated front h called ip mask k fit good =
       fit = all-push fit_host_line h.under x mine.fit fit;
       on = ap (list_all (is_iface (length ns))) (more-ifaces ns h.under x i refl)
           ∙ all-push (is_iface (length ns)) (ifaces ns h.under) i mine.on
-          (and_from (nat_lt (place_of ns called) (length ns)) (is_address ip && is_mask mask) there (and_from (is_address ip) (is_mask mask) small.0 (not-false (is_mask mask) holes.0)));
+          (and_from (nat_lt (place_among ns called) (length ns)) (is_address ip && is_mask mask) there (and_from (is_address ip) (is_mask mask) small.0 (not-false (is_mask mask) holes.0)));
       apart = ap (all_apart same_medium) (more-ifaces ns h.under x i refl)
           ∙ (apart-push same_medium same-media (ifaces ns h.under) i ∙ (ap (λ b. not b && all_apart same_medium (ifaces ns h.under)) fresh ∙ mine.apart));
       nets_good = ap (list_all good_net) (same-routes h.under x refl) ∙ mine.nets_good;
@@ -423,7 +423,7 @@ line-front ns front h x k mine = record {
 host-front : (ns : List (List ℕ)) (h : HostText) (x : HostLine) → FineHost ns (with_line h x) → FineHost ns h
 host-front ns h (host.If called ip mask) k =
     let x : HostLine = host.If called ip mask in
-    let i : Iface = record { medium = place_of ns called; ip = ip; mask = mask } in
+    let i : Iface = record { medium = place_among ns called; ip = ip; mask = mask } in
     record {
       head = k.head;
       fit = (all-parts fit_host_line h.under x k.fit).0;
@@ -466,11 +466,11 @@ good-if kind e s media rated front h called ip mask k =
     let ns : List (List ℕ) = medium_names media in
     let d : Draft = host_draft kind e s media rated (front ++ h ∷ []) in
     let x : HostLine = host.If called ip mask in
-    let i : Iface = record { medium = place_of ns called; ip = ip; mask = mask } in
+    let i : Iface = record { medium = place_among ns called; ip = ip; mask = mask } in
     let r : Route = record { net = bit_and ip mask; mask = mask; iface = 0 + length (ifaces ns h.under); next = None } in
     let mine = each-last (EachFine ns) front (with_line h x) k.each in
     let fits = (all-parts (is_iface (length ns)) (ifaces ns h.under) i (ap (list_all (is_iface (length ns))) (sym (more-ifaces ns h.under x i refl)) ∙ mine.on)).1 in
-    let there = and_parts (nat_lt (place_of ns called) (length ns)) (is_address ip && is_mask mask) fits in
+    let there = and_parts (nat_lt (place_among ns called) (length ns)) (is_address ip && is_mask mask) fits in
     let ones = and_parts (is_address ip) (is_mask mask) there.1 in
     let media_apart = and_parts (not (list_any (same_medium i) (ifaces ns h.under))) (all_apart same_medium (ifaces ns h.under))
     (sym (ap (all_apart same_medium) (more-ifaces ns h.under x i refl) ∙ apart-push same_medium same-media (ifaces ns h.under) i) ∙ mine.apart) in
@@ -483,7 +483,7 @@ good-if kind e s media rated front h called ip mask k =
           (passes cause.NameTwice (is_under (has_iface_on (medium_number called d)) d) _
           (holds-under (has_iface_on (medium_number called d)) kind e s media rated front h
           ∙ (ap (λ n. has_iface_on n (host_said ns h)) (same-number media called)
-          ∙ (sym (any-cong (same_medium i) (λ (j : Iface). j.medium == place_of ns called) (λ j. same-numbers (place_of ns called) j.medium) (ifaces ns h.under)) ∙ false-of-not _ media_apart.0)))
+          ∙ (sym (any-cong (same_medium i) (λ (j : Iface). j.medium == place_among ns called) (λ j. same-numbers (place_among ns called) j.medium) (ifaces ns h.under)) ∙ false-of-not _ media_apart.0)))
           (passes cause.AddressTwice (list_any (has_ip ip) (saids ns (front ++ h ∷ []))) _ (has-address ip (saids ns (front ++ h ∷ [])) ∙ false-of-not _ addresses_apart.0)
           (passes cause.OutOfOrder (is_none (host_under d)) _ (some-under kind e s media rated front h)
           (passes cause.BadMask (not (is_mask mask)) _ (ap not ones.1)

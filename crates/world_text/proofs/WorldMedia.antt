@@ -17,7 +17,7 @@ use Rattle.world_text.specs.declared.line.LineCause.{LineCause}
 use Rattle.world_text.specs.declared.line.LineCause.TheVariants as cause
 use Rattle.world_text.specs.declared.line.MediumLine.{MediumLine}
 use Rattle.world_text.specs.declared.line.MediumLine.TheVariants as medium
-use Rattle.world_text.specs.WorldLines.{Draft, after_medium_line, has_fate, has_medium, is_before, is_fated, is_medium_named, is_past, is_rated, medium_line_cause, on_medium, plain_medium, range_of, refuse, with_fate, with_rates}
+use Rattle.world_text.specs.WorldLines.{Draft, after_medium_line, has_fate, has_medium, is_before, is_fated, is_medium_named, is_past, is_rated, medium_line_cause, on_named_medium, plain_medium, range_of, refuse, with_fate, with_rates}
 use Rattle.world_text.specs.WorldSpelling.{EachBehind, IsBehindMedium, Rates, SaysMedium, fate_on, media_named, media_said, medium_names, medium_said, name_said, no_rates, rated_name, rates_on}
 use Rattle.world_text.specs.LineFit.{fit_medium_line}
 use Rattle.world_text.proofs.WorldLists.{all-parts, all-push, any-map, apart-front, apart-push, each-front, each-last, each-none, each-push, false-of-not, none-if, same-bytes}
@@ -172,7 +172,7 @@ said-rates all other loss twice later n called mtu none = said-push all (medium.
         ∙ ap (medium_with n called mtu (filter_map (rates_on called) all)) (append-nil (filter_map (fate_on called) all)))
 
 rates-pushed : (all : List MediumLine) (called : List ℕ) (loss twice later n : ℕ) (lines : List MediumLine) → filter_map (rates_on called) all ≡ []
-    → media_named (all ++ medium.Rates called loss twice later ∷ []) n lines ≡ on_medium called (with_rates loss twice later) (media_named all n lines)
+    → media_named (all ++ medium.Rates called loss twice later ∷ []) n lines ≡ on_named_medium called (with_rates loss twice later) (media_named all n lines)
 rates-pushed all called loss twice later n [] none = refl
 rates-pushed all called loss twice later n (medium.Medium other mtu ∷ lines) none =
     ap (λ s. s ∷ media_named (all ++ medium.Rates called loss twice later ∷ []) (n + 1) lines) (said-rates all called loss twice later n other mtu none)
@@ -197,7 +197,7 @@ said-fate all other f x n called mtu = said-push all (medium.Fate other f x) n c
         ∙ ap (medium_with n called mtu (filter_map (rates_on called) all)) (append-nil (filter_map (fate_on called) all)))
 
 fate-pushed : (all : List MediumLine) (called : List ℕ) (f : Frames) (x : Fate) (n : ℕ) (lines : List MediumLine)
-    → media_named (all ++ medium.Fate called f x ∷ []) n lines ≡ on_medium called (with_fate (range_of f x)) (media_named all n lines)
+    → media_named (all ++ medium.Fate called f x ∷ []) n lines ≡ on_named_medium called (with_fate (range_of f x)) (media_named all n lines)
 fate-pushed all called f x n [] = refl
 fate-pushed all called f x n (medium.Medium other mtu ∷ lines) =
     ap (λ s. s ∷ media_named (all ++ medium.Fate called f x ∷ []) (n + 1) lines) (said-fate all called f x n other mtu)

@@ -24,8 +24,8 @@ use Rattle.world_text.specs.declared.line.WorldLine.TheVariants as line
 use Rattle.world_text.specs.LineReading.{read_line}
 use Rattle.world_text.specs.VersionLines.{versions_in}
 use Rattle.world_text.specs.WorldLines.{Begins, Draft, Goes, after, first_line, good_line, judged_line, line_cause, line_verdict, opening_draft, unless, world_of}
-use Rattle.world_text.specs.WorldRefusal.{Leads}
-use Rattle.world_text.specs.WorldSpelling.{EachBehind, HostText, IsBehindMedium, IsHeaded, IsReached, IsWorldText, ScriptText, host_names, host_said, laid, lines_of_steps, lines_of_text, lines_said, media_said, medium_names, script_said, speaks, spelling}
+use Rattle.world_text.specs.WorldRefusal.{LeadsToWorld}
+use Rattle.world_text.specs.WorldSpelling.{EachBehind, HostText, IsBehindMedium, IsHeaded, IsReached, IsWorldText, ScriptText, host_names, host_said, laid, lines_of_steps, lines_of_text, lines_said, media_said, medium_names, script_said, speaks, line_spelling}
 use Rattle.world_text.specs.WorldText.{Cut, cuts_of, judged, reading_from, with_versions, world_reading}
 use Rattle.world_text.specs.LineFit.{is_fit}
 use Rattle.world_text.proofs.LineBack.{back, loud}
@@ -63,12 +63,12 @@ loud-verdict d (b ∷ text) speak late =
     ∙ ap (λ v. if v then first_line d (b ∷ text) else judged_line d (read_line (b ∷ text))) late
 
 -- what comes of a spelled line that isn't bad
-spelled-verdict : (d : Draft) (l : WorldLine) → (d.group == 0) ≡ false → is_fit l ≡ true → line_cause d l ≡ None → line_verdict d (spelling l) ≡ good_line d l
+spelled-verdict : (d : Draft) (l : WorldLine) → (d.group == 0) ≡ false → is_fit l ≡ true → line_cause d l ≡ None → line_verdict d (line_spelling l) ≡ good_line d l
 spelled-verdict d l late fit none =
-    loud-verdict d (spelling l) (loud l) late ∙ (ap (judged_line d) (back l fit) ∙ ap (λ o. unless o (good_line d l)) none)
+    loud-verdict d (line_spelling l) (loud l) late ∙ (ap (judged_line d) (back l fit) ∙ ap (λ o. unless o (good_line d l)) none)
 
 -- lines that lead on do so as they are spelled
-spelled-leads : (d e : Draft) (ls : List WorldLine) → (d.group == 0) ≡ false → list_all going ls ≡ true → Led d ls e → Leads d (map spelling ls) e
+spelled-leads : (d e : Draft) (ls : List WorldLine) → (d.group == 0) ≡ false → list_all going ls ≡ true → Led d ls e → LeadsToWorld d (map line_spelling ls) e
 spelled-leads d e [] late on led = led
 spelled-leads d e (l ∷ ls) late on led =
     let parts = and_parts (going l) (list_all going ls) on in
@@ -107,13 +107,13 @@ all-going media hosts scripts =
     ∙ and_from (list_all going (flat_map lines_of_text hosts)) (list_all going (flat_map lines_of_steps scripts)) (hosts-going hosts) (scripts-going scripts))
 
 -- its first line names its timers
-first-goes : (kind : Timers) → line_verdict opening_draft (spelling (line.Networld kind)) ≡ Goes (begun kind)
+first-goes : (kind : Timers) → line_verdict opening_draft (line_spelling (line.Networld kind)) ≡ Goes (begun kind)
 first-goes Fixed = refl
 first-goes Measured = refl
 
 -- the spelled lines of a world lead to it
 pub world-leads : (kind : Timers) (e s : ℕ) (media : List MediumLine) (hosts : List HostText) (scripts : List ScriptText) → FineWorld e s media hosts scripts
-    → Leads opening_draft (map spelling (lines_said kind e s media hosts scripts)) (whole_draft kind e s media hosts scripts)
+    → LeadsToWorld opening_draft (map line_spelling (lines_said kind e s media hosts scripts)) (whole_draft kind e s media hosts scripts)
 world-leads kind e s media hosts scripts k = (
   begun kind,
   first-goes kind,
@@ -259,10 +259,10 @@ spelled-read text w t = by t.parts
     d : Draft
     d = whole_draft w.timers w.end w.seed t.media t.hosts t.scripts
 
-    leads : Leads opening_draft t.head d
+    leads : LeadsToWorld opening_draft t.head d
     leads =
         leads-all opening_draft d t.head
-        (subst (λ (lines : List (List ℕ)). Leads opening_draft lines d) (sym t.spelled) (world-leads w.timers w.end w.seed t.media t.hosts t.scripts (fine-world w t.media t.hosts t.scripts (said-by text w t))))
+        (subst (λ (lines : List (List ℕ)). LeadsToWorld opening_draft lines d) (sym t.spelled) (world-leads w.timers w.end w.seed t.media t.hosts t.scripts (fine-world w t.media t.hosts t.scripts (said-by text w t))))
 
     bundle_read : (n : ℕ) (cuts : List Cut) → reading_from d n (record { line = codes "ndb"; behind = t.bundle } ∷ cuts) ≡ Ok w
     bundle_read n cuts =

@@ -9,10 +9,10 @@ use Rattle.net_base.specs.declared.world.World.{World}
 use Rattle.net_base.specs.NdbText.{is_empty, is_newline, lines_of}
 use Rattle.world_text.specs.declared.line.LineCause.{LineCause}
 use Rattle.world_text.specs.declared.line.WorldLine.TheVariants as line
-use Rattle.world_text.specs.LineCauses.{number_of}
+use Rattle.world_text.specs.LineCauses.{cause_number_of}
 use Rattle.world_text.specs.VersionLines.{bad_version_line, versions_in}
 use Rattle.world_text.specs.WorldLines.{Draft, opening_draft, Verdict, Goes, Begins, Bad, line_verdict}
-use Rattle.world_text.specs.WorldRefusal.{Leads, EndsLine, IsBadLine, IsBadBundle, IsUnended, IsRefused}
+use Rattle.world_text.specs.WorldRefusal.{LeadsToWorld, EndsLine, IsBadLineOf, IsBadBundle, IsUnended, IsTextRefused}
 use Rattle.world_text.specs.WorldSpelling.{laid, is_line, speaks, IsHeaded, IsWorldText}
 use Rattle.world_text.specs.WorldText.{Cut, with_first, cuts_of, with_versions, judged, missing, reading_from, world_reading}
 use Rattle.world_text.proofs.WorldLists.{false-of-not}
@@ -49,7 +49,7 @@ second-same m n c d e = ap (λ (p : ℕ × ℕ). p.1) e
 
 -- one line more
 refused-more : (d next : Draft) (first : ℕ) (text line behind : List ℕ) (n c : ℕ) → is_line line ≡ true → text ≡ line ++ (10 ∷ behind) → line_verdict d line ≡ Goes next
-    → IsRefused next (first + 1) behind n c → IsRefused d first text n c
+    → IsTextRefused next (first + 1) behind n c → IsTextRefused d first text n c
 refused-more d next first text line behind n c whole is goes (inl b) =
     inl (record {
       good = line ∷ b.good;
@@ -98,13 +98,13 @@ refused-more d next first text line behind n c whole is goes (inr (inr b)) =
         inr (line ∷ before, last, ap (λ (ls : List (List ℕ)). line ∷ ls) all, is ∙ (ap (λ (xs : List ℕ). line ++ (10 ∷ xs)) same ∙ sym (append_assoc line (10 ∷ laid before) last)), some)
 
 -- a text of one bad line, and perhaps others
-bad-here : (d : Draft) (first : ℕ) (text : List ℕ) (c : Cut) (cs : List Cut) (cause : LineCause) → Shape text c cs → line_verdict d c.line ≡ Bad cause → IsBadLine d first text first (number_of cause)
+bad-here : (d : Draft) (first : ℕ) (text : List ℕ) (c : Cut) (cs : List Cut) (cause : LineCause) → Shape text c cs → line_verdict d c.line ≡ Bad cause → IsBadLineOf d first text first (cause_number_of cause)
 bad-here d first text c cs cause s bad = by s.parts
   where
     lines : list_all is_line (c.line ∷ []) ≡ true
     lines = ap (λ v. v && true) s.whole
 
-    by : ((text ≡ c.line ++ (10 ∷ c.behind)) × (cs ≡ cuts_of c.behind)) ⊎ ((text ≡ c.line) × (c.behind ≡ []) × (cs ≡ [])) → IsBadLine d first text first (number_of cause)
+    by : ((text ≡ c.line ++ (10 ∷ c.behind)) × (cs ≡ cuts_of c.behind)) ⊎ ((text ≡ c.line) × (c.behind ≡ []) × (cs ≡ [])) → IsBadLineOf d first text first (cause_number_of cause)
     by (inl (is, later)) = record { good = []; line = c.line; rest = 10 ∷ c.behind; so_far = d; parts = is; ended = inr (c.behind, refl); whole = lines; leads = refl; cause = cause; bad = bad; number = refl; place = omega arith }
     by (inr (is, none, nil)) = record { good = []; line = c.line; rest = []; so_far = d; parts = is ∙ sym (append-nil c.line); ended = inl refl; whole = lines; leads = refl; cause = cause; bad = bad; number = refl; place = omega arith }
 
@@ -142,20 +142,20 @@ bundle-here d first text c cs v n cause s begins e = by (bad_version_line c.behi
           place = omega (arith, place);
         }
 
-refused : (d : Draft) (first : ℕ) (cuts : List Cut) (text : List ℕ) (n c : ℕ) → cuts_of text ≡ cuts → reading_from d first cuts ≡ Err (n, c) → IsRefused d first text n c
+refused : (d : Draft) (first : ℕ) (cuts : List Cut) (text : List ℕ) (n c : ℕ) → cuts_of text ≡ cuts → reading_from d first cuts ≡ Err (n, c) → IsTextRefused d first text n c
 refused d first [] text n c cut e =
-    let same = same-err (first, number_of (missing d)) (n, c) (Err (first, number_of (missing d))) refl e in
-    let place = first-same first n (number_of (missing d)) c same in
-    inr (inr (record { good = []; so_far = d; parts = inl (no-cuts text cut); whole = refl; leads = refl; place = omega (arith, place); cause = sym (second-same first n (number_of (missing d)) c same) }))
+    let same = same-err (first, cause_number_of (missing d)) (n, c) (Err (first, cause_number_of (missing d))) refl e in
+    let place = first-same first n (cause_number_of (missing d)) c same in
+    inr (inr (record { good = []; so_far = d; parts = inl (no-cuts text cut); whole = refl; leads = refl; place = omega (arith, place); cause = sym (second-same first n (cause_number_of (missing d)) c same) }))
 refused d first (x ∷ xs) text n c cut e = by (line_verdict d x.line) refl e (shape text x xs cut) (λ next same f. refused next (first + 1) xs x.behind n c same f)
   where
     goes : (next : Draft) → line_verdict d x.line ≡ Goes next → reading_from next (first + 1) xs ≡ Err (n, c) → (s : Shape text x xs)
         → ((text ≡ x.line ++ (10 ∷ x.behind)) × (xs ≡ cuts_of x.behind)) ⊎ ((text ≡ x.line) × (x.behind ≡ []) × (xs ≡ []))
-        → (cuts_of x.behind ≡ xs → reading_from next (first + 1) xs ≡ Err (n, c) → IsRefused next (first + 1) x.behind n c) → IsRefused d first text n c
+        → (cuts_of x.behind ≡ xs → reading_from next (first + 1) xs ≡ Err (n, c) → IsTextRefused next (first + 1) x.behind n c) → IsTextRefused d first text n c
     goes next is f s (inl (same, later)) go = refused-more d next first text x.line x.behind n c s.whole same is (go (sym later) f)
     goes next is f s (inr (same, none, nil)) go =
-        let told = same-err (first + 1, number_of (missing next)) (n, c) (Err (first + 1, number_of (missing next))) refl (sym (ap (reading_from next (first + 1)) nil) ∙ f) in
-        let place = first-same (first + 1) n (number_of (missing next)) c told in
+        let told = same-err (first + 1, cause_number_of (missing next)) (n, c) (Err (first + 1, cause_number_of (missing next))) refl (sym (ap (reading_from next (first + 1)) nil) ∙ f) in
+        let place = first-same (first + 1) n (cause_number_of (missing next)) c told in
         inr (inr (record {
           good = x.line ∷ [];
           so_far = next;
@@ -163,17 +163,17 @@ refused d first (x ∷ xs) text n c cut e = by (line_verdict d x.line) refl e (s
           whole = ap (λ v. v && true) s.whole;
           leads = (next, is, refl);
           place = omega (arith, place);
-          cause = sym (second-same (first + 1) n (number_of (missing next)) c told);
+          cause = sym (second-same (first + 1) n (cause_number_of (missing next)) c told);
         }))
 
     by : (v : Verdict) → line_verdict d x.line ≡ v → judged first x.behind v (λ (next : Draft). reading_from next (first + 1) xs) ≡ Err (n, c) → Shape text x xs
-        → ((next : Draft) → cuts_of x.behind ≡ xs → reading_from next (first + 1) xs ≡ Err (n, c) → IsRefused next (first + 1) x.behind n c) → IsRefused d first text n c
+        → ((next : Draft) → cuts_of x.behind ≡ xs → reading_from next (first + 1) xs ≡ Err (n, c) → IsTextRefused next (first + 1) x.behind n c) → IsTextRefused d first text n c
     by (Goes next) is f s go = goes next is f s s.parts (go next)
     by (Begins v) is f s go = inr (inl (bundle-here d first text x xs v n c s is f))
     by (Bad cause) is f s go =
-        let same = same-err (first, number_of cause) (n, c) (Err (first, number_of cause)) refl f in
-        inl (subst (λ (m : ℕ). IsBadLine d first text m c) (first-same first n (number_of cause) c same)
-        (subst (λ (k : ℕ). IsBadLine d first text first k) (second-same first n (number_of cause) c same) (bad-here d first text x xs cause s is)))
+        let same = same-err (first, cause_number_of cause) (n, c) (Err (first, cause_number_of cause)) refl f in
+        inl (subst (λ (m : ℕ). IsBadLineOf d first text m c) (first-same first n (cause_number_of cause) c same)
+        (subst (λ (k : ℕ). IsBadLineOf d first text first k) (second-same first n (cause_number_of cause) c same) (bad-here d first text x xs cause s is)))
 
 -- From the lines to a refusal.
 
@@ -200,7 +200,7 @@ bad-some : (d : Draft) (line : List ℕ) (c : LineCause) → line_verdict d line
 bad-some d [] c bad = absurd (goes-bad d c bad)
 bad-some d (b ∷ line) c bad = refl
 
-read-bad : (d : Draft) (first : ℕ) (text : List ℕ) (n c : ℕ) → IsBadLine d first text n c → reading_from d first (cuts_of text) ≡ Err (n, c)
+read-bad : (d : Draft) (first : ℕ) (text : List ℕ) (n c : ℕ) → IsBadLineOf d first text n c → reading_from d first (cuts_of text) ≡ Err (n, c)
 read-bad d first text n c b =
     let both = and_parts (is_line b.line) (list_all is_line b.good) b.whole in
     let cut = cuts-first b.line b.rest (bad-some b.so_far b.line b.cause b.bad) both.0 b.ended in
@@ -226,38 +226,38 @@ read-bundle d first text n c b = by b.parts
     by (inr (is, none)) = behind (codes "ndb") [] is (ap (λ (x : List ℕ). record { line = codes "ndb"; behind = x } ∷ []) (sym none))
 
 -- the lines before the last one
-leads-front : (d e : Draft) (before : List (List ℕ)) (last : List ℕ) → Leads d (before ++ last ∷ []) e → (so_far : Draft) × Leads d before so_far × (line_verdict so_far last ≡ Goes e)
+leads-front : (d e : Draft) (before : List (List ℕ)) (last : List ℕ) → LeadsToWorld d (before ++ last ∷ []) e → (so_far : Draft) × LeadsToWorld d before so_far × (line_verdict so_far last ≡ Goes e)
 leads-front d e [] last h = (d, refl, h.1 ∙ ap (λ (x : Draft). Goes x) h.2)
 leads-front d e (line ∷ before) last h = let r = leads-front h.0 e before last h.2 in (r.0, (h.0, h.1, r.1), r.2)
 
 read-unended : (d : Draft) (first : ℕ) (text : List ℕ) (n c : ℕ) → IsUnended d first text n c → reading_from d first (cuts_of text) ≡ Err (n, c)
 read-unended d first text n c b = by b.parts
   where
-    told : refusal (first + length b.good) (number_of (missing b.so_far)) ≡ refusal n c
-    told = ap (λ (m : ℕ). refusal m (number_of (missing b.so_far))) (sym b.place) ∙ ap (λ (k : ℕ). refusal n k) (sym b.cause)
+    told : refusal (first + length b.good) (cause_number_of (missing b.so_far)) ≡ refusal n c
+    told = ap (λ (m : ℕ). refusal m (cause_number_of (missing b.so_far))) (sym b.place) ∙ ap (λ (k : ℕ). refusal n k) (sym b.cause)
 
     by : (text ≡ laid b.good) ⊎ ((before : List (List ℕ)) × (last : List ℕ) × (b.good ≡ before ++ last ∷ []) × (text ≡ laid before ++ last) × (is_empty last ≡ false)) → reading_from d first (cuts_of text) ≡ Err (n, c)
     by (inl is) = ap (λ t. reading_from d first (cuts_of t)) (is ∙ sym (append-nil (laid b.good))) ∙ (reading-lines d b.so_far first b.good [] b.whole b.leads ∙ told)
     by (inr (before, last, all, is, some)) =
         let whole = and_parts (list_all is_line before) (is_line last && true) (sym (list_all-append is_line before (last ∷ [])) ∙ (ap (list_all is_line) (sym all) ∙ b.whole)) in
-        let r = leads-front d b.so_far before last (subst (λ (ls : List (List ℕ)). Leads d ls b.so_far) all b.leads) in
+        let r = leads-front d b.so_far before last (subst (λ (ls : List (List ℕ)). LeadsToWorld d ls b.so_far) all b.leads) in
         let len : length b.good ≡ length before + 1 = ap (λ (ls : List (List ℕ)). length ls) all ∙ length-append before (last ∷ []) in
         ap (λ t. reading_from d first (cuts_of t)) is
         ∙ (reading-lines d r.0 first before last whole.0 r.1
         ∙ (ap (reading_from r.0 (first + length before)) (cuts-last last some ((and_parts (is_line last) true whole.1).0))
         ∙ (judged-goes (first + length before) [] (line_verdict r.0 last) b.so_far (λ (next : Draft). reading_from next (first + length before + 1) []) r.2
-        ∙ (ap (λ (m : ℕ). refusal m (number_of (missing b.so_far))) (omega (arith, len)) ∙ told))))
+        ∙ (ap (λ (m : ℕ). refusal m (cause_number_of (missing b.so_far))) (omega (arith, len)) ∙ told))))
 
-pub refused-exactly : (text : List ℕ) (n c : ℕ) → (world_reading text ≡ Err (n, c)) ↔ IsRefused opening_draft 1 text n c
+pub refused-exactly : (text : List ℕ) (n c : ℕ) → (world_reading text ≡ Err (n, c)) ↔ IsTextRefused opening_draft 1 text n c
 refused-exactly text n c = (refused opening_draft 1 (cuts_of text) text n c refl, back)
   where
-    back : IsRefused opening_draft 1 text n c → world_reading text ≡ Err (n, c)
+    back : IsTextRefused opening_draft 1 text n c → world_reading text ≡ Err (n, c)
     back (inl b) = read-bad opening_draft 1 text n c b
     back (inr (inl b)) = read-bundle opening_draft 1 text n c b
     back (inr (inr b)) = read-unended opening_draft 1 text n c b
 
 -- what follows a bad line changes nothing
-pub bad-stays : (text more : List ℕ) (n c : ℕ) → IsBadLine opening_draft 1 text n c → world_reading (text ++ (10 ∷ more)) ≡ Err (n, c)
+pub bad-stays : (text more : List ℕ) (n c : ℕ) → IsBadLineOf opening_draft 1 text n c → world_reading (text ++ (10 ∷ more)) ≡ Err (n, c)
 bad-stays text more n c b =
     read-bad opening_draft 1 (text ++ (10 ∷ more)) n c (record {
       good = b.good;
@@ -286,17 +286,17 @@ draft-of (Begins w) e = e
 draft-of (Bad c) e = e
 
 -- lines that go on do so without those that are passed
-leads-loud : (d e : Draft) (lines : List (List ℕ)) → Leads d lines e → Leads d (filter speaks lines) e
+leads-loud : (d e : Draft) (lines : List (List ℕ)) → LeadsToWorld d lines e → LeadsToWorld d (filter speaks lines) e
 leads-loud d e [] h = h
 leads-loud d e (line ∷ lines) h = by (speaks line) refl (leads-loud h.0 e lines h.2)
   where
-    by : (v : Bool) → speaks line ≡ v → Leads h.0 (filter speaks lines) e → Leads d (cond v (line ∷ filter speaks lines) (filter speaks lines)) e
+    by : (v : Bool) → speaks line ≡ v → LeadsToWorld h.0 (filter speaks lines) e → LeadsToWorld d (cond v (line ∷ filter speaks lines) (filter speaks lines)) e
     by true is more = (h.0, h.1, more)
-    by false is more = subst (λ (x : Draft). Leads x (filter speaks lines) e) (ap (λ v. draft-of v d) (sym h.1 ∙ passed-goes d line is)) more
+    by false is more = subst (λ (x : Draft). LeadsToWorld x (filter speaks lines) e) (ap (λ v. draft-of v d) (sym h.1 ∙ passed-goes d line is)) more
 
 -- a world is said whatever the number of the first line
 any-number : (d : Draft) (m n : ℕ) (cuts : List Cut) (w : World) → reading_from d m cuts ≡ Ok w → reading_from d n cuts ≡ Ok w
-any-number d m n [] w e = absurd (err-ok (m, number_of (missing d)) w e)
+any-number d m n [] w e = absurd (err-ok (m, cause_number_of (missing d)) w e)
 any-number d m n (c ∷ cs) w e = by (line_verdict d c.line) e (λ next f. any-number next (m + 1) (n + 1) cs w f)
   where
     bundle : (v : World) (o : Option (ℕ × ℕ)) → with_versions m v c.behind o ≡ Ok w → with_versions n v c.behind o ≡ Ok w
@@ -307,13 +307,13 @@ any-number d m n (c ∷ cs) w e = by (line_verdict d c.line) e (λ next f. any-n
         → judged n c.behind v (λ (next : Draft). reading_from next (n + 1) cs) ≡ Ok w
     by (Goes next) f go = go next f
     by (Begins v) f go = bundle v (bad_version_line c.behind) f
-    by (Bad cause) f go = absurd (err-ok (m, number_of cause) w f)
+    by (Bad cause) f go = absurd (err-ok (m, cause_number_of cause) w f)
 
 -- lines before `ndb` of a text that says a world
 record Led (d : Draft) (lines : List (List ℕ)) (tail : List ℕ) (w : World) : Type 0 where
   pub so_far : Draft
   pub number : ℕ
-  pub leads : Leads d lines so_far
+  pub leads : LeadsToWorld d lines so_far
   pub reads : reading_from so_far number (cuts_of tail) ≡ Ok w
 
 led : (d : Draft) (n : ℕ) (lines : List (List ℕ)) (tail : List ℕ) (w : World) → list_all is_line lines ≡ true → list_any (bytes_eq (codes "ndb")) lines ≡ false
@@ -330,12 +330,12 @@ led d n (line ∷ lines) tail w all none e =
         → ((next : Draft) → reading_from next (n + 1) (cuts_of (laid lines ++ tail)) ≡ Ok w → Led next lines tail w) → Led d (line ∷ lines) tail w
     by (Goes next) is other f go = let r = go next f in record { so_far = r.so_far; number = r.number; leads = (next, is, r.leads); reads = r.reads }
     by (Begins v) is other f go = absurd (false≢true (sym other ∙ (bytes_eq-Decides (codes "ndb") line).1 (sym (ndb-line d line v is))))
-    by (Bad cause) is other f go = absurd (err-ok (n, number_of cause) w f)
+    by (Bad cause) is other f go = absurd (err-ok (n, cause_number_of cause) w f)
 
 -- texts that differ only in lines before `ndb` that say nothing say the same world
 pub same-said : (lines others : List (List ℕ)) (tail : List ℕ) (w : World) → list_all is_line lines ≡ true → list_all is_line others ≡ true → list_any (bytes_eq (codes "ndb")) lines ≡ false
     → filter speaks lines ≡ filter speaks others → world_reading (laid lines ++ tail) ≡ Ok w → world_reading (laid others ++ tail) ≡ Ok w
 same-said lines others tail w all all_others none same e =
     let r = led opening_draft 1 lines tail w all none e in
-    let leads = leads-all opening_draft r.so_far others (subst (λ (ls : List (List ℕ)). Leads opening_draft ls r.so_far) same (leads-loud opening_draft r.so_far lines r.leads)) in
+    let leads = leads-all opening_draft r.so_far others (subst (λ (ls : List (List ℕ)). LeadsToWorld opening_draft ls r.so_far) same (leads-loud opening_draft r.so_far lines r.leads)) in
     reading-lines opening_draft r.so_far 1 others tail all_others leads ∙ any-number r.so_far r.number (1 + length others) (cuts_of tail) w r.reads

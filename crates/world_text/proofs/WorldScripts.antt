@@ -13,7 +13,7 @@ use Rattle.net_base.specs.declared.world.Step.{Step}
 use Rattle.net_base.specs.World.{is_script, is_step}
 use Rattle.world_text.specs.declared.line.LineCause.TheVariants as cause
 use Rattle.world_text.specs.WorldLines.{Draft, at_last, empty_script, has_host, is_before, is_host_named, script_cause, step_cause, with_step}
-use Rattle.world_text.specs.WorldSpelling.{ScriptText, host_names, place_of, script_said}
+use Rattle.world_text.specs.WorldSpelling.{ScriptText, host_names, place_among, script_said}
 use Rattle.world_text.proofs.WorldLists.{all-parts, any-map, at_last-push, place-map, place-there}
 use Rattle.world_text.proofs.WorldMedia.{passes, room-from, unrefused}
 
@@ -67,7 +67,7 @@ with_one t x = record t { steps = t.steps ++ x ∷ [] }
 abbrev host_in : List HostSpec → List ℕ → ℕ
 host_in hosts called = position_or_len (is_host_named called) hosts
 
-same-host : (hosts : List HostSpec) (called : List ℕ) → host_in hosts called ≡ place_of (host_names hosts) called
+same-host : (hosts : List HostSpec) (called : List ℕ) → host_in hosts called ≡ place_among (host_names hosts) called
 same-host hosts called = sym (place-map (bytes_eq called) (λ (h : HostSpec). h.name) hosts)
 
 -- a script behind the others
@@ -91,7 +91,7 @@ step-after kind e s media rated hosts front t x =
 
 -- Tests.
 
-knows-host : (hosts : List HostSpec) (called : List ℕ) → list_any (is_host_named called) hosts ≡ nat_lt (place_of (host_names hosts) called) (length (host_names hosts))
+knows-host : (hosts : List HostSpec) (called : List ℕ) → list_any (is_host_named called) hosts ≡ nat_lt (place_among (host_names hosts) called) (length (host_names hosts))
 knows-host hosts called =
     sym (any-map (bytes_eq called) (λ (h : HostSpec). h.name) hosts) ∙ sym (place-there (bytes_eq called) (host_names hosts))
 
@@ -117,9 +117,9 @@ script-fits d texts called is k good =
     let ns : List (List ℕ) = host_names d.hosts in
     let name = unrefused cause.UnknownName (not (has_host called d)) _ good in
     let limit = unrefused cause.OverLimit (nat_le 32 (length d.scripts)) None name.1 in
-    let there : nat_lt (place_of ns called) (length ns) ≡ true = sym (knows-host d.hosts called) ∙ not-false (has_host called d) name.0 in
+    let there : nat_lt (place_among ns called) (length ns) ≡ true = sym (knows-host d.hosts called) ∙ not-false (has_host called d) name.0 in
     record {
-      fit = pushed-fit ns texts (empty_text called) k.fit (and_from (nat_lt (place_of ns called) (length ns)) true there refl);
+      fit = pushed-fit ns texts (empty_text called) k.fit (and_from (nat_lt (place_among ns called) (length ns)) true there refl);
       few = let len = length-append texts (empty_text called ∷ []) in
           let count = count-said ns texts in
           let room = room-from 32 (length d.scripts) limit.0 in
@@ -131,7 +131,7 @@ pub script-good : (d : Draft) (texts : List ScriptText) (called : List ℕ) → 
 script-good d texts called is k =
     let ns : List (List ℕ) = host_names d.hosts in
     let parts = fit-parts ns texts (empty_text called) k.fit in
-    let there = and_parts (nat_lt (place_of ns called) (length ns)) true parts.1 in
+    let there = and_parts (nat_lt (place_among ns called) (length ns)) true parts.1 in
     let room : length d.scripts < 32 =
     let len = length-append texts (empty_text called ∷ []) in
     let count = count-said ns texts in
@@ -143,10 +143,10 @@ script-good d texts called is k =
 pub step-fits : (ns : List (List ℕ)) (front : List ScriptText) (t : ScriptText) (x : Step) → FineScripts ns (front ++ t ∷ []) → is_step x ≡ true → FineScripts ns (front ++ with_one t x ∷ [])
 step-fits ns front t x k fit =
     let parts = fit-parts ns front t k.fit in
-    let own = and_parts (nat_lt (place_of ns t.host) (length ns)) (list_all is_step t.steps) parts.1 in
+    let own = and_parts (nat_lt (place_among ns t.host) (length ns)) (list_all is_step t.steps) parts.1 in
     record {
       fit = pushed-fit ns front (with_one t x) parts.0
-          (and_from (nat_lt (place_of ns t.host) (length ns)) (list_all is_step (t.steps ++ x ∷ [])) own.0
+          (and_from (nat_lt (place_among ns t.host) (length ns)) (list_all is_step (t.steps ++ x ∷ [])) own.0
           (list_all-append is_step t.steps (x ∷ []) ∙ and_from (list_all is_step t.steps) _ own.1 (and_from (is_step x) true fit refl)));
       few = let a = length-append front (t ∷ []) in let b = length-append front (with_one t x ∷ []) in let few = k.few in omega (arith, a, b, few);
     }
@@ -158,10 +158,10 @@ steps-front ns front called xs ys k =
     let whole : ScriptText = record { host = called; steps = xs ++ ys } in
     let t : ScriptText = record { host = called; steps = xs } in
     let parts = fit-parts ns front whole k.fit in
-    let own = and_parts (nat_lt (place_of ns called) (length ns)) (list_all is_step (xs ++ ys)) parts.1 in
+    let own = and_parts (nat_lt (place_among ns called) (length ns)) (list_all is_step (xs ++ ys)) parts.1 in
     let first = and_parts (list_all is_step xs) (list_all is_step ys) (sym (list_all-append is_step xs ys) ∙ own.1) in
     record {
-      fit = pushed-fit ns front t parts.0 (and_from (nat_lt (place_of ns called) (length ns)) (list_all is_step xs) own.0 first.0);
+      fit = pushed-fit ns front t parts.0 (and_from (nat_lt (place_among ns called) (length ns)) (list_all is_step xs) own.0 first.0);
       few = let a = length-append front (t ∷ []) in let b = length-append front (whole ∷ []) in let few = k.few in omega (arith, a, b, few);
     }
 
@@ -173,7 +173,7 @@ pub step-own : (ns : List (List ℕ)) (front : List ScriptText) (called : List �
     → FineScripts ns (front ++ record { host = called; steps = xs ++ x ∷ ys } ∷ []) → is_step x ≡ true
 step-own ns front called xs x ys k =
     let parts = fit-parts ns front (record { host = called; steps = xs ++ x ∷ ys }) k.fit in
-    let own = and_parts (nat_lt (place_of ns called) (length ns)) (list_all is_step (xs ++ x ∷ ys)) parts.1 in
+    let own = and_parts (nat_lt (place_among ns called) (length ns)) (list_all is_step (xs ++ x ∷ ys)) parts.1 in
     let later = and_parts (list_all is_step xs) (is_step x && list_all is_step ys) (sym (list_all-append is_step xs (x ∷ ys)) ∙ own.1) in
     (and_parts (is_step x) (list_all is_step ys) later.1).0
 
@@ -181,4 +181,4 @@ step-own ns front called xs x ys k =
 pub host-known : (ns : List (List ℕ)) (front : List ScriptText) (called : List ℕ) → FineScripts ns (front ++ empty_text called ∷ []) → list_any (bytes_eq called) ns ≡ true
 host-known ns front called k =
     let parts = fit-parts ns front (empty_text called) k.fit in
-    sym (place-there (bytes_eq called) ns) ∙ (and_parts (nat_lt (place_of ns called) (length ns)) true parts.1).0
+    sym (place-there (bytes_eq called) ns) ∙ (and_parts (nat_lt (place_among ns called) (length ns)) true parts.1).0

@@ -9,7 +9,7 @@ use Rattle.net_base.specs.World.{all_apart}
 use Rattle.world_text.specs.declared.line.MediumLine.{MediumLine}
 use Rattle.world_text.specs.declared.line.WorldLine.{WorldLine}
 use Rattle.world_text.specs.WorldLines.{Draft, Goes, line_verdict, opening_draft}
-use Rattle.world_text.specs.WorldRefusal.{Leads}
+use Rattle.world_text.specs.WorldRefusal.{LeadsToWorld}
 use Rattle.world_text.specs.WorldSpelling.{HostText, ScriptText, host_names, media_said, medium_names}
 use Rattle.world_text.proofs.WorldMedia.{count-named, names-media}
 use Rattle.world_text.proofs.WorldHosts.{count-said}
@@ -62,7 +62,7 @@ none-small d a b c = record {
   scripts = let e = ap (λ (xs : List Script). length xs) c in omega (arith, e);
 }
 
-pub small-led : (lines : List (List ℕ)) (d : Draft) → Leads opening_draft lines d → Small d
+pub small-led : (lines : List (List ℕ)) (d : Draft) → LeadsToWorld opening_draft lines d → Small d
 small-led lines d led = by (read-all lines d led).lines (read-all lines d led).stage
   where
     by : (ls : List WorldLine) → Stage ls d → Small d
@@ -71,5 +71,5 @@ small-led lines d led = by (read-all lines d led).lines (read-all lines d led).s
     by ls (Behind (AtEnd kind m moment are draft)) = none-small d (ap (λ (f : Draft). f.media) draft) (ap (λ (f : Draft). f.hosts) draft) (ap (λ (f : Draft). f.scripts) draft)
     by ls (Behind (AtRest k)) = stands-small ls d k
 
-pub led-next : (lines : List (List ℕ)) (line : List ℕ) (d e : Draft) → Leads opening_draft lines d → line_verdict d line ≡ Goes e → Leads opening_draft (lines ++ line ∷ []) e
+pub led-next : (lines : List (List ℕ)) (line : List ℕ) (d e : Draft) → LeadsToWorld opening_draft lines d → line_verdict d line ≡ Goes e → LeadsToWorld opening_draft (lines ++ line ∷ []) e
 led-next lines line d e led goes = leads-more opening_draft d e lines (line ∷ []) led (e, goes, refl)

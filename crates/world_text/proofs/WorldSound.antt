@@ -12,12 +12,12 @@ use Rattle.net_base.specs.World.{IsWorld, is_byte}
 use Rattle.world_text.specs.declared.line.MediumLine.{MediumLine}
 use Rattle.world_text.specs.declared.line.WorldLine.{WorldLine}
 use Rattle.world_text.specs.declared.line.WorldLine.TheVariants as line
-use Rattle.world_text.specs.LineCauses.{number_of}
+use Rattle.world_text.specs.LineCauses.{cause_number_of}
 use Rattle.world_text.specs.LineReading.{read_line}
 use Rattle.world_text.specs.VersionLines.{bad_version_line, versions_in}
 use Rattle.world_text.specs.WorldLines.{Bad, Begins, Draft, Goes, Verdict, after, good_line, line_cause, line_verdict, ndb_cause, opening_draft, world_of}
-use Rattle.world_text.specs.WorldRefusal.{Leads}
-use Rattle.world_text.specs.WorldSpelling.{EachBehind, HostText, IsHeaded, IsReached, IsWorldText, ScriptText, is_line, media_said, medium_names, speaks, spelling}
+use Rattle.world_text.specs.WorldRefusal.{LeadsToWorld}
+use Rattle.world_text.specs.WorldSpelling.{EachBehind, HostText, IsHeaded, IsReached, IsWorldText, ScriptText, is_line, media_said, medium_names, speaks, line_spelling}
 use Rattle.world_text.specs.WorldText.{Cut, cuts_of, judged, missing, reading_from, with_versions, world_reading}
 use Rattle.world_text.proofs.LineBack.{loud}
 use Rattle.world_text.proofs.LineSpelled.{spelled}
@@ -47,7 +47,7 @@ pub data Stage (ls : List WorldLine) (d : Draft) : Type 0 where
 -- what these lines of a text say
 pub record Read (head : List (List ℕ)) (d : Draft) : Type 0 where
   pub lines : List WorldLine
-  pub said : filter speaks head ≡ map spelling lines
+  pub said : filter speaks head ≡ map line_spelling lines
   pub stage : Stage lines d
 
 pub read-none : Read [] opening_draft
@@ -67,12 +67,12 @@ so-behind ls d (AtFirst kind lines draft) = ap (λ (f : Draft). f.group == 0) dr
 so-behind ls d (AtEnd kind m moment lines draft) = ap (λ (f : Draft). f.group == 0) draft
 so-behind ls d (AtRest k) = ap (λ (f : Draft). f.group == 0) k.draft ∙ group-behind k.kind_at k.end_at k.seed_at k.media k.hosts k.scripts
 
-loud-pushed : (head : List (List ℕ)) (text : List ℕ) (ls : List WorldLine) (l : WorldLine) → filter speaks head ≡ map spelling ls → text ≡ spelling l → speaks text ≡ true
-    → filter speaks (head ++ text ∷ []) ≡ map spelling (ls ++ l ∷ [])
+loud-pushed : (head : List (List ℕ)) (text : List ℕ) (ls : List WorldLine) (l : WorldLine) → filter speaks head ≡ map line_spelling ls → text ≡ line_spelling l → speaks text ≡ true
+    → filter speaks (head ++ text ∷ []) ≡ map line_spelling (ls ++ l ∷ [])
 loud-pushed head text ls l said is loud =
     filter-append speaks head (text ∷ [])
     ∙ (ap (λ v. filter speaks head ++ cond v (text ∷ []) []) loud
-    ∙ (ap (λ xs. xs ++ text ∷ []) said ∙ (ap (λ (t : List ℕ). map spelling ls ++ t ∷ []) is ∙ sym (map-append spelling ls (l ∷ [])))))
+    ∙ (ap (λ xs. xs ++ text ∷ []) said ∙ (ap (λ (t : List ℕ). map line_spelling ls ++ t ∷ []) is ∙ sym (map-append line_spelling ls (l ∷ [])))))
 
 quiet-pushed : (head : List (List ℕ)) (text : List ℕ) → speaks text ≡ false → filter speaks (head ++ text ∷ []) ≡ filter speaks head
 quiet-pushed head text quiet = filter-append speaks head (text ∷ []) ∙ (ap (λ v. filter speaks head ++ cond v (text ∷ []) []) quiet ∙ append-nil (filter speaks head))
@@ -107,7 +107,7 @@ read-more head d next text r e = by (view d text) r.stage
         subst (Read (head ++ text ∷ [])) (same-goes (after d (line.Networld kind)) next (sym is ∙ e))
         (record {
           lines = line.Networld kind ∷ [];
-          said = loud-pushed head text [] (line.Networld kind) (r.said ∙ ap (map spelling) lines) named (ap speaks named);
+          said = loud-pushed head text [] (line.Networld kind) (r.said ∙ ap (map line_spelling) lines) named (ap speaks named);
           stage = Behind (AtFirst kind refl (ap (λ (f : Draft). after f (line.Networld kind)) draft));
         })
     by (First kind none named is) (Behind so) = absurd (false≢true (sym (so-behind r.lines d so) ∙ none))
@@ -115,13 +115,13 @@ read-more head d next text r e = by (view d text) r.stage
     by (Good l late is none same) (Behind so) = subst (Read (head ++ text ∷ [])) (made l (sym same ∙ e)) (good l (other l (sym same ∙ e)) is none so)
     by (Refused c is) stage = absurd (bad-goes c next (sym is ∙ e))
 
-pub read-leads : (before : List (List ℕ)) (d e : Draft) (lines : List (List ℕ)) → Read before d → Leads d lines e → Read (before ++ lines) e
+pub read-leads : (before : List (List ℕ)) (d e : Draft) (lines : List (List ℕ)) → Read before d → LeadsToWorld d lines e → Read (before ++ lines) e
 read-leads before d e [] r led = subst (λ (ls : List (List ℕ)). Read ls e) (sym (append-nil before)) (subst (Read before) led r)
 read-leads before d e (text ∷ lines) r led =
     subst (λ (ls : List (List ℕ)). Read ls e) (append_assoc before (text ∷ []) lines)
     (read-leads (before ++ text ∷ []) led.0 e lines (read-more before d led.0 text r led.1) led.2)
 
-pub read-all : (lines : List (List ℕ)) (d : Draft) → Leads opening_draft lines d → Read lines d
+pub read-all : (lines : List (List ℕ)) (d : Draft) → LeadsToWorld opening_draft lines d → Read lines d
 read-all lines d led = read-leads [] opening_draft d lines read-none led
 
 -- Texts that are read.
@@ -133,7 +133,7 @@ record Found (d : Draft) (text : List ℕ) (w : World) : Type 0 where
   pub so_far : Draft
   pub parts : IsHeaded text head bundle
   pub whole : list_all is_line head ≡ true
-  pub leads : Leads d head so_far
+  pub leads : LeadsToWorld d head so_far
   pub begun_so : (so_far.group == 0) ≡ false
   pub good : ndb_cause so_far ≡ None
   pub fine : bad_version_line bundle ≡ None
@@ -178,7 +178,7 @@ found-last d n text c cs v w s all end e = by (bad_version_line c.behind) refl e
     by (Some bad) some f = absurd (err-ok (n + bad.0, bad.1) w f)
 
 found : (d : Draft) (n : ℕ) (cuts : List Cut) (text : List ℕ) (w : World) → cuts_of text ≡ cuts → list_all is_byte text ≡ true → reading_from d n cuts ≡ Ok w → Found d text w
-found d n [] text w cut all e = absurd (err-ok (n, number_of (missing d)) w e)
+found d n [] text w cut all e = absurd (err-ok (n, cause_number_of (missing d)) w e)
 found d n (c ∷ cs) text w cut all e =
     let s = shape text c cs cut in
     by (line_verdict d c.line) refl e s (λ next same f. found next (n + 1) cs c.behind w same (bytes-behind text c cs s all) f)
@@ -187,13 +187,13 @@ found d n (c ∷ cs) text w cut all e =
         → ((text ≡ c.line ++ (10 ∷ c.behind)) × (cs ≡ cuts_of c.behind)) ⊎ ((text ≡ c.line) × (c.behind ≡ []) × (cs ≡ []))
         → (cuts_of c.behind ≡ cs → reading_from next (n + 1) cs ≡ Ok w → Found next c.behind w) → Found d text w
     goes next h f s (inl (is, later)) go = found-more d next text c.line c.behind w s.whole is h (go (sym later) f)
-    goes next h f s (inr (is, none, nil)) go = absurd (err-ok (n + 1, number_of (missing next)) w (sym (ap (reading_from next (n + 1)) nil) ∙ f))
+    goes next h f s (inr (is, none, nil)) go = absurd (err-ok (n + 1, cause_number_of (missing next)) w (sym (ap (reading_from next (n + 1)) nil) ∙ f))
 
     by : (v : Verdict) → line_verdict d c.line ≡ v → judged n c.behind v (λ (next : Draft). reading_from next (n + 1) cs) ≡ Ok w → Shape text c cs
         → ((next : Draft) → cuts_of c.behind ≡ cs → reading_from next (n + 1) cs ≡ Ok w → Found next c.behind w) → Found d text w
     by (Goes next) h f s go = goes next h f s s.parts (go next)
     by (Begins v) h f s go = found-last d n text c cs v w s all (ends d c.line v h) f
-    by (Bad cause) h f s go = absurd (err-ok (n, number_of cause) w f)
+    by (Bad cause) h f s go = absurd (err-ok (n, cause_number_of cause) w f)
 
 all-routes : (ns : List (List ℕ)) (texts : List HostText) → EachBehind (EachFine ns) texts → All (λ (h : HostText). EachBehind (IsReached ns) h.under) texts
 all-routes ns [] each k d lt = absurd (omega (arith, lt))
@@ -206,7 +206,7 @@ abbrev world_said : Timers → ℕ → ℕ → List MediumLine → List HostText
 world_said kind e s media hosts scripts dbs =
     record (world_of (script_draft kind e s (media_said media) (filter_map rated_name media) (saids (medium_names (media_said media)) hosts) scripts)) { dbs = dbs }
 
-spells-world : (head : List (List ℕ)) (text bundle : List ℕ) (ls : List WorldLine) (d : Draft) (c : Complete ls d) → IsHeaded text head bundle → list_all is_line head ≡ true → filter speaks head ≡ map spelling ls
+spells-world : (head : List (List ℕ)) (text bundle : List ℕ) (ls : List WorldLine) (d : Draft) (c : Complete ls d) → IsHeaded text head bundle → list_all is_line head ≡ true → filter speaks head ≡ map line_spelling ls
     → bad_version_line bundle ≡ None → list_all is_byte bundle ≡ true → IsWorldText text (record (world_of d) { dbs = versions_in (lines_of bundle) })
 spells-world head text bundle ls d c parts whole said fine all =
     let k = c.stands in
@@ -222,7 +222,7 @@ spells-world head text bundle ls d c parts whole said fine all =
       media = k.media;
       hosts = k.hosts;
       scripts = k.scripts;
-      spelled = said ∙ ap (map spelling) k.lines;
+      spelled = said ∙ ap (map line_spelling) k.lines;
       media_are = refl;
       media_in_order = k.media_fine.behind;
       hosts_are = refl;

@@ -14,8 +14,8 @@ use Rattle.world_text.specs.declared.line.LineCause.TheVariants as cause
 use Rattle.world_text.specs.declared.line.WorldLine.{WorldLine}
 use Rattle.world_text.specs.declared.line.WorldLine.TheVariants as line
 use Rattle.world_text.specs.LineReading.{read_line}
-use Rattle.world_text.specs.WorldLines.{Bad, Begins, Draft, Goes, Verdict, after, first_line, good_line, is_passed, judged_line, line_cause, line_verdict, ndb_cause, unless, world_of}
-use Rattle.world_text.specs.WorldRefusal.{Leads}
+use Rattle.world_text.specs.WorldLines.{Bad, Begins, Draft, Goes, Verdict, after, first_line, good_line, passes_over, judged_line, line_cause, line_verdict, ndb_cause, unless, world_of}
+use Rattle.world_text.specs.WorldRefusal.{LeadsToWorld}
 use Rattle.world_text.specs.WorldSpelling.{IsHeaded, is_line, laid, line_of_timers, speaks}
 use Rattle.world_text.specs.WorldText.{Cut, cuts_of, judged, reading_from, with_first}
 use Rattle.world_text.proofs.WorldLists.{false-of-not, no-cons}
@@ -89,11 +89,11 @@ last-parts text c cs s is = by s.parts
 
 -- Lines in a row.
 
-pub leads-more : (d e f : Draft) (xs ys : List (List ℕ)) → Leads d xs e → Leads e ys f → Leads d (xs ++ ys) f
-leads-more d e f [] ys first rest = subst (λ (x : Draft). Leads x ys f) (sym first) rest
+pub leads-more : (d e f : Draft) (xs ys : List (List ℕ)) → LeadsToWorld d xs e → LeadsToWorld e ys f → LeadsToWorld d (xs ++ ys) f
+leads-more d e f [] ys first rest = subst (λ (x : Draft). LeadsToWorld x ys f) (sym first) rest
 leads-more d e f (x ∷ xs) ys first rest = (first.0, first.1, leads-more first.0 e f xs ys first.2 rest)
 
-passed-is : (line : List ℕ) → speaks line ≡ false → is_passed line ≡ true
+passed-is : (line : List ℕ) → speaks line ≡ false → passes_over line ≡ true
 passed-is [] e = refl
 passed-is (b ∷ line) e = not-false (is_hash b) e
 
@@ -101,11 +101,11 @@ pub passed-goes : (d : Draft) (line : List ℕ) → speaks line ≡ false → li
 passed-goes d line e = ap (λ v. if v then Goes d else (if d.group == 0 then first_line d line else judged_line d (read_line line))) (passed-is line e)
 
 -- lines that are passed change nothing
-pub leads-all : (d e : Draft) (lines : List (List ℕ)) → Leads d (filter speaks lines) e → Leads d lines e
+pub leads-all : (d e : Draft) (lines : List (List ℕ)) → LeadsToWorld d (filter speaks lines) e → LeadsToWorld d lines e
 leads-all d e [] h = h
 leads-all d e (line ∷ lines) h = by (speaks line) refl h (λ next. leads-all next e lines)
   where
-    by : (v : Bool) → speaks line ≡ v → Leads d (cond v (line ∷ filter speaks lines) (filter speaks lines)) e → ((next : Draft) → Leads next (filter speaks lines) e → Leads next lines e) → Leads d (line ∷ lines) e
+    by : (v : Bool) → speaks line ≡ v → LeadsToWorld d (cond v (line ∷ filter speaks lines) (filter speaks lines)) e → ((next : Draft) → LeadsToWorld next (filter speaks lines) e → LeadsToWorld next lines e) → LeadsToWorld d (line ∷ lines) e
     by true is k more = (k.0, k.1, more k.0 k.2)
     by false is k more = (d, passed-goes d line is, more d k)
 
@@ -125,7 +125,7 @@ pub judged-goes : (n : ℕ) (behind : List ℕ) (v : Verdict) (next : Draft) (f 
 judged-goes n behind v next f e = ap (λ w. judged n behind w f) e
 
 -- lines that go on are read up to what stands behind them
-pub reading-lines : (d e : Draft) (n : ℕ) (lines : List (List ℕ)) (tail : List ℕ) → list_all is_line lines ≡ true → Leads d lines e
+pub reading-lines : (d e : Draft) (n : ℕ) (lines : List (List ℕ)) (tail : List ℕ) → list_all is_line lines ≡ true → LeadsToWorld d lines e
     → reading_from d n (cuts_of (laid lines ++ tail)) ≡ reading_from e (n + length lines) (cuts_of tail)
 reading-lines d e n [] tail all h = ap (λ x. reading_from x n (cuts_of tail)) h ∙ ap (λ m. reading_from e m (cuts_of tail)) (omega arith)
 reading-lines d e n (line ∷ lines) tail all h =
@@ -145,12 +145,12 @@ pub data View (d : Draft) (text : List ℕ) (v : Verdict) : Type 0 where
   Good : (l : WorldLine) → (d.group == 0) ≡ false → read_line text ≡ Ok l → line_cause d l ≡ None → v ≡ good_line d l → View d text v
   Refused : (c : LineCause) → v ≡ Bad c → View d text v
 
-passed-quiet : (text : List ℕ) → is_passed text ≡ true → speaks text ≡ false
+passed-quiet : (text : List ℕ) → passes_over text ≡ true → speaks text ≡ false
 passed-quiet [] e = refl
 passed-quiet (b ∷ text) e = ap not e
 
 pub view : (d : Draft) (text : List ℕ) → View d text (line_verdict d text)
-view d text = by (is_passed text) refl
+view d text = by (passes_over text) refl
   where
     good : (l : WorldLine) (o : Option LineCause) → (d.group == 0) ≡ false → read_line text ≡ Ok l → line_cause d l ≡ o → View d text (unless o (good_line d l))
     good l None late is none = Good l late is none refl
@@ -173,7 +173,7 @@ view d text = by (is_passed text) refl
     loud true e = first (bytes_eq text (codes "networld 1")) e refl
     loud false e = read (read_line text) e refl
 
-    by : (b : Bool) → is_passed text ≡ b → View d text (if b then Goes d else (if d.group == 0 then first_line d text else judged_line d (read_line text)))
+    by : (b : Bool) → passes_over text ≡ b → View d text (if b then Goes d else (if d.group == 0 then first_line d text else judged_line d (read_line text)))
     by true is = Passed (passed-quiet text is) refl
     by false is = loud (d.group == 0) refl
 

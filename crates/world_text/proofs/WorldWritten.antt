@@ -24,7 +24,7 @@ use Rattle.world_text.specs.declared.line.WorldLine.{WorldLine}
 use Rattle.world_text.specs.declared.line.WorldLine.TheVariants as line
 use Rattle.world_text.specs.VersionLines.{bad_version_line, versions_in}
 use Rattle.world_text.specs.WorldLines.{Draft, after, is_near}
-use Rattle.world_text.specs.WorldSpelling.{EachBehind, HostText, IsReached, IsWorldText, SaysVersions, ScriptText, host_names, host_said, iface_said, is_line, laid, line_of_iface, line_of_route, line_of_start, line_of_step, line_of_timers, lines_of_host, lines_of_medium, lines_of_script, lines_of_steps, lines_of_text, lines_of_world, lines_said, medium_names, name_at, place_of, route_said, script_said, speaks, spelling, start_said}
+use Rattle.world_text.specs.WorldSpelling.{EachBehind, HostText, IsReached, IsWorldText, SaysVersions, ScriptText, host_names, host_said, iface_said, is_line, laid, line_of_iface, line_of_route, line_of_start, line_of_step, line_of_timers, lines_of_host, lines_of_medium, lines_of_script, lines_of_steps, lines_of_text, lines_of_world, lines_said, medium_names, nth_name, place_among, route_said, script_said, speaks, line_spelling, start_said}
 use Rattle.world_text.proofs.LineBack.{loud, one_line}
 use Rattle.world_text.proofs.WorldLists.{each-none, each-push, false-of-not, same-bytes}
 use Rattle.world_text.proofs.VersionTexts.{versions-say}
@@ -44,13 +44,13 @@ none-at p (x ∷ xs) zero none lt = (or_parts (p x) (list_any p xs) none).0
 none-at p (x ∷ xs) (suc n) none lt = none-at p xs n ((or_parts (p x) (list_any p xs) none).1) (omega (arith, lt))
 
 -- a name stands in the first place of itself, where names are apart
-place-named : (ns : List (List ℕ)) (n : ℕ) → n < length ns → all_apart bytes_eq ns ≡ true → place_of ns (name_at ns n) ≡ n
+place-named : (ns : List (List ℕ)) (n : ℕ) → n < length ns → all_apart bytes_eq ns ≡ true → place_among ns (nth_name ns n) ≡ n
 place-named [] n lt apart = absurd (omega (arith, lt))
 place-named (x ∷ ns) zero lt apart = ap (λ b. cond (not b) (1 + position_or_len (bytes_eq x) ns) 0) (same_text x)
 place-named (x ∷ ns) (suc n) lt apart =
     let parts = and_parts (not (list_any (bytes_eq x) ns)) (all_apart bytes_eq ns) apart in
     let other = none-at (bytes_eq x) ns n (false-of-not (list_any (bytes_eq x) ns) parts.0) (omega (arith, lt)) in
-    ap (λ b. cond (not b) (1 + position_or_len (bytes_eq (name_at ns n)) ns) 0) (same-bytes (name_at ns n) x ∙ other)
+    ap (λ b. cond (not b) (1 + position_or_len (bytes_eq (nth_name ns n)) ns) 0) (same-bytes (nth_name ns n) x ∙ other)
     ∙ (ap (λ k. 1 + k) (place-named ns n (omega (arith, lt)) parts.1) ∙ next n)
   where
     next : (k : ℕ) → 1 + k ≡ suc k
@@ -59,7 +59,7 @@ place-named (x ∷ ns) (suc n) lt apart =
 -- Hosts.
 
 abbrev if_line : List (List ℕ) → Iface → HostLine
-if_line ns i = host.If (name_at ns i.medium) i.ip i.mask
+if_line ns i = host.If (nth_name ns i.medium) i.ip i.mask
 
 abbrev if_lines : List (List ℕ) → List Iface → List HostLine
 if_lines ns is = map (if_line ns) is
@@ -73,35 +73,35 @@ start_lines ss = map (λ (n : ℕ). host.Start n) ss
 abbrev host_text : List (List ℕ) → HostSpec → HostText
 host_text ns h = record { name = h.name; nets = h.nets; under = if_lines ns h.ifaces ++ (route_lines h.routes ++ start_lines h.starts) }
 
-spelled-under : (xs ys : List HostLine) → map spelling (of_host (xs ++ ys)) ≡ map spelling (of_host xs) ++ map spelling (of_host ys)
-spelled-under xs ys = ap (map spelling) (map-append (λ (l : HostLine). line.OfHost l) xs ys) ∙ map-append spelling (of_host xs) (of_host ys)
+spelled-under : (xs ys : List HostLine) → map line_spelling (of_host (xs ++ ys)) ≡ map line_spelling (of_host xs) ++ map line_spelling (of_host ys)
+spelled-under xs ys = ap (map line_spelling) (map-append (λ (l : HostLine). line.OfHost l) xs ys) ∙ map-append line_spelling (of_host xs) (of_host ys)
 
-spelled-ifs : (ns : List (List ℕ)) (is : List Iface) → map spelling (of_host (if_lines ns is)) ≡ map (line_of_iface ns) is
+spelled-ifs : (ns : List (List ℕ)) (is : List Iface) → map line_spelling (of_host (if_lines ns is)) ≡ map (line_of_iface ns) is
 spelled-ifs ns [] = refl
 spelled-ifs ns (i ∷ is) = ap (λ ls. line_of_iface ns i ∷ ls) (spelled-ifs ns is)
 
-spelled-routes : (ls : List RouteLine) → map spelling (of_host (route_lines ls)) ≡ map line_of_route ls
+spelled-routes : (ls : List RouteLine) → map line_spelling (of_host (route_lines ls)) ≡ map line_of_route ls
 spelled-routes [] = refl
 spelled-routes (l ∷ ls) = ap (λ xs. line_of_route l ∷ xs) (spelled-routes ls)
 
-spelled-starts : (ss : List ℕ) → map spelling (of_host (start_lines ss)) ≡ map line_of_start ss
+spelled-starts : (ss : List ℕ) → map line_spelling (of_host (start_lines ss)) ≡ map line_of_start ss
 spelled-starts [] = refl
 spelled-starts (n ∷ ss) = ap (λ xs. line_of_start n ∷ xs) (spelled-starts ss)
 
-spelled-host : (ns : List (List ℕ)) (h : HostSpec) → map spelling (lines_of_text (host_text ns h)) ≡ lines_of_host ns h
+spelled-host : (ns : List (List ℕ)) (h : HostSpec) → map line_spelling (lines_of_text (host_text ns h)) ≡ lines_of_host ns h
 spelled-host ns h =
-    ap (λ ls. spelling (line.Host h.name h.nets) ∷ ls)
+    ap (λ ls. line_spelling (line.Host h.name h.nets) ∷ ls)
     (spelled-under (if_lines ns h.ifaces) (route_lines h.routes ++ start_lines h.starts)
-    ∙ (ap (λ ls. ls ++ map spelling (of_host (route_lines h.routes ++ start_lines h.starts))) (spelled-ifs ns h.ifaces)
+    ∙ (ap (λ ls. ls ++ map line_spelling (of_host (route_lines h.routes ++ start_lines h.starts))) (spelled-ifs ns h.ifaces)
     ∙ ap (λ ls. map (line_of_iface ns) h.ifaces ++ ls)
     (spelled-under (route_lines h.routes) (start_lines h.starts)
-    ∙ (ap (λ ls. ls ++ map spelling (of_host (start_lines h.starts))) (spelled-routes h.routes) ∙ ap (λ ls. map line_of_route h.routes ++ ls) (spelled-starts h.starts)))))
+    ∙ (ap (λ ls. ls ++ map line_spelling (of_host (start_lines h.starts))) (spelled-routes h.routes) ∙ ap (λ ls. map line_of_route h.routes ++ ls) (spelled-starts h.starts)))))
 
-spelled-hosts : (ns : List (List ℕ)) (hs : List HostSpec) → map spelling (flat_map lines_of_text (map (host_text ns) hs)) ≡ flat_map (lines_of_host ns) hs
+spelled-hosts : (ns : List (List ℕ)) (hs : List HostSpec) → map line_spelling (flat_map lines_of_text (map (host_text ns) hs)) ≡ flat_map (lines_of_host ns) hs
 spelled-hosts ns [] = refl
 spelled-hosts ns (h ∷ hs) =
-    map-append spelling (lines_of_text (host_text ns h)) (flat_map lines_of_text (map (host_text ns) hs))
-    ∙ (ap (λ ls. ls ++ map spelling (flat_map lines_of_text (map (host_text ns) hs))) (spelled-host ns h) ∙ ap (λ ls. lines_of_host ns h ++ ls) (spelled-hosts ns hs))
+    map-append line_spelling (lines_of_text (host_text ns h)) (flat_map lines_of_text (map (host_text ns) hs))
+    ∙ (ap (λ ls. ls ++ map line_spelling (flat_map lines_of_text (map (host_text ns) hs))) (spelled-host ns h) ∙ ap (λ ls. lines_of_host ns h ++ ls) (spelled-hosts ns hs))
 
 -- what they say
 
@@ -233,17 +233,17 @@ hosts-reached ns (h ∷ hs) apart all (suc k) d lt = hosts-reached ns hs apart (
 -- Scripts.
 
 abbrev script_text : List (List ℕ) → Script → ScriptText
-script_text ns s = record { host = name_at ns s.host; steps = s.steps }
+script_text ns s = record { host = nth_name ns s.host; steps = s.steps }
 
-spelled-steps : (xs : List Step) → map spelling (of_script xs) ≡ map line_of_step xs
+spelled-steps : (xs : List Step) → map line_spelling (of_script xs) ≡ map line_of_step xs
 spelled-steps [] = refl
 spelled-steps (x ∷ xs) = ap (λ ls. line_of_step x ∷ ls) (spelled-steps xs)
 
-spelled-scripts : (ns : List (List ℕ)) (ss : List Script) → map spelling (flat_map lines_of_steps (map (script_text ns) ss)) ≡ flat_map (lines_of_script ns) ss
+spelled-scripts : (ns : List (List ℕ)) (ss : List Script) → map line_spelling (flat_map lines_of_steps (map (script_text ns) ss)) ≡ flat_map (lines_of_script ns) ss
 spelled-scripts ns [] = refl
 spelled-scripts ns (s ∷ ss) =
-    map-append spelling (lines_of_steps (script_text ns s)) (flat_map lines_of_steps (map (script_text ns) ss))
-    ∙ (ap (λ ls. (spelling (line.Script (name_at ns s.host)) ∷ ls) ++ map spelling (flat_map lines_of_steps (map (script_text ns) ss))) (spelled-steps s.steps)
+    map-append line_spelling (lines_of_steps (script_text ns s)) (flat_map lines_of_steps (map (script_text ns) ss))
+    ∙ (ap (λ ls. (line_spelling (line.Script (nth_name ns s.host)) ∷ ls) ++ map line_spelling (flat_map lines_of_steps (map (script_text ns) ss))) (spelled-steps s.steps)
     ∙ ap (λ ls. lines_of_script ns s ++ ls) (spelled-scripts ns ss))
 
 scripts-same : (ns : List (List ℕ)) (ss : List Script) → all_apart bytes_eq ns ≡ true → list_all (is_script (length ns)) ss ≡ true → map (script_said ns) (map (script_text ns) ss) ≡ ss
@@ -277,7 +277,7 @@ canon-said w is =
 
 -- they are spelled so
 canon-spelled : (w : World) → IsWorld w
-    → map spelling (lines_said w.timers w.end w.seed (media_lines w.media) (map (host_text (medium_names w.media)) w.hosts) (map (script_text (host_names w.hosts)) w.scripts)) ≡ lines_of_world w
+    → map line_spelling (lines_said w.timers w.end w.seed (media_lines w.media) (map (host_text (medium_names w.media)) w.hosts) (map (script_text (host_names w.hosts)) w.scripts)) ≡ lines_of_world w
 canon-spelled w is =
     let ns : List (List ℕ) = medium_names w.media in
     let hns : List (List ℕ) = host_names w.hosts in
@@ -285,25 +285,25 @@ canon-spelled w is =
     let b : List WorldLine = flat_map lines_of_text (map (host_text ns) w.hosts) in
     let c : List WorldLine = flat_map lines_of_steps (map (script_text hns) w.scripts) in
     let m = canon-media w.media is.media is.media_named in
-    ap (λ ls. line_of_timers w.timers ∷ spelling (line.End w.end) ∷ spelling (line.Seed w.seed) ∷ ls)
-    (map-append spelling a (b ++ c)
-    ∙ (ap (λ ls. ls ++ map spelling (b ++ c)) m.spelled
+    ap (λ ls. line_of_timers w.timers ∷ line_spelling (line.End w.end) ∷ line_spelling (line.Seed w.seed) ∷ ls)
+    (map-append line_spelling a (b ++ c)
+    ∙ (ap (λ ls. ls ++ map line_spelling (b ++ c)) m.spelled
     ∙ ap (λ ls. flat_map lines_of_medium w.media ++ ls)
-    (map-append spelling b c ∙ (ap (λ ls. ls ++ map spelling c) (spelled-hosts ns w.hosts) ∙ ap (λ ls. flat_map (lines_of_host ns) w.hosts ++ ls) (spelled-scripts hns w.scripts)))))
+    (map-append line_spelling b c ∙ (ap (λ ls. ls ++ map line_spelling c) (spelled-hosts ns w.hosts) ∙ ap (λ ls. flat_map (lines_of_host ns) w.hosts ++ ls) (spelled-scripts hns w.scripts)))))
 
 -- lines that fit stand on one line each and aren't passed over
-whole-lines : (d e : Draft) (ls : List WorldLine) → Led d ls e → list_all is_line (map spelling ls) ≡ true
+whole-lines : (d e : Draft) (ls : List WorldLine) → Led d ls e → list_all is_line (map line_spelling ls) ≡ true
 whole-lines d e [] led = refl
-whole-lines d e (l ∷ ls) led = and_from (is_line (spelling l)) (list_all is_line (map spelling ls)) (one_line l led.0) (whole-lines (after d l) e ls led.2)
+whole-lines d e (l ∷ ls) led = and_from (is_line (line_spelling l)) (list_all is_line (map line_spelling ls)) (one_line l led.0) (whole-lines (after d l) e ls led.2)
 
-first-whole : (kind : Timers) → is_line (spelling (line.Networld kind)) ≡ true
+first-whole : (kind : Timers) → is_line (line_spelling (line.Networld kind)) ≡ true
 first-whole Fixed = refl
 first-whole Measured = refl
 
-loud-lines : (ls : List WorldLine) → filter speaks (map spelling ls) ≡ map spelling ls
+loud-lines : (ls : List WorldLine) → filter speaks (map line_spelling ls) ≡ map line_spelling ls
 loud-lines [] = refl
 loud-lines (l ∷ ls) =
-    ap (λ v. cond v (spelling l ∷ filter speaks (map spelling ls)) (filter speaks (map spelling ls))) (loud l) ∙ ap (λ xs. spelling l ∷ xs) (loud-lines ls)
+    ap (λ v. cond v (line_spelling l ∷ filter speaks (map line_spelling ls)) (filter speaks (map line_spelling ls))) (loud l) ∙ ap (λ xs. line_spelling l ∷ xs) (loud-lines ls)
 
 pub written : (w : World) (bundle : List ℕ) → IsWorld w → bad_version_line bundle ≡ None → w.dbs ≡ versions_in (lines_of bundle) → IsWorldText (laid (lines_of_world w) ++ (codes "ndb\n" ++ bundle)) w
 written w bundle is fine read =
@@ -315,8 +315,8 @@ written w bundle is fine read =
     let led = world-lead w.timers w.end w.seed media hosts scripts (fine-world w media hosts scripts s) in
     let same = canon-spelled w is in
     let rest : List WorldLine = line.End w.end ∷ line.Seed w.seed ∷ (of_media media ++ (flat_map lines_of_text hosts ++ flat_map lines_of_steps scripts)) in
-    let whole : list_all is_line (map spelling ls) ≡ true =
-    and_from (is_line (spelling (line.Networld w.timers))) (list_all is_line (map spelling rest)) (first-whole w.timers)
+    let whole : list_all is_line (map line_spelling ls) ≡ true =
+    and_from (is_line (line_spelling (line.Networld w.timers))) (list_all is_line (map line_spelling rest)) (first-whole w.timers)
     (whole-lines (begun w.timers) (whole_draft w.timers w.end w.seed media hosts scripts) rest led) in
     record {
       head = lines_of_world w;

@@ -21,11 +21,11 @@ use Rattle.world_text.specs.declared.line.LineCause.TheVariants as cause
 use Rattle.world_text.specs.declared.line.MediumLine.TheVariants as medium
 use Rattle.world_text.specs.declared.line.WorldLine.{WorldLine}
 use Rattle.world_text.specs.declared.line.WorldLine.TheVariants as line
-use Rattle.world_text.specs.WorldWords.{one, Two, two, Three, three, Four, four, words_of, joined, number_in, address_in, mode_named, nets_named, hex_text}
+use Rattle.world_text.specs.WorldWords.{single_word, Two, two, Three, three, Four, four, words_in_line, words_left, number_in, address_in, mode_named, nets_named, hex_text}
 
 -- what is read behind a word that has to be a name
-abbrev pub named : {X : Type 0} → List ℕ → Option X → Option X
-named word read = if is_name word then read else None
+abbrev pub if_named : {X : Type 0} → List ℕ → Option X → Option X
+if_named word read = if is_name word then read else None
 
 -- The first lines.
 
@@ -37,19 +37,19 @@ timers_named word =
     else None)
 
 abbrev pub networld_of : List (List ℕ) → Option WorldLine
-networld_of args = option_map (λ (kind : Timers). line.Networld kind) (option_and_then timers_named (one args))
+networld_of args = option_map (λ (kind : Timers). line.Networld kind) (option_and_then timers_named (single_word args))
 
-abbrev pub end_of : List (List ℕ) → Option WorldLine
-end_of args = option_map (λ moment. line.End moment) (option_and_then (number_in 1 1000000000) (one args))
+abbrev pub read_end_line : List (List ℕ) → Option WorldLine
+read_end_line args = option_map (λ moment. line.End moment) (option_and_then (number_in 1 1000000000) (single_word args))
 
 abbrev pub seed_of : List (List ℕ) → Option WorldLine
-seed_of args = option_map (λ seed. line.Seed seed) (option_and_then (number_in 0 18446744073709551615) (one args))
+seed_of args = option_map (λ seed. line.Seed seed) (option_and_then (number_in 0 18446744073709551615) (single_word args))
 
 -- Media.
 
-abbrev pub medium_of : List (List ℕ) → Option WorldLine
-medium_of args =
-    option_and_then (λ (w : Two). named w.first
+abbrev pub medium_line_of : List (List ℕ) → Option WorldLine
+medium_line_of args =
+    option_and_then (λ (w : Two). if_named w.first
     (option_map (λ mtu. line.OfMedium (medium.Medium w.first mtu)) (number_in 576 16384 w.second))) (two args)
 
 -- a rate: any number below 2^32, alone or in the sum not above 1000
@@ -64,7 +64,7 @@ rates_from called None twice later = None
 
 abbrev pub rates_of : List (List ℕ) → Option WorldLine
 rates_of args =
-    option_and_then (λ (w : Four). named w.first (rates_from w.first (rate_in w.second) (rate_in w.third) (rate_in w.fourth))) (four args)
+    option_and_then (λ (w : Four). if_named w.first (rates_from w.first (rate_in w.second) (rate_in w.third) (rate_in w.fourth))) (four args)
 
 -- the number of a frame, from 1
 abbrev pub frame_in : List ℕ → Option ℕ
@@ -98,14 +98,14 @@ fate_from called (Some f) (Some x) = Some (line.OfMedium (medium.Fate called f x
 fate_from called (Some f) None = None
 fate_from called None x = None
 
-abbrev pub fate_of : List (List ℕ) → Option WorldLine
-fate_of args = option_and_then (λ (w : Three). named w.first (fate_from w.first (frames_in w.second) (fate_named w.third))) (three args)
+abbrev pub read_fate_line : List (List ℕ) → Option WorldLine
+read_fate_line args = option_and_then (λ (w : Three). if_named w.first (fate_from w.first (frames_in w.second) (fate_named w.third))) (three args)
 
 -- Hosts.
 
-abbrev pub host_of : List (List ℕ) → Option WorldLine
-host_of (called ∷ nets) = if is_name called && is_nets (nets_named nets) then Some (line.Host called (nets_named nets)) else None
-host_of [] = None
+abbrev pub host_line_of : List (List ℕ) → Option WorldLine
+host_line_of (called ∷ nets) = if is_name called && is_nets (nets_named nets) then Some (line.Host called (nets_named nets)) else None
+host_line_of [] = None
 
 abbrev pub if_from : List ℕ → Option ℕ → Option ℕ → Option WorldLine
 if_from called (Some ip) (Some mask) = Some (line.OfHost (host.If called ip mask))
@@ -113,7 +113,7 @@ if_from called (Some ip) None = None
 if_from called None mask = None
 
 abbrev pub if_of : List (List ℕ) → Option WorldLine
-if_of args = option_and_then (λ (w : Three). named w.first (if_from w.first (address_in w.second) (address_in w.third))) (three args)
+if_of args = option_and_then (λ (w : Three). if_named w.first (if_from w.first (address_in w.second) (address_in w.third))) (three args)
 
 abbrev pub route_from : Option ℕ → Option ℕ → Option ℕ → Option WorldLine
 route_from (Some net) (Some mask) (Some gateway) = Some (line.OfHost (host.Route (record { net = net; mask = mask; gateway = gateway })))
@@ -124,75 +124,75 @@ route_from None mask gateway = None
 abbrev pub route_of : List (List ℕ) → Option WorldLine
 route_of args = option_and_then (λ (w : Three). route_from (address_in w.first) (address_in w.second) (address_in w.third)) (three args)
 
-abbrev pub start_of : List (List ℕ) → Option WorldLine
-start_of args = option_map (λ start. line.OfHost (host.Start start)) (option_and_then (number_in 1 4294967295) (one args))
+abbrev pub start_line : List (List ℕ) → Option WorldLine
+start_line args = option_map (λ start. line.OfHost (host.Start start)) (option_and_then (number_in 1 4294967295) (single_word args))
 
 -- Scripts.
 
 abbrev pub script_of : List (List ℕ) → Option WorldLine
-script_of args = option_and_then (λ called. named called (Some (line.Script called))) (one args)
+script_of args = option_and_then (λ called. if_named called (Some (line.Script called))) (single_word args)
 
 -- the step, where its words are of its row
-abbrev pub kept : Step → Option Step
-kept s = if is_step s then Some s else None
+abbrev pub row_kept : Step → Option Step
+row_kept s = if is_step s then Some s else None
 
 abbrev pub open_of : List (List ℕ) → Option Step
-open_of (called ∷ path ∷ []) = kept (step.Open called path None)
-open_of (called ∷ path ∷ mode ∷ []) = option_and_then (λ (m : Mode). kept (step.Open called path (Some m))) (mode_named mode)
+open_of (called ∷ path ∷ []) = row_kept (step.Open called path None)
+open_of (called ∷ path ∷ mode ∷ []) = option_and_then (λ (m : Mode). row_kept (step.Open called path (Some m))) (mode_named mode)
 open_of _ = None
 
-abbrev pub read_of : List (List ℕ) → Option Step
-read_of args = option_and_then (λ (w : Two). option_and_then (λ count. kept (step.Read w.first count)) (number_in 1 65536 w.second)) (two args)
+abbrev pub read_step_of : List (List ℕ) → Option Step
+read_step_of args = option_and_then (λ (w : Two). option_and_then (λ count. row_kept (step.Read w.first count)) (number_in 1 65536 w.second)) (two args)
 
 abbrev pub until_of : List (List ℕ) → Option Step
-until_of args = option_and_then (λ word. option_and_then (λ moment. kept (step.Until moment)) (number_in 1 1000000000 word)) (one args)
+until_of args = option_and_then (λ word. option_and_then (λ moment. row_kept (step.Until moment)) (number_in 1 1000000000 word)) (single_word args)
 
 abbrev pub write_of : List (List ℕ) → Option Step
-write_of (called ∷ word ∷ words) = kept (step.Write called (joined (word ∷ words)))
+write_of (called ∷ word ∷ words) = row_kept (step.Write called (words_left (word ∷ words)))
 write_of _ = None
 
 abbrev pub writex_of : List (List ℕ) → Option Step
-writex_of args = option_and_then (λ (w : Two). option_and_then (λ bytes. kept (step.Writex w.first bytes)) (hex_text w.second)) (two args)
+writex_of args = option_and_then (λ (w : Two). option_and_then (λ bytes. row_kept (step.Writex w.first bytes)) (hex_text w.second)) (two args)
 
 abbrev pub cs_of : List (List ℕ) → Option Step
-cs_of (word ∷ words) = kept (step.Cs (joined (word ∷ words)))
+cs_of (word ∷ words) = row_kept (step.Cs (words_left (word ∷ words)))
 cs_of [] = None
 
 -- a step with one word
 abbrev pub of_one : (List ℕ → Step) → List (List ℕ) → Option Step
-of_one make (word ∷ []) = kept (make word)
+of_one make (word ∷ []) = row_kept (make word)
 of_one make _ = None
 
 -- a step with two words
 abbrev pub of_two : (List ℕ → List ℕ → Step) → List (List ℕ) → Option Step
-of_two make (word ∷ other ∷ []) = kept (make word other)
+of_two make (word ∷ other ∷ []) = row_kept (make word other)
 of_two make _ = None
 
 -- `refresh` has no words
 abbrev pub refresh_of : List (List ℕ) → Option Step
-refresh_of [] = kept step.Refresh
+refresh_of [] = row_kept step.Refresh
 refresh_of _ = None
 
 abbrev pub hread_of : List (List ℕ) → Option Step
-hread_of args = option_and_then (λ (w : Two). option_and_then (λ count. kept (step.Hread w.first count)) (number_in 1 65536 w.second)) (two args)
+hread_of args = option_and_then (λ (w : Two). option_and_then (λ count. row_kept (step.Hread w.first count)) (number_in 1 65536 w.second)) (two args)
 
 abbrev pub hwrite_of : List (List ℕ) → Option Step
-hwrite_of args = option_and_then (λ (w : Two). option_and_then (λ bytes. kept (step.Hwrite w.first bytes)) (hex_text w.second)) (two args)
+hwrite_of args = option_and_then (λ (w : Two). option_and_then (λ bytes. row_kept (step.Hwrite w.first bytes)) (hex_text w.second)) (two args)
 
 abbrev pub dns_of : List (List ℕ) → Option Step
-dns_of args = option_and_then (λ (w : Two). option_and_then (λ times. kept (step.Dns w.first times)) (number_in 1 1000 w.second)) (two args)
+dns_of args = option_and_then (λ (w : Two). option_and_then (λ times. row_kept (step.Dns w.first times)) (number_in 1 1000 w.second)) (two args)
 
 -- imports
 
 abbrev pub ropen_of : List (List ℕ) → Option Step
 ropen_of args =
-    option_and_then (λ (w : Four). option_and_then (λ (m : Mode). kept (step.Ropen w.first w.second w.third m)) (mode_named w.fourth)) (four args)
+    option_and_then (λ (w : Four). option_and_then (λ (m : Mode). row_kept (step.Ropen w.first w.second w.third m)) (mode_named w.fourth)) (four args)
 
 abbrev pub rread_of : List (List ℕ) → Option Step
-rread_of args = option_and_then (λ (w : Two). option_and_then (λ count. kept (step.Rread w.first count)) (number_in 1 488 w.second)) (two args)
+rread_of args = option_and_then (λ (w : Two). option_and_then (λ count. row_kept (step.Rread w.first count)) (number_in 1 488 w.second)) (two args)
 
 abbrev pub rwrite_of : List (List ℕ) → Option Step
-rwrite_of (called ∷ word ∷ words) = kept (step.Rwrite called (joined (word ∷ words)))
+rwrite_of (called ∷ word ∷ words) = row_kept (step.Rwrite called (words_left (word ∷ words)))
 rwrite_of _ = None
 
 abbrev pub import_of : List ℕ → List (List ℕ) → Option (Option Step)
@@ -221,10 +221,10 @@ other_of word args =
     else import_of word args))))))))))
 
 -- the step of a word and its arguments, which are wrong where there is none
-abbrev pub step_of : List ℕ → List (List ℕ) → Option (Option Step)
-step_of word args =
+abbrev pub step_in_line : List ℕ → List (List ℕ) → Option (Option Step)
+step_in_line word args =
     if bytes_eq word (codes "open") then Some (open_of args)
-    else (if bytes_eq word (codes "read") then Some (read_of args)
+    else (if bytes_eq word (codes "read") then Some (read_step_of args)
     else (if bytes_eq word (codes "write") then Some (write_of args)
     else (if bytes_eq word (codes "writex") then Some (writex_of args)
     else (if bytes_eq word (codes "close") then Some (of_one (λ n. step.Close n) args)
@@ -247,12 +247,12 @@ step_read (Some (Some s)) = Ok (line.OfScript s)
 -- a line under a host, a script or a step
 abbrev pub other_line : List ℕ → List (List ℕ) → Result WorldLine LineCause
 other_line word args =
-    if bytes_eq word (codes "host") then argued (host_of args)
+    if bytes_eq word (codes "host") then argued (host_line_of args)
     else (if bytes_eq word (codes "if") then argued (if_of args)
     else (if bytes_eq word (codes "route") then argued (route_of args)
-    else (if bytes_eq word (codes "start") then argued (start_of args)
+    else (if bytes_eq word (codes "start") then argued (start_line args)
     else (if bytes_eq word (codes "script") then argued (script_of args)
-    else step_read (step_of word args)))))
+    else step_read (step_in_line word args)))))
 
 abbrev pub ndb_of : List (List ℕ) → Option WorldLine
 ndb_of [] = Some line.Ndb
@@ -263,11 +263,11 @@ abbrev pub word_line : List ℕ → List (List ℕ) → Result WorldLine LineCau
 word_line word args =
     if bytes_eq word (codes "ndb") then argued (ndb_of args)
     else (if bytes_eq word (codes "networld") then argued (networld_of args)
-    else (if bytes_eq word (codes "end") then argued (end_of args)
+    else (if bytes_eq word (codes "end") then argued (read_end_line args)
     else (if bytes_eq word (codes "seed") then argued (seed_of args)
-    else (if bytes_eq word (codes "medium") then argued (medium_of args)
+    else (if bytes_eq word (codes "medium") then argued (medium_line_of args)
     else (if bytes_eq word (codes "rates") then argued (rates_of args)
-    else (if bytes_eq word (codes "fate") then argued (fate_of args)
+    else (if bytes_eq word (codes "fate") then argued (read_fate_line args)
     else other_line word args))))))
 
 abbrev pub words_line : List (List ℕ) → Result WorldLine LineCause
@@ -276,4 +276,4 @@ words_line (word ∷ args) = word_line word args
 
 -- what a line says, or the least cause for which it is bad wherever it stands
 abbrev pub read_line : List ℕ → Result WorldLine LineCause
-read_line text = words_line (words_of text)
+read_line text = words_line (words_in_line text)

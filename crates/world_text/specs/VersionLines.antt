@@ -10,7 +10,7 @@ use Rattle.net_base.specs.Addresses.{number_in}
 use Rattle.net_base.specs.NdbBundle.{cause, causes_of, database, has_tuple, least_of_causes, told_line}
 use Rattle.net_base.specs.NdbText.{begins_with, lines_of}
 use Rattle.world_text.specs.declared.line.LineCause.TheVariants as line_cause
-use Rattle.world_text.specs.LineCauses.{number_of}
+use Rattle.world_text.specs.LineCauses.{cause_number_of}
 
 -- Lines that begin a version.
 
@@ -38,8 +38,8 @@ own_lines before = after_last is_at_line before
 
 -- the causes of a line that begins a version, behind one from that moment on: it names no moment, or none that is above
 abbrev pub at_causes : ℕ → Option ℕ → List ℕ
-at_causes last None = number_of line_cause.WrongArgument ∷ []
-at_causes last (Some moment) = cause (number_of line_cause.EarlyVersion) (nat_le moment last)
+at_causes last None = cause_number_of line_cause.WrongArgument ∷ []
+at_causes last (Some moment) = cause (cause_number_of line_cause.EarlyVersion) (nat_le moment last)
 
 -- the causes for which a line is bad behind these, in rising order: a line of a bundle has those of its bundle
 abbrev pub version_causes : List (List ℕ) → List ℕ → List ℕ

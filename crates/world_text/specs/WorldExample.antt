@@ -11,7 +11,7 @@ use Rattle.net_base.specs.declared.world.Step.TheVariants as step
 use Rattle.net_base.specs.declared.world.World.{World}
 use Rattle.net_base.specs.declared.timer.Timers.TheVariants.{Measured}
 use Rattle.net_base.specs.DatagramHeaders.{headers_bytes}
-use Rattle.worked_worlds.specs.Worked.{ip, script, small_bundle}
+use Rattle.worked_worlds.specs.Worked.{ip, script_with, small_bundle}
 
 -- The worked world of UDP.
 
@@ -42,8 +42,8 @@ lossy_medium = record {
   fates = record { first = 1; last = 1; fate = fate.Lose } ∷ record { first = 3; last = 5; fate = fate.Deliver } ∷ [];
 }
 
-abbrev pub plain_medium : MediumSpec
-plain_medium = record { number = 1; name = codes "ether1"; mtu = 576; loss = 0; twice = 0; later = 0; fates = [] }
+abbrev pub example_medium : MediumSpec
+example_medium = record { number = 1; name = codes "ether1"; mtu = 576; loss = 0; twice = 0; later = 0; fates = [] }
 
 abbrev pub gate : HostSpec
 gate = record {
@@ -55,11 +55,11 @@ gate = record {
 }
 
 -- who asked, and whom
-abbrev pub asked : Headers
-asked = record { remote = record { ip = ip 135 104 9 6; port = 5000 }; local = record { ip = ip 135 104 9 31; port = 53 }; iface = ip 135 104 9 31 }
+abbrev pub example_asked : Headers
+example_asked = record { remote = record { ip = ip 135 104 9 6; port = 5000 }; local = record { ip = ip 135 104 9 31; port = 53 }; iface = ip 135 104 9 31 }
 
-abbrev pub all_steps : List Step
-all_steps =
+abbrev pub example_steps : List Step
+example_steps =
     step.Until 10
     ∷ step.Open (codes "c") (codes "/net/il/clone") None
     ∷ step.Open (codes "d") (codes "/net/cs") (Some mode.Both)
@@ -78,7 +78,7 @@ all_steps =
     ∷ step.Reject (codes "l")
     ∷ step.Hangup (codes "e")
     ∷ step.Hread (codes "a") 512
-    ∷ step.Hwrite (codes "a") (headers_bytes asked ++ 104 ∷ 105 ∷ [])
+    ∷ step.Hwrite (codes "a") (headers_bytes example_asked ++ 104 ∷ 105 ∷ [])
     ∷ step.Dns (codes "a") 1000
     ∷ step.Import (codes "e")
     ∷ step.Ropen (codes "r") (codes "e") (codes "/net/udp/clone") mode.Both
@@ -89,4 +89,4 @@ all_steps =
     ∷ []
 
 abbrev pub every_line : World
-every_line = record { end = 60000; seed = 18446744073709551615; timers = Measured; media = lossy_medium ∷ plain_medium ∷ []; hosts = gate ∷ []; scripts = script 0 all_steps ∷ []; dbs = record { moment = 0; db = [] } ∷ record { moment = 20; db = [] } ∷ [] }
+every_line = record { end = 60000; seed = 18446744073709551615; timers = Measured; media = lossy_medium ∷ example_medium ∷ []; hosts = gate ∷ []; scripts = script_with 0 example_steps ∷ []; dbs = record { moment = 0; db = [] } ∷ record { moment = 20; db = [] } ∷ [] }

@@ -91,8 +91,8 @@ abbrev pub medium_number : List ℕ → Draft → ℕ
 medium_number called d = position_or_len (is_medium_named called) d.media
 
 -- the media, where one with this name is changed
-abbrev pub on_medium : List ℕ → (MediumSpec → MediumSpec) → List MediumSpec → List MediumSpec
-on_medium called change media = map (λ (s : MediumSpec). if is_medium_named called s then change s else s) media
+abbrev pub on_named_medium : List ℕ → (MediumSpec → MediumSpec) → List MediumSpec → List MediumSpec
+on_named_medium called change media = map (λ (s : MediumSpec). if is_medium_named called s then change s else s) media
 
 -- a medium that delivers each frame
 abbrev pub plain_medium : ℕ → List ℕ → ℕ → MediumSpec
@@ -145,8 +145,8 @@ medium_line_cause d (medium.Fate called f x) = fate_cause d called (range_of f x
 abbrev pub after_medium_line : Draft → MediumLine → Draft
 after_medium_line d (medium.Medium called mtu) = record d { group = 4; media = d.media ++ plain_medium (length d.media) called mtu ∷ [] }
 after_medium_line d (medium.Rates called loss twice later) =
-    record d { media = on_medium called (with_rates loss twice later) d.media; rated = d.rated ++ called ∷ [] }
-after_medium_line d (medium.Fate called f x) = record d { media = on_medium called (with_fate (range_of f x)) d.media }
+    record d { media = on_named_medium called (with_rates loss twice later) d.media; rated = d.rated ++ called ∷ [] }
+after_medium_line d (medium.Fate called f x) = record d { media = on_named_medium called (with_fate (range_of f x)) d.media }
 
 -- Hosts.
 
@@ -321,8 +321,8 @@ judged_line d (Ok l) = unless (line_cause d l) (good_line d l)
 judged_line d (Err c) = Bad c
 
 -- empty lines and comments
-abbrev pub is_passed : List ℕ → Bool
-is_passed text = is_empty text || begins is_hash text
+abbrev pub passes_over : List ℕ → Bool
+passes_over text = is_empty text || begins is_hash text
 
 -- the first line names the kind of timers
 abbrev pub first_line : Draft → List ℕ → Verdict
@@ -334,5 +334,5 @@ first_line d text =
 -- what a line is, behind the lines that made this world so far
 abbrev pub line_verdict : Draft → List ℕ → Verdict
 line_verdict d text =
-    if is_passed text then Goes d
+    if passes_over text then Goes d
     else (if d.group == 0 then first_line d text else judged_line d (read_line text))

@@ -35,12 +35,12 @@ use Rattle.world_text.specs.WorldLines.{is_near, range_of}
 -- Words.
 
 -- a line of words: exactly one blank stands between two
-abbrev pub spaced : List (List ℕ) → List ℕ
-spaced words = join_with_byte 32 words
+abbrev pub spaced_line : List (List ℕ) → List ℕ
+spaced_line words = join_with_byte 32 words
 
 -- the n-th name, from 0
-abbrev pub name_at : List (List ℕ) → ℕ → List ℕ
-name_at names n = get_or names n []
+abbrev pub nth_name : List (List ℕ) → ℕ → List ℕ
+nth_name names n = get_or names n []
 
 -- The first lines.
 
@@ -50,25 +50,25 @@ timers_word timers.Fixed = codes "1"
 timers_word timers.Measured = codes "2"
 
 abbrev pub line_of_timers : Timers → List ℕ
-line_of_timers kind = spaced (codes "networld" ∷ timers_word kind ∷ [])
+line_of_timers kind = spaced_line (codes "networld" ∷ timers_word kind ∷ [])
 
 abbrev pub line_of_end : ℕ → List ℕ
-line_of_end moment = spaced (codes "end" ∷ decimal moment ∷ [])
+line_of_end moment = spaced_line (codes "end" ∷ decimal moment ∷ [])
 
 abbrev pub line_of_seed : ℕ → List ℕ
-line_of_seed seed = spaced (codes "seed" ∷ decimal seed ∷ [])
+line_of_seed seed = spaced_line (codes "seed" ∷ decimal seed ∷ [])
 
 -- Media.
 
 abbrev pub line_of_medium : MediumSpec → List ℕ
-line_of_medium s = spaced (codes "medium" ∷ s.name ∷ decimal s.mtu ∷ [])
+line_of_medium s = spaced_line (codes "medium" ∷ s.name ∷ decimal s.mtu ∷ [])
 
 -- the rates of a medium, where one of them isn't 0
 abbrev pub lines_of_rates : MediumSpec → List (List ℕ)
 lines_of_rates s =
     if (s.loss == 0) && ((s.twice == 0) && (s.later == 0))
     then []
-    else spaced (codes "rates" ∷ s.name ∷ decimal s.loss ∷ decimal s.twice ∷ decimal s.later ∷ []) ∷ []
+    else spaced_line (codes "rates" ∷ s.name ∷ decimal s.loss ∷ decimal s.twice ∷ decimal s.later ∷ []) ∷ []
 
 abbrev pub fate_word : Fate → List ℕ
 fate_word fate.Deliver = codes "deliver"
@@ -82,7 +82,7 @@ frames_word f = if f.first == f.last then decimal f.first else decimal f.first +
 
 -- a fate on the medium with this name
 abbrev pub line_of_fate : List ℕ → FateRange → List ℕ
-line_of_fate called f = spaced (codes "fate" ∷ called ∷ frames_word f ∷ fate_word f.fate ∷ [])
+line_of_fate called f = spaced_line (codes "fate" ∷ called ∷ frames_word f ∷ fate_word f.fate ∷ [])
 
 abbrev pub lines_of_medium : MediumSpec → List (List ℕ)
 lines_of_medium s = line_of_medium s ∷ (lines_of_rates s ++ map (line_of_fate s.name) s.fates)
@@ -93,17 +93,17 @@ medium_names media = map (λ (s : MediumSpec). s.name) media
 -- Hosts.
 
 abbrev pub line_of_host : HostSpec → List ℕ
-line_of_host h = spaced (codes "host" ∷ h.name ∷ map proto_name h.nets)
+line_of_host h = spaced_line (codes "host" ∷ h.name ∷ map proto_name h.nets)
 
 -- an interface, where the media have these names
 abbrev pub line_of_iface : List (List ℕ) → Iface → List ℕ
-line_of_iface media i = spaced (codes "if" ∷ name_at media i.medium ∷ dotted i.ip ∷ dotted i.mask ∷ [])
+line_of_iface media i = spaced_line (codes "if" ∷ nth_name media i.medium ∷ dotted i.ip ∷ dotted i.mask ∷ [])
 
 abbrev pub line_of_route : RouteLine → List ℕ
-line_of_route l = spaced (codes "route" ∷ dotted l.net ∷ dotted l.mask ∷ dotted l.gateway ∷ [])
+line_of_route l = spaced_line (codes "route" ∷ dotted l.net ∷ dotted l.mask ∷ dotted l.gateway ∷ [])
 
 abbrev pub line_of_start : ℕ → List ℕ
-line_of_start start = spaced (codes "start" ∷ decimal start ∷ [])
+line_of_start start = spaced_line (codes "start" ∷ decimal start ∷ [])
 
 abbrev pub lines_of_host : List (List ℕ) → HostSpec → List (List ℕ)
 lines_of_host media h = line_of_host h ∷ (map (line_of_iface media) h.ifaces ++ (map line_of_route h.routes ++ map line_of_start h.starts))
@@ -142,11 +142,11 @@ words_of_step (step.Rwrite called text) = codes "rwrite" ∷ called ∷ text ∷
 words_of_step (step.Rclose called) = codes "rclose" ∷ called ∷ []
 
 abbrev pub line_of_step : Step → List ℕ
-line_of_step s = spaced (words_of_step s)
+line_of_step s = spaced_line (words_of_step s)
 
 -- a script, where the hosts have these names
 abbrev pub lines_of_script : List (List ℕ) → Script → List (List ℕ)
-lines_of_script hosts s = spaced (codes "script" ∷ name_at hosts s.host ∷ []) ∷ map line_of_step s.steps
+lines_of_script hosts s = spaced_line (codes "script" ∷ nth_name hosts s.host ∷ []) ∷ map line_of_step s.steps
 
 -- Worlds.
 
@@ -266,12 +266,12 @@ pub record HostText : Type 0 where
   pub under : List HostLine
 
 -- the place of a name among others, or how many there are
-abbrev pub place_of : List (List ℕ) → List ℕ → ℕ
-place_of names called = position_or_len (bytes_eq called) names
+abbrev pub place_among : List (List ℕ) → List ℕ → ℕ
+place_among names called = position_or_len (bytes_eq called) names
 
 -- the interface on a line, where the media have these names
 abbrev pub iface_said : List (List ℕ) → HostLine → Option Iface
-iface_said names (host.If called ip mask) = Some (record { medium = place_of names called; ip = ip; mask = mask })
+iface_said names (host.If called ip mask) = Some (record { medium = place_among names called; ip = ip; mask = mask })
 iface_said names (host.Route l) = None
 iface_said names (host.Start start) = None
 
@@ -309,7 +309,7 @@ pub record ScriptText : Type 0 where
 
 -- the script, where the hosts have these names
 abbrev pub script_said : List (List ℕ) → ScriptText → Script
-script_said names s = record { host = place_of names s.host; steps = s.steps }
+script_said names s = record { host = place_among names s.host; steps = s.steps }
 
 -- Lines.
 
@@ -353,8 +353,8 @@ words_of_line (line.OfScript s) = words_of_step s
 words_of_line line.Ndb = codes "ndb" ∷ []
 
 -- the one spelling of a line
-abbrev pub spelling : WorldLine → List ℕ
-spelling l = spaced (words_of_line l)
+abbrev pub line_spelling : WorldLine → List ℕ
+line_spelling l = spaced_line (words_of_line l)
 
 -- Versions.
 
@@ -365,7 +365,7 @@ pub record LaterText : Type 0 where
 
 -- `%at M`
 abbrev pub line_of_moment : ℕ → List ℕ
-line_of_moment moment = spaced (codes "%at" ∷ decimal moment ∷ [])
+line_of_moment moment = spaced_line (codes "%at" ∷ decimal moment ∷ [])
 
 -- the line that begins a later version, and its bundle
 abbrev pub lines_of_later : LaterText → List (List ℕ)
@@ -399,7 +399,7 @@ pub record IsWorldText (text : List ℕ) (w : World) : Type 0 where
   pub media : List MediumLine
   pub hosts : List HostText
   pub scripts : List ScriptText
-  pub spelled : filter speaks head ≡ map spelling (lines_said w.timers w.end w.seed media hosts scripts)
+  pub spelled : filter speaks head ≡ map line_spelling (lines_said w.timers w.end w.seed media hosts scripts)
   pub media_are : w.media ≡ media_said media
   pub media_in_order : EachBehind IsBehindMedium media
   pub hosts_are : w.hosts ≡ map (host_said (medium_names w.media)) hosts

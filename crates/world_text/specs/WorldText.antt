@@ -4,7 +4,7 @@ use Rattle.net_base.specs.declared.world.World.{World}
 use Rattle.net_base.specs.NdbText.{is_newline, lines_of}
 use Rattle.world_text.specs.declared.line.LineCause.{LineCause}
 use Rattle.world_text.specs.declared.line.LineCause.TheVariants as cause
-use Rattle.world_text.specs.LineCauses.{number_of}
+use Rattle.world_text.specs.LineCauses.{cause_number_of}
 use Rattle.world_text.specs.VersionLines.{bad_version_line, versions_in}
 use Rattle.world_text.specs.WorldLines.{Draft, opening_draft, Verdict, Goes, Begins, Bad, line_verdict}
 
@@ -35,11 +35,11 @@ with_versions n w text (Some bad) = Err (n + bad.0, bad.1)
 abbrev pub judged : ℕ → List ℕ → Verdict → (Draft → Result World (ℕ × ℕ)) → Result World (ℕ × ℕ)
 judged n behind (Goes d) next = next d
 judged n behind (Begins w) next = with_versions n w behind (bad_version_line behind)
-judged n behind (Bad c) next = Err (n, number_of c)
+judged n behind (Bad c) next = Err (n, cause_number_of c)
 
 -- what comes of lines that begin with the n-th, behind the lines that made this world so far
 abbrev pub reading_from : Draft → ℕ → List Cut → Result World (ℕ × ℕ)
-reading_from d n [] = Err (n, number_of (missing d))
+reading_from d n [] = Err (n, cause_number_of (missing d))
 reading_from d n (c ∷ cs) = judged n c.behind (line_verdict d c.line) (λ (next : Draft). reading_from next (n + 1) cs)
 
 -- the world that a text says, or its first bad line, counted from 1, and that line's least cause

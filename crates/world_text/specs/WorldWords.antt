@@ -10,18 +10,18 @@ pub use Rattle.net_base.specs.Addresses.{is_padded, number_in, octet_of, octets_
 pub use Rattle.net_base.specs.Hexadecimal.{hex_text}
 use Rattle.net_base.specs.Paths.{proto_named}
 
-abbrev pub words_of : List ℕ → List (List ℕ)
-words_of line = parts_at 32 line
+abbrev pub words_in_line : List ℕ → List (List ℕ)
+words_in_line line = parts_at 32 line
 
 -- what is left of a line: its last words, with the blanks between them
-abbrev pub joined : List (List ℕ) → List ℕ
-joined words = join_with_byte 32 words
+abbrev pub words_left : List (List ℕ) → List ℕ
+words_left words = join_with_byte 32 words
 
 -- Arguments: so many words, or none where there are others.
 
-abbrev pub one : List (List ℕ) → Option (List ℕ)
-one (a ∷ []) = Some a
-one _ = None
+abbrev pub single_word : List (List ℕ) → Option (List ℕ)
+single_word (a ∷ []) = Some a
+single_word _ = None
 
 pub record Two : Type 0 where
   pub first : List ℕ

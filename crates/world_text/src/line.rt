@@ -1,6 +1,6 @@
 //! The lines of a world, by their words, and why one is bad.
 ghost use Rattle.std.specs.Prelude.{◌≡◌};
-ghost use Rattle.world_text.specs.LineCauses.{number_of};
+ghost use Rattle.world_text.specs.LineCauses.{cause_number_of};
 
 use net_base::{Fate, Nets, Octets, RouteLine, Step, Timers};
 
@@ -35,7 +35,7 @@ pub enum LineCause {
 impl LineCause {
     /// The cause's number, 11 to 24.
     pub fn number(self) -> u32
-        ensures { result ≡ number_of self }
+        ensures { result ≡ cause_number_of self }
     {
         match self {
             LineCause::FirstLine => 11,

@@ -12,14 +12,14 @@ ghost use Rattle.world_text.specs.LineFit.{is_fit};
 ghost use Rattle.world_text.specs.LineReading.{read_line};
 ghost use Rattle.world_text.specs.WorldExample.{datagram_head, datagram_text, every_line};
 ghost use Rattle.world_text.specs.WorldLines.{line_verdict, opening_draft, Draft, Goes};
-ghost use Rattle.world_text.specs.WorldRefusal.{IsBadLine, IsRefused, Leads};
+ghost use Rattle.world_text.specs.WorldRefusal.{IsBadLineOf, IsTextRefused, LeadsToWorld};
 ghost use Rattle.world_text.specs.WorldText.{world_reading};
-ghost use Rattle.world_text.specs.WorldSpelling.{IsWorldText, is_line, laid, lines_of_world, speaks, spelling};
+ghost use Rattle.world_text.specs.WorldSpelling.{IsWorldText, is_line, laid, lines_of_world, speaks, line_spelling};
 
 /// A line whose names, numbers and steps are of their kind is read exactly where it is spelled.
 pub fn lines_are_spelled()
-    ensures sound { (text : List ℕ) (line : WorldLine) → read_line text ≡ Ok line → (text ≡ spelling line) × (is_fit line ≡ true) }
-    ensures complete { (line : WorldLine) → is_fit line ≡ true → read_line (spelling line) ≡ Ok line }
+    ensures sound { (text : List ℕ) (line : WorldLine) → read_line text ≡ Ok line → (text ≡ line_spelling line) × (is_fit line ≡ true) }
+    ensures complete { (line : WorldLine) → is_fit line ≡ true → read_line (line_spelling line) ≡ Ok line }
 {}
 
 /// A text of bytes is read as a world exactly where it spells it.
@@ -51,18 +51,18 @@ pub fn passed_lines_say_nothing()
 
 /// A refusal tells the first bad line and its cause, whatever follows that line.
 pub fn first_bad_lines_are_told()
-    ensures exact { (text : List ℕ) (n c : ℕ) → (world_reading text ≡ Err (n, c)) ↔ IsRefused opening_draft 1 text n c }
-    ensures stays { (text more : List ℕ) (n c : ℕ) → IsBadLine opening_draft 1 text n c
+    ensures exact { (text : List ℕ) (n c : ℕ) → (world_reading text ≡ Err (n, c)) ↔ IsTextRefused opening_draft 1 text n c }
+    ensures stays { (text more : List ℕ) (n c : ℕ) → IsBadLineOf opening_draft 1 text n c
         → world_reading (text ++ (10 ∷ more)) ≡ Err (n, c) }
 {}
 
 /// What lines lead to has at most 4 media, each with a name of its own, 8 hosts and 32 scripts, and leads on by each line that is good behind it.
 pub fn worlds_so_far_are_small()
-    ensures next { (lines : List (List ℕ)) (line : List ℕ) (d e : Draft) → Leads opening_draft lines d → line_verdict d line ≡ Goes e → Leads opening_draft (lines ++ line ∷ []) e }
-    ensures media { (lines : List (List ℕ)) (d : Draft) → Leads opening_draft lines d → length d.media ≤ 4 }
-    ensures named { (lines : List (List ℕ)) (d : Draft) → Leads opening_draft lines d → all_apart bytes_eq (map (λ (s : MediumSpec). s.name) d.media) ≡ true }
-    ensures hosts { (lines : List (List ℕ)) (d : Draft) → Leads opening_draft lines d → length d.hosts ≤ 8 }
-    ensures scripts { (lines : List (List ℕ)) (d : Draft) → Leads opening_draft lines d → length d.scripts ≤ 32 }
+    ensures next { (lines : List (List ℕ)) (line : List ℕ) (d e : Draft) → LeadsToWorld opening_draft lines d → line_verdict d line ≡ Goes e → LeadsToWorld opening_draft (lines ++ line ∷ []) e }
+    ensures media { (lines : List (List ℕ)) (d : Draft) → LeadsToWorld opening_draft lines d → length d.media ≤ 4 }
+    ensures named { (lines : List (List ℕ)) (d : Draft) → LeadsToWorld opening_draft lines d → all_apart bytes_eq (map (λ (s : MediumSpec). s.name) d.media) ≡ true }
+    ensures hosts { (lines : List (List ℕ)) (d : Draft) → LeadsToWorld opening_draft lines d → length d.hosts ≤ 8 }
+    ensures scripts { (lines : List (List ℕ)) (d : Draft) → LeadsToWorld opening_draft lines d → length d.scripts ≤ 32 }
 {}
 
 /// The lines of two worlds, by computation, and the text of one of them.

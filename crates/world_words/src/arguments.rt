@@ -26,7 +26,7 @@ impl<'a> Model for Arguments<'a> {
 
 /// The first word of a line, and those behind it.
 pub(crate) fn split_line(line: &[u8]) -> (&[u8], Arguments<'_>)
-    ensures { spec.words_of line.now ≡ result.0.now ∷ result.1 }
+    ensures { spec.words_in_line line.now ≡ result.0.now ∷ result.1 }
 {
     let (word, rest) = split_first(line, b' ');
     (word, Arguments { rest })
@@ -44,7 +44,7 @@ impl<'a> Arguments<'a> {
     /// The only word.
     #[tactic(auto, using(crate::proofs::Parts::not_one))]
     pub(crate) fn one(&self) -> Option<&'a [u8]>
-        ensures { MatchOption result (spec.one self.now ≡ None) (λ word. spec.one self.now ≡ Some word.now) }
+        ensures { MatchOption result (spec.single_word self.now ≡ None) (λ word. spec.single_word self.now ≡ Some word.now) }
     {
         single(self.rest?, b' ')
     }
@@ -82,9 +82,9 @@ impl<'a> Arguments<'a> {
     #[tactic(auto, using(crate::proofs::Parts::write_words, crate::proofs::Parts::write_one, crate::proofs::Parts::rwrite_words, crate::proofs::Parts::rwrite_one))]
     pub(crate) fn name_and_text(&self) -> Option<(&'a [u8], &'a [u8])>
         ensures write { MatchOption result (reading.write_of self.now ≡ None)
-            (λ w. reading.write_of self.now ≡ reading.kept (step.Write w.0.now w.1.now)) }
+            (λ w. reading.write_of self.now ≡ reading.row_kept (step.Write w.0.now w.1.now)) }
         ensures rwrite { MatchOption result (reading.rwrite_of self.now ≡ None)
-            (λ w. reading.rwrite_of self.now ≡ reading.kept (step.Rwrite w.0.now w.1.now)) }
+            (λ w. reading.rwrite_of self.now ≡ reading.row_kept (step.Rwrite w.0.now w.1.now)) }
     {
         let (name, text) = split_first(self.rest?, b' ');
         Some((name, text?))
@@ -93,7 +93,7 @@ impl<'a> Arguments<'a> {
     /// All of them, with the blanks between them.
     #[tactic(auto, using(crate::proofs::Parts::cs_words))]
     pub(crate) fn text(&self) -> Option<&'a [u8]>
-        ensures { MatchOption result (reading.cs_of self.now ≡ None) (λ query. reading.cs_of self.now ≡ reading.kept (step.Cs query.now)) }
+        ensures { MatchOption result (reading.cs_of self.now ≡ None) (λ query. reading.cs_of self.now ≡ reading.row_kept (step.Cs query.now)) }
     {
         self.rest
     }

@@ -15,7 +15,7 @@ pub(crate) fn read_host(
     alloc: Global,
     args: &Arguments<'_>,
 ) -> Result<Option<WorldLine>, AllocError>
-    ensures { IfOk result (λ read. read ≡ spec.host_of args.now) }
+    ensures { IfOk result (λ read. read ≡ spec.host_line_of args.now) }
 {
     if let Some((name, net)) = args.two() {
         return host_of(alloc, name, &[net]);
@@ -28,7 +28,7 @@ pub(crate) fn read_host(
 
 /// A host by its name and the words of its nets.
 fn host_of(alloc: Global, name: &[u8], nets: &[&[u8]]) -> Result<Option<WorldLine>, AllocError>
-    ensures { IfOk result (λ read. read ≡ spec.host_of (name.now ∷ map (λ w. w.now) nets.now)) }
+    ensures { IfOk result (λ read. read ≡ spec.host_line_of (name.now ∷ map (λ w. w.now) nets.now)) }
 {
     let nets = nets_named(alloc, nets)?;
     if !(is_name(name) && is_nets(nets.as_slice())) {
@@ -77,7 +77,7 @@ pub(crate) fn read_route(args: &Arguments<'_>) -> Option<WorldLine>
 
 /// `start N`
 pub(crate) fn read_start(args: &Arguments<'_>) -> Option<WorldLine>
-    ensures { result ≡ spec.start_of args.now }
+    ensures { result ≡ spec.start_line args.now }
 {
     let start = number_in(1, 4_294_967_295, args.one()?)?;
     Some(WorldLine::OfHost(HostLine::Start(start as u32)))

@@ -32,7 +32,7 @@ fn timers_named(word: &[u8]) -> Option<Timers>
 
 /// `end M`
 pub(crate) fn read_end(args: &Arguments<'_>) -> Option<WorldLine>
-    ensures { result ≡ spec.end_of args.now }
+    ensures { result ≡ spec.read_end_line args.now }
 {
     let moment = number_in(1, 1_000_000_000, args.one()?)?;
     Some(WorldLine::End(moment))
@@ -51,7 +51,7 @@ pub(crate) fn read_medium(
     alloc: Global,
     args: &Arguments<'_>,
 ) -> Result<Option<WorldLine>, AllocError>
-    ensures { IfOk result (λ read. read ≡ spec.medium_of args.now) }
+    ensures { IfOk result (λ read. read ≡ spec.medium_line_of args.now) }
 {
     let Some((name, mtu)) = args.two() else {
         return Ok(None);
@@ -106,7 +106,7 @@ pub(crate) fn read_fate(
     alloc: Global,
     args: &Arguments<'_>,
 ) -> Result<Option<WorldLine>, AllocError>
-    ensures { IfOk result (λ read. read ≡ spec.fate_of args.now) }
+    ensures { IfOk result (λ read. read ≡ spec.read_fate_line args.now) }
 {
     let Some((name, frames, fate)) = args.three() else {
         return Ok(None);

@@ -18,7 +18,7 @@ pub(crate) fn read_step(
     word: &[u8],
     args: &Arguments<'_>,
 ) -> Result<Option<Option<Step>>, AllocError>
-    ensures { IfOk result (λ read. read ≡ spec.step_of word.now args.now) }
+    ensures { IfOk result (λ read. read ≡ spec.step_in_line word.now args.now) }
 {
     if word == b"open".as_slice() {
         Ok(Some(read_open(alloc, args)?))
@@ -112,7 +112,7 @@ fn read_refresh(args: &Arguments<'_>) -> Option<Step>
 
 /// The step, where its words are of its row.
 fn kept(step: Step) -> Option<Step>
-    ensures { result ≡ spec.kept step }
+    ensures { result ≡ spec.row_kept step }
 {
     if is_step(&step) { Some(step) } else { None }
 }
@@ -193,7 +193,7 @@ fn open_of(
     path: &[u8],
     mode: Option<Mode>,
 ) -> Result<Option<Step>, AllocError>
-    ensures { IfOk result (λ read. read ≡ spec.kept (step.Open name.now path.now mode)) }
+    ensures { IfOk result (λ read. read ≡ spec.row_kept (step.Open name.now path.now mode)) }
 {
     Ok(kept(Step::Open {
         name: Octets::from_slice(alloc, name)?,
@@ -203,7 +203,7 @@ fn open_of(
 }
 
 fn read_read(alloc: Global, args: &Arguments<'_>) -> Result<Option<Step>, AllocError>
-    ensures { IfOk result (λ read. read ≡ spec.read_of args.now) }
+    ensures { IfOk result (λ read. read ≡ spec.read_step_of args.now) }
 {
     let Some((name, count)) = args.two() else {
         return Ok(None);

@@ -2,8 +2,8 @@
 use Rattle.std.proofs.Common.{◌≡◌, ℕ, ◌≤◌, List, length, drop, Result, Ok, Err, OnOk, [], ◌∷◌, ◌++◌, refl, sym, ◌∙◌, ap, append_assoc}
 use Rattle.std.specs.Prelude.{flat_map}
 use Rattle.std.proofs.lemmas.List.{append-nil, drop_all}
-use Rattle.world_text.specs.WorldSpelling.{laid, spaced}
-use Rattle.world_writer.specs.Written.{behind, parts_laid}
+use Rattle.world_text.specs.WorldSpelling.{laid, spaced_line}
+use Rattle.world_writer.specs.Written.{written_behind, parts_laid}
 
 pub laid_append : (xs ys : List (List ℕ)) → laid (xs ++ ys) ≡ laid xs ++ laid ys
 laid_append [] ys = refl
@@ -18,7 +18,7 @@ pub laid_three : (xs ys zs : List (List ℕ)) → laid (xs ++ (ys ++ zs)) ≡ la
 laid_three xs ys zs = laid_append xs (ys ++ zs) ∙ ap (λ rest. laid xs ++ rest) (laid_append ys zs)
 
 -- words behind one that stands first
-pub spaced_first : (word : List ℕ) (words : List (List ℕ)) → spaced (word ∷ words) ≡ word ++ behind words
+pub spaced_first : (word : List ℕ) (words : List (List ℕ)) → spaced_line (word ∷ words) ≡ word ++ written_behind words
 spaced_first word [] = sym (append-nil word)
 spaced_first word (next ∷ words) = ap (λ rest. word ++ (32 ∷ rest)) (spaced_first next words)
 

@@ -11,9 +11,9 @@ use Rattle.ndb_reader.specs.Written.{db_text}
 use Rattle.world_text.specs.WorldSpelling.{laid, line_of_iface, line_of_route, line_of_moment, line_of_start, lines_of_host, lines_of_medium, lines_of_script, lines_of_world, host_names, medium_names}
 
 -- words with a blank before each
-abbrev pub behind : List (List ℕ) → List ℕ
-behind [] = []
-behind (word ∷ words) = 32 ∷ (word ++ behind words)
+abbrev pub written_behind : List (List ℕ) → List ℕ
+written_behind [] = []
+written_behind (word ∷ words) = 32 ∷ (word ++ written_behind words)
 
 -- the lines under the line of a host
 abbrev pub lines_under : List (List ℕ) → List Iface → List RouteLine → List ℕ → List (List ℕ)
@@ -41,5 +41,5 @@ versions_text [] = []
 versions_text (first ∷ later) = db_text first.db ++ flat_map later_text later
 
 -- its lines, `ndb`, and the text of its versions
-abbrev pub file_text : World → List ℕ
-file_text w = laid (lines_of_world w) ++ (codes "ndb\n" ++ versions_text w.dbs)
+abbrev pub world_file_text : World → List ℕ
+world_file_text w = laid (lines_of_world w) ++ (codes "ndb\n" ++ versions_text w.dbs)

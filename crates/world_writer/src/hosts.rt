@@ -2,8 +2,8 @@
 ghost use Rattle.std.specs.Prelude.{◌≡◌, ◌∷◌, ◌++◌, [], map, flat_map, OnOk};
 ghost use Rattle.net_base.specs.Paths.{proto_name};
 ghost use Rattle.world_text.specs.WorldSpelling as spec;
-ghost use Rattle.world_text.specs.WorldSpelling.{laid, medium_names, spaced};
-ghost use Rattle.world_writer.specs.Written.{behind, lines_under};
+ghost use Rattle.world_text.specs.WorldSpelling.{laid, medium_names, spaced_line};
+ghost use Rattle.world_writer.specs.Written.{written_behind, lines_under};
 
 use crate::line::{put_ips, put_number, put_three_ips, put_two, put_word};
 use crate::media::medium_name;
@@ -13,7 +13,7 @@ use words::proto_name;
 
 /// Adds the names of protocols behind words.
 fn put_nets(out: &mut Octets, nets: &[Proto]) -> Result<(), AllocError>
-    ensures { OnOk result (out.new ≡ out.old ++ behind (map proto_name nets.now)) }
+    ensures { OnOk result (out.new ≡ out.old ++ written_behind (map proto_name nets.now)) }
 {
     for proto in nets {
         put_word(out, proto_name(*proto))?;
@@ -23,7 +23,7 @@ fn put_nets(out: &mut Octets, nets: &[Proto]) -> Result<(), AllocError>
 
 /// Adds a name and, behind it, the names of protocols.
 fn put_named(out: &mut Octets, name: &[u8], nets: &[Proto]) -> Result<(), AllocError>
-    ensures { OnOk result (out.new ≡ out.old ++ spaced (name.now ∷ map proto_name nets.now)) }
+    ensures { OnOk result (out.new ≡ out.old ++ spaced_line (name.now ∷ map proto_name nets.now)) }
 {
     out.append(name)?;
     put_nets(out, nets)
@@ -136,7 +136,7 @@ pub fn put_hosts(
 
 /// The name of a host by its place, and none where no host has it.
 pub fn host_name(hosts: &[HostSpec], place: u32) -> &[u8]
-    ensures { result.now ≡ spec.name_at (spec.host_names hosts.now) place }
+    ensures { result.now ≡ spec.nth_name (spec.host_names hosts.now) place }
 {
     match hosts.get(place as usize) {
         Some(host) => host.name.as_slice(),

@@ -2,7 +2,7 @@
 ghost use Rattle.std.specs.Prelude.{◌≡◌, ◌∷◌, ◌++◌, [], decimal, OnOk};
 ghost use Rattle.net_base.specs.ControlWords.{dotted};
 ghost use Rattle.net_base.specs.Hexadecimal.{hex_word};
-ghost use Rattle.world_text.specs.WorldSpelling.{spaced};
+ghost use Rattle.world_text.specs.WorldSpelling.{spaced_line};
 
 use net_base::Octets;
 use std::alloc::AllocError;
@@ -10,7 +10,7 @@ use words::{put_address, put_decimal, put_hex_word};
 
 /// Adds two words.
 pub fn put_two(out: &mut Octets, first: &[u8], second: &[u8]) -> Result<(), AllocError>
-    ensures { OnOk result (out.new ≡ out.old ++ spaced (first.now ∷ second.now ∷ [])) }
+    ensures { OnOk result (out.new ≡ out.old ++ spaced_line (first.now ∷ second.now ∷ [])) }
 {
     out.append(first)?;
     put_word(out, second)
@@ -23,7 +23,7 @@ pub fn put_three(
     second: &[u8],
     third: &[u8],
 ) -> Result<(), AllocError>
-    ensures { OnOk result (out.new ≡ out.old ++ spaced (first.now ∷ second.now ∷ third.now ∷ [])) }
+    ensures { OnOk result (out.new ≡ out.old ++ spaced_line (first.now ∷ second.now ∷ third.now ∷ [])) }
 {
     put_two(out, first, second)?;
     put_word(out, third)
@@ -55,7 +55,7 @@ pub fn put_ip(out: &mut Octets, ip: u32) -> Result<(), AllocError>
 
 /// Adds two addresses behind words.
 pub fn put_ips(out: &mut Octets, first: u32, second: u32) -> Result<(), AllocError>
-    ensures { OnOk result (out.new ≡ out.old ++ 32 ∷ spaced (dotted first ∷ dotted second ∷ [])) }
+    ensures { OnOk result (out.new ≡ out.old ++ 32 ∷ spaced_line (dotted first ∷ dotted second ∷ [])) }
 {
     put_ip(out, first)?;
     put_ip(out, second)
@@ -68,7 +68,7 @@ pub fn put_three_ips(
     second: u32,
     third: u32,
 ) -> Result<(), AllocError>
-    ensures { OnOk result (out.new ≡ out.old ++ 32 ∷ spaced (dotted first ∷ dotted second ∷ dotted third ∷ [])) }
+    ensures { OnOk result (out.new ≡ out.old ++ 32 ∷ spaced_line (dotted first ∷ dotted second ∷ dotted third ∷ [])) }
 {
     put_ip(out, first)?;
     put_ips(out, second, third)

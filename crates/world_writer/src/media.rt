@@ -90,7 +90,7 @@ pub fn put_media(out: &mut Octets, media: &[MediumSpec]) -> Result<(), AllocErro
 
 /// The name of a medium by its place, and none where no medium has it.
 pub fn medium_name(media: &[MediumSpec], place: u32) -> &[u8]
-    ensures { result.now ≡ spec.name_at (spec.medium_names media.now) place }
+    ensures { result.now ≡ spec.nth_name (spec.medium_names media.now) place }
 {
     match media.get(place as usize) {
         Some(medium) => medium.name.as_slice(),

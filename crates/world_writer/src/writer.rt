@@ -2,7 +2,7 @@
 ghost use Rattle.std.specs.Prelude.{◌≡◌, ◌∷◌, ◌++◌, [], flat_map, IfOk, OnOk};
 ghost use Rattle.world_text.specs.WorldSpelling.{laid, line_of_end, line_of_seed, line_of_timers, lines_of_world};
 ghost use Rattle.ndb_reader.specs.Written.{db_text};
-ghost use Rattle.world_writer.specs.Written.{file_text, later_text, lines_of_parts, versions_text};
+ghost use Rattle.world_writer.specs.Written.{world_file_text, later_text, lines_of_parts, versions_text};
 
 use crate::hosts::put_hosts;
 use crate::line::put_number;
@@ -99,7 +99,7 @@ fn put_versions(alloc: Global, out: &mut Octets, versions: &[Version]) -> Result
 
 /// The text of a world's file: its lines, `ndb`, and the text of its versions.
 pub fn write_world(alloc: Global, world: &World) -> Result<Octets, AllocError>
-    ensures { IfOk result (λ text. text ≡ file_text world.now) }
+    ensures { IfOk result (λ text. text ≡ world_file_text world.now) }
 {
     let mut out = Octets::new(alloc);
     put_lines(&mut out, world)?;

@@ -3,7 +3,7 @@ ghost use Rattle.std.specs.Prelude.{◌≡◌, ◌==◌, nat_lt, take, IfOk, OnE
 ghost use Rattle.net_base.specs.declared.reply.Reply.TheVariants as reply;
 ghost use Rattle.net_base.specs.ControlWords as control_words;
 ghost use Rattle.net_base.specs.Conversation as spec;
-ghost use Rattle.conversation.specs.Kept.{step_to};
+ghost use Rattle.conversation.specs.Kept.{as_step};
 ghost use Rattle.conversation.specs.Memory.{most_opens};
 
 use crate::control::fault;
@@ -51,7 +51,7 @@ impl Conv {
         file: FileName,
         count: u32,
     ) -> Result<Option<Outcome>, AllocError>
-        ensures ok { IfOk result (λ answer. spec.in_generation generation self.now.conv (Some (spec.only_replies self.now.conv (reply.Bytes (take count (spec.file_text file self.now.slot self.now.conv))))) ≡ step_to self.now.conv answer) }
+        ensures ok { IfOk result (λ answer. spec.in_generation generation self.now.conv (Some (spec.only_replies self.now.conv (reply.Bytes (take count (spec.file_text file self.now.slot self.now.conv))))) ≡ as_step self.now.conv answer) }
         ensures memory { OnErr result ((generation == self.now.conv.generation) ≡ true) }
     {
         if generation != self.generation {
@@ -108,7 +108,7 @@ impl Conv {
 
     /// What its connect came to, once it has come to something.
     pub(super) fn wait(&self, generation: u64) -> Option<Outcome>
-        ensures { spec.in_generation generation self.now.conv (spec.awaited self.now.conv.core self.now.conv) ≡ step_to self.now.conv result }
+        ensures { spec.in_generation generation self.now.conv (spec.awaited self.now.conv.core self.now.conv) ≡ as_step self.now.conv result }
     {
         if generation != self.generation {
             return self.stale(generation);
@@ -135,7 +135,7 @@ impl Conv {
 
     /// Refuses a control text that has no reading, and in an older generation any.
     pub(super) fn refuse(&self, generation: u64, text: &Octets) -> Option<Outcome>
-        ensures { spec.bad_control (spec.refused_control (control_words.read text.now)) generation self.now.conv ≡ step_to self.now.conv result }
+        ensures { spec.bad_control (spec.refused_control (control_words.read text.now)) generation self.now.conv ≡ as_step self.now.conv result }
     {
         if generation != self.generation {
             return self.stale(generation);

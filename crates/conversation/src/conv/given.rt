@@ -2,7 +2,7 @@
 ghost use Rattle.std.specs.Prelude.{◌≡◌, ℕ, ◌<◌, ◌^◌, IfOk, OnErr, is_some, true};
 ghost use Rattle.net_base.specs.declared.event.Event.TheVariants as event;
 ghost use Rattle.net_base.specs.Conversation as spec;
-ghost use Rattle.conversation.specs.Kept.{step_to};
+ghost use Rattle.conversation.specs.Kept.{as_step};
 ghost use Rattle.conversation.specs.Memory.{event_takes};
 ghost use Rattle.conversation.specs.Stands.{IsShort};
 
@@ -19,7 +19,7 @@ impl Conv {
         with: &With,
     ) -> Result<Option<Outcome>, AllocError>
         requires { now < 2 ^ 63 }
-        ensures ok { IfOk result (λ answer. spec.conv_step self.old.slot (event.Born generation) with.now now self.old.conv ≡ step_to self.new.conv answer) }
+        ensures ok { IfOk result (λ answer. spec.conv_step self.old.slot (event.Born generation) with.now now self.old.conv ≡ as_step self.new.conv answer) }
         ensures slot { self.new.slot ≡ self.old.slot }
         ensures err { OnErr result (self.new ≡ self.old) }
         ensures memory { OnErr result (event_takes (event.Born generation) with.now now self.old.conv ≡ true) }
@@ -62,7 +62,7 @@ impl Conv {
     /// Connects, where a grant is given.
     pub(super) fn connect_with(&mut self, now: u64, generation: u64, with: &With) -> Option<Outcome>
         requires { now < 2 ^ 63 }
-        ensures step { spec.conv_step self.old.slot (event.Connect generation) with.now now self.old.conv ≡ step_to self.new.conv result }
+        ensures step { spec.conv_step self.old.slot (event.Connect generation) with.now now self.old.conv ≡ as_step self.new.conv result }
         ensures slot { self.new.slot ≡ self.old.slot }
     {
         match with {
@@ -90,7 +90,7 @@ impl Conv {
 
     /// Listens, where a key is given.
     pub(super) fn announced_with(&mut self, generation: u64, with: &With) -> Option<Outcome>
-        ensures step { (now : ℕ) → spec.conv_step self.old.slot (event.Announced generation) with.now now self.old.conv ≡ step_to self.new.conv result }
+        ensures step { (now : ℕ) → spec.conv_step self.old.slot (event.Announced generation) with.now now self.old.conv ≡ as_step self.new.conv result }
         ensures slot { self.new.slot ≡ self.old.slot }
     {
         match with {
@@ -111,7 +111,7 @@ impl Conv {
 
     /// Has a port, where a key is given.
     pub(super) fn bound_with(&mut self, generation: u64, with: &With) -> Option<Outcome>
-        ensures step { (now : ℕ) → spec.conv_step self.old.slot (event.Bound generation) with.now now self.old.conv ≡ step_to self.new.conv result }
+        ensures step { (now : ℕ) → spec.conv_step self.old.slot (event.Bound generation) with.now now self.old.conv ≡ as_step self.new.conv result }
         ensures slot { self.new.slot ≡ self.old.slot }
     {
         match with {
@@ -139,7 +139,7 @@ impl Conv {
     ) -> Result<Option<Outcome>, AllocError>
         requires in_time { now < 2 ^ 63 }
         requires short { IsShort self.old.conv }
-        ensures ok { IfOk result (λ answer. spec.conv_step self.old.slot (event.ArriveAt generation) with.now now self.old.conv ≡ step_to self.new.conv answer) }
+        ensures ok { IfOk result (λ answer. spec.conv_step self.old.slot (event.ArriveAt generation) with.now now self.old.conv ≡ as_step self.new.conv answer) }
         ensures slot { self.new.slot ≡ self.old.slot }
         ensures err { OnErr result (self.new ≡ self.old) }
         ensures memory { OnErr result (event_takes (event.ArriveAt generation) with.now now self.old.conv ≡ true) }

@@ -6,7 +6,7 @@ ghost use Rattle.net_base.specs.declared.packet.Body.TheVariants as body_of;
 ghost use Rattle.net_base.specs.declared.reply.Reply.TheVariants as reply;
 ghost use Rattle.net_base.specs.ActorStep.{Step};
 ghost use Rattle.net_base.specs.Conversation as spec;
-ghost use Rattle.conversation.specs.Kept.{step_to};
+ghost use Rattle.conversation.specs.Kept.{as_step};
 
 use crate::conv::Conv;
 use crate::reply_and_copy::ReplyAndCopy;
@@ -72,7 +72,7 @@ impl Conv {
 
     /// What an event of another generation gets: an older one is stale, and a newer one waits.
     pub(super) fn stale(&self, generation: u64) -> Option<Outcome>
-        ensures { step_to self.now.conv result ≡ (if nat_lt generation self.now.conv.generation then Some (spec.only_replies self.now.conv reply.Stale) else None) }
+        ensures { as_step self.now.conv result ≡ (if nat_lt generation self.now.conv.generation then Some (spec.only_replies self.now.conv reply.Stale) else None) }
     {
         if generation < self.generation {
             Some(self.replies(ReplyAndCopy::stale()))

@@ -5,7 +5,7 @@ ghost use Rattle.net_base.specs.IlEnd as end_spec;
 ghost use Rattle.net_base.specs.IlTable as table;
 ghost use Rattle.net_base.specs.UdpEnd as udp;
 ghost use Rattle.net_base.specs.Conversation as spec;
-ghost use Rattle.conversation.specs.Kept.{IsKept, seen_core, seen_stage, step_to};
+ghost use Rattle.conversation.specs.Kept.{IsKept, seen_core, seen_stage, as_step};
 
 use crate::conv::{Conv, NOWHERE};
 use crate::il::IlCore;
@@ -33,7 +33,7 @@ impl Conv {
 
     /// Begins the next generation.
     pub(super) fn begin(&mut self, generation: u64) -> Result<Option<Outcome>, AllocError>
-        ensures ok { IfOk result (λ answer. spec.raises generation self.old.conv (Some (spec.leaves self.old.conv reply.Ok (spec.begun generation self.old.conv) None)) ≡ step_to self.new.conv answer) }
+        ensures ok { IfOk result (λ answer. spec.raises generation self.old.conv (Some (spec.leaves self.old.conv reply.Ok (spec.begun generation self.old.conv) None)) ≡ as_step self.new.conv answer) }
         ensures slot { self.new.slot ≡ self.old.slot }
         ensures err { OnErr result (self.new ≡ self.old) }
         ensures memory { OnErr result ((generation == self.old.conv.generation + 1) ≡ true) }
@@ -61,7 +61,7 @@ impl Conv {
         limit: u32,
     ) -> Result<Option<Outcome>, AllocError>
         requires { now < 2 ^ 63 }
-        ensures ok { IfOk result (λ answer. spec.raises generation self.old.conv (spec.brought_forth self.old.conv.core now generation start limit packet.now packet.now.body self.old.conv) ≡ step_to self.new.conv answer) }
+        ensures ok { IfOk result (λ answer. spec.raises generation self.old.conv (spec.brought_forth self.old.conv.core now generation start limit packet.now packet.now.body self.old.conv) ≡ as_step self.new.conv answer) }
         ensures slot { self.new.slot ≡ self.old.slot }
         ensures err { OnErr result (self.new ≡ self.old) }
         ensures memory { OnErr result ((generation == self.old.conv.generation + 1) ≡ true) }
@@ -132,7 +132,7 @@ impl Conv {
 
     /// Is claimed, which changes nothing.
     pub(super) fn claim(&self, generation: u64) -> Option<Outcome>
-        ensures { spec.in_generation generation self.now.conv (Some (spec.only_replies self.now.conv reply.Ok)) ≡ step_to self.now.conv result }
+        ensures { spec.in_generation generation self.now.conv (Some (spec.only_replies self.now.conv reply.Ok)) ≡ as_step self.now.conv result }
     {
         if generation != self.generation {
             return self.stale(generation);
@@ -150,7 +150,7 @@ impl Conv {
         limit: u32,
     ) -> Option<Outcome>
         requires { now < 2 ^ 63 }
-        ensures step { spec.in_generation generation self.old.conv (Some (spec.joined self.old.conv.stage self.old.conv.core now pair start limit self.old.conv)) ≡ step_to self.new.conv result }
+        ensures step { spec.in_generation generation self.old.conv (Some (spec.joined self.old.conv.stage self.old.conv.core now pair start limit self.old.conv)) ≡ as_step self.new.conv result }
         ensures slot { self.new.slot ≡ self.old.slot }
     {
         if generation != self.generation {
@@ -187,7 +187,7 @@ impl Conv {
 
     /// Listens at an address and port, where it is unused.
     pub(super) fn announced(&mut self, generation: u64, ip: u32, port: u16) -> Option<Outcome>
-        ensures step { spec.in_generation generation self.old.conv (Some (spec.listens self.old.conv.stage ip port self.old.conv)) ≡ step_to self.new.conv result }
+        ensures step { spec.in_generation generation self.old.conv (Some (spec.listens self.old.conv.stage ip port self.old.conv)) ≡ as_step self.new.conv result }
         ensures slot { self.new.slot ≡ self.old.slot }
     {
         if generation != self.generation {
@@ -217,7 +217,7 @@ impl Conv {
 
     /// Has a port, where it is unused.
     pub(super) fn bound(&mut self, generation: u64, port: u16) -> Option<Outcome>
-        ensures step { spec.in_generation generation self.old.conv (Some (spec.binds self.old.conv.stage port self.old.conv)) ≡ step_to self.new.conv result }
+        ensures step { spec.in_generation generation self.old.conv (Some (spec.binds self.old.conv.stage port self.old.conv)) ≡ as_step self.new.conv result }
         ensures slot { self.new.slot ≡ self.old.slot }
     {
         if generation != self.generation {
@@ -235,7 +235,7 @@ impl Conv {
     /// Hangs up.
     pub(super) fn hang_up(&mut self, now: u64, generation: u64) -> Option<Outcome>
         requires { now < 2 ^ 63 }
-        ensures step { spec.in_generation generation self.old.conv (Some (spec.hung_up self.old.conv.core now (spec.left_or_ok (spec.core_name self.old.conv.core)) self.old.conv self.old.conv)) ≡ step_to self.new.conv result }
+        ensures step { spec.in_generation generation self.old.conv (Some (spec.hung_up self.old.conv.core now (spec.left_or_ok (spec.core_name self.old.conv.core)) self.old.conv self.old.conv)) ≡ as_step self.new.conv result }
         ensures slot { self.new.slot ≡ self.old.slot }
     {
         if generation != self.generation {
@@ -270,7 +270,7 @@ impl Conv {
     /// One open file fewer; the last one hangs up too.
     pub(super) fn close(&mut self, now: u64, generation: u64) -> Option<Outcome>
         requires { now < 2 ^ 63 }
-        ensures step { spec.in_generation generation self.old.conv (Some (spec.closed self.old.conv.opens now self.old.conv)) ≡ step_to self.new.conv result }
+        ensures step { spec.in_generation generation self.old.conv (Some (spec.closed self.old.conv.opens now self.old.conv)) ≡ as_step self.new.conv result }
         ensures slot { self.new.slot ≡ self.old.slot }
     {
         if generation != self.generation {
@@ -290,7 +290,7 @@ impl Conv {
 
     /// Has another ttl from now on.
     pub(super) fn set_ttl(&mut self, generation: u64, ttl: u8) -> Option<Outcome>
-        ensures step { spec.in_generation generation self.old.conv (Some (spec.leaves self.old.conv reply.Ok (record self.old.conv { ttl = ttl }) None)) ≡ step_to self.new.conv result }
+        ensures step { spec.in_generation generation self.old.conv (Some (spec.leaves self.old.conv reply.Ok (record self.old.conv { ttl = ttl }) None)) ≡ as_step self.new.conv result }
         ensures slot { self.new.slot ≡ self.old.slot }
     {
         if generation != self.generation {
@@ -302,7 +302,7 @@ impl Conv {
 
     /// Has another tos from now on.
     pub(super) fn set_tos(&mut self, generation: u64, tos: u8) -> Option<Outcome>
-        ensures step { spec.in_generation generation self.old.conv (Some (spec.leaves self.old.conv reply.Ok (record self.old.conv { tos = tos }) None)) ≡ step_to self.new.conv result }
+        ensures step { spec.in_generation generation self.old.conv (Some (spec.leaves self.old.conv reply.Ok (record self.old.conv { tos = tos }) None)) ≡ as_step self.new.conv result }
         ensures slot { self.new.slot ≡ self.old.slot }
     {
         if generation != self.generation {

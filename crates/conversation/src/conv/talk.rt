@@ -4,7 +4,7 @@ ghost use Rattle.std.specs.Option.{option_map};
 ghost use Rattle.net_base.specs.declared.reply.Reply.{Reply as Answer};
 ghost use Rattle.net_base.specs.ActorStep.{when};
 ghost use Rattle.net_base.specs.Conversation as spec;
-ghost use Rattle.conversation.specs.Kept.{step_to};
+ghost use Rattle.conversation.specs.Kept.{as_step};
 ghost use Rattle.net_base.specs.IlTable.{has_unread};
 ghost use Rattle.conversation.specs.Memory.{core_has_unread, core_sends, packet_takes, read_takes, text_takes};
 ghost use Rattle.conversation.specs.Stands.{IsShort};
@@ -55,7 +55,7 @@ impl Conv {
         generation: u64,
         count: u32,
     ) -> Result<Option<Outcome>, AllocError>
-        ensures ok { IfOk result (λ answer. when (nat_lt 0 count) (spec.in_generation generation self.old.conv (spec.read_at self.old.conv.stage self.old.conv.core count self.old.conv)) ≡ step_to self.new.conv answer) }
+        ensures ok { IfOk result (λ answer. when (nat_lt 0 count) (spec.in_generation generation self.old.conv (spec.read_at self.old.conv.stage self.old.conv.core count self.old.conv)) ≡ as_step self.new.conv answer) }
         ensures slot { self.new.slot ≡ self.old.slot }
         ensures err { OnErr result (self.new ≡ self.old) }
         ensures memory { OnErr result ((generation == self.old.conv.generation) && read_takes self.old.conv.stage self.old.conv.core ≡ true) }
@@ -78,7 +78,7 @@ impl Conv {
     fn read_connected(&mut self, count: usize) -> Result<Option<Outcome>, AllocError>
         requires some { 0 < count }
         requires connected { self.old.conv.stage ≡ spec.Connected }
-        ensures ok { IfOk result (λ answer. spec.read_at spec.Connected self.old.conv.core count self.old.conv ≡ step_to self.new.conv answer) }
+        ensures ok { IfOk result (λ answer. spec.read_at spec.Connected self.old.conv.core count self.old.conv ≡ as_step self.new.conv answer) }
         ensures slot { self.new.slot ≡ self.old.slot }
         ensures err { OnErr result (self.new ≡ self.old) }
         ensures memory { OnErr result (core_has_unread self.old.conv.core ≡ true) }
@@ -98,7 +98,7 @@ impl Conv {
 
     // What a step gives that leaves the conversation so, if it says something.
     fn left_if(&self, was_over: bool, answer: Option<ReplyAndCopy>) -> Option<Outcome>
-        ensures { (before : spec.Conv) → spec.is_over before ≡ was_over → option_map (λ (answer : Answer). spec.leaves before answer self.now.conv None) answer ≡ step_to self.now.conv result }
+        ensures { (before : spec.Conv) → spec.is_over before ≡ was_over → option_map (λ (answer : Answer). spec.leaves before answer self.now.conv None) answer ≡ as_step self.now.conv result }
     {
         match answer {
             Some(answer) => Some(self.left(was_over, answer, None)),
@@ -115,7 +115,7 @@ impl Conv {
     ) -> Result<Option<Outcome>, AllocError>
         requires in_time { now < 2 ^ 63 }
         requires short { IsShort self.old.conv }
-        ensures ok { IfOk result (λ answer. spec.in_generation generation self.old.conv (spec.write_at self.old.conv.stage self.old.conv.core now text.now self.old.conv) ≡ step_to self.new.conv answer) }
+        ensures ok { IfOk result (λ answer. spec.in_generation generation self.old.conv (spec.write_at self.old.conv.stage self.old.conv.core now text.now self.old.conv) ≡ as_step self.new.conv answer) }
         ensures slot { self.new.slot ≡ self.old.slot }
         ensures err { OnErr result (self.new ≡ self.old) }
         ensures memory { OnErr result ((generation == self.old.conv.generation)
@@ -146,7 +146,7 @@ impl Conv {
         requires in_time { now < 2 ^ 63 }
         requires short { IsShort self.old.conv }
         requires fits { length text.now < 2 ^ 32 }
-        ensures ok { IfOk result (λ answer. spec.core_written self.old.conv.core now text.now self.old.conv ≡ step_to self.new.conv answer) }
+        ensures ok { IfOk result (λ answer. spec.core_written self.old.conv.core now text.now self.old.conv ≡ as_step self.new.conv answer) }
         ensures slot { self.new.slot ≡ self.old.slot }
         ensures err { OnErr result (self.new ≡ self.old) }
         ensures memory { OnErr result (core_sends self.old.conv.core ≡ true) }
@@ -184,7 +184,7 @@ impl Conv {
     ) -> Result<Option<Outcome>, AllocError>
         requires in_time { now < 2 ^ 63 }
         requires short { IsShort self.old.conv }
-        ensures ok { IfOk result (λ answer. spec.in_generation generation self.old.conv (spec.taken_in self.old.conv.core packet.now.body now self.old.conv) ≡ step_to self.new.conv answer) }
+        ensures ok { IfOk result (λ answer. spec.in_generation generation self.old.conv (spec.taken_in self.old.conv.core packet.now.body now self.old.conv) ≡ as_step self.new.conv answer) }
         ensures slot { self.new.slot ≡ self.old.slot }
         ensures err { OnErr result (self.new ≡ self.old) }
         ensures memory { OnErr result ((generation == self.old.conv.generation)
@@ -215,7 +215,7 @@ impl Conv {
     /// A moment has come.
     pub(super) fn tick(&mut self, now: u64, generation: u64) -> Option<Outcome>
         requires { now < 2 ^ 63 }
-        ensures step { spec.in_generation generation self.old.conv (Some (spec.ticked self.old.conv.core now self.old.conv)) ≡ step_to self.new.conv result }
+        ensures step { spec.in_generation generation self.old.conv (Some (spec.ticked self.old.conv.core now self.old.conv)) ≡ as_step self.new.conv result }
         ensures slot { self.new.slot ≡ self.old.slot }
     {
         if generation != self.generation {

@@ -1,6 +1,6 @@
 //! The actors of a small world, and what they answer.
 ghost use Rattle.std.specs.Prelude.{◌≡◌, ◌∷◌, ◌^◌, ◌<◌, [], IfOk, codes, true};
-ghost use Rattle.net_actors.specs.Numbers.{is_among};
+ghost use Rattle.net_actors.specs.Numbers.{is_actor_among};
 ghost use Rattle.host_tests.specs.Tried.{tried_host, tried_medium, tried_world};
 
 use ndb_versions::IndexedVersions;
@@ -218,7 +218,7 @@ impl Trial {
 
     /// What the actor answers.
     pub fn answer(&mut self, name: ActorName, now: u64, work: &Work) -> Result<Told, AllocError>
-        requires among { is_among 2 1 name ≡ true }
+        requires among { is_actor_among 2 1 name ≡ true }
         requires now { now < 2 ^ 63 }
     {
         if self.works >= 1000 {
@@ -236,14 +236,14 @@ impl Trial {
 
     /// When the actor is due.
     pub fn due(&self, name: ActorName) -> Option<u64>
-        requires { is_among 2 1 name ≡ true }
+        requires { is_actor_among 2 1 name ≡ true }
     {
         self.actors.due(name)
     }
 
     /// The generation of a conversation.
     pub fn generation(&self, name: ActorName) -> u64
-        requires { is_among 2 1 name ≡ true }
+        requires { is_actor_among 2 1 name ≡ true }
     {
         self.actors.generation(name)
     }

@@ -3,7 +3,7 @@ ghost use Rattle.std.specs.Prelude.{◌≡◌, ◌<◌, ◌^◌, IfOk, OnErr, tr
 ghost use Rattle.net_base.specs.declared.il.IlKind.TheVariants as kind;
 ghost use Rattle.net_base.specs.declared.il.IlState.TheVariants as state;
 ghost use Rattle.net_base.specs.IlTable as table;
-ghost use Rattle.il_machine.specs.Stands.{IsFew, Says, Turns, closing_takes, established_takes, handshake_completed, takes_in};
+ghost use Rattle.il_machine.specs.Stands.{IsFew, SaysEnd, TurnsEnd, closing_takes, established_takes, handshake_completed, takes_in};
 
 use crate::end::IlEnd;
 use net_base::{Cause, IlKind, IlMsg, IlState};
@@ -14,7 +14,7 @@ impl IlEnd {
     /// Syncer: its sync is answered or refused.
     pub(super) fn arrive_at_syncer(&mut self, now: u64, message: &IlMsg) -> Option<IlMsg>
         requires { now < 2 ^ 63 }
-        ensures { Turns self.old self.new result (λ e. table.at_syncer message.now.kind now message.now e) }
+        ensures { TurnsEnd self.old self.new result (λ e. table.at_syncer message.now.kind now message.now e) }
     {
         match message.kind {
             IlKind::Sync if message.ack == self.start => {
@@ -41,9 +41,9 @@ impl IlEnd {
         requires in_time { now < 2 ^ 63 }
         requires short { IsFew self.old }
         requires syncee { self.old.state ≡ state.Syncee }
-        ensures ok { IfOk result (λ emits. Turns self.old self.new emits (λ e. table.at_syncee message.now.kind now message.now e)) }
+        ensures ok { IfOk result (λ emits. TurnsEnd self.old self.new emits (λ e. table.at_syncee message.now.kind now message.now e)) }
         ensures err { OnErr result (self.new ≡ self.old) }
-        ensures memory { OnErr result (Says self.old true (takes_in state.Syncee now message.now)) }
+        ensures memory { OnErr result (SaysEnd self.old true (takes_in state.Syncee now message.now)) }
     {
         match message.kind {
             IlKind::Sync if message.id == self.rstart.unwrap_or(0) => {
@@ -62,9 +62,9 @@ impl IlEnd {
         requires in_time { now < 2 ^ 63 }
         requires short { IsFew self.old }
         requires syncee { self.old.state ≡ state.Syncee }
-        ensures ok { IfOk result (λ emits. Turns self.old self.new emits (λ e. handshake_completed now message.now e)) }
+        ensures ok { IfOk result (λ emits. TurnsEnd self.old self.new emits (λ e. handshake_completed now message.now e)) }
         ensures err { OnErr result (self.new ≡ self.old) }
-        ensures memory { OnErr result (Says self.old true (established_takes message.now.kind now message.now)) }
+        ensures memory { OnErr result (SaysEnd self.old true (established_takes message.now.kind now message.now)) }
     {
         let timer = self.timer.copied();
         self.hear(now);
@@ -85,9 +85,9 @@ impl IlEnd {
     ) -> Result<Option<IlMsg>, AllocError>
         requires in_time { now < 2 ^ 63 }
         requires short { IsFew self.old }
-        ensures ok { IfOk result (λ emits. Turns self.old self.new emits (λ e. table.at_established message.now.kind now message.now e)) }
+        ensures ok { IfOk result (λ emits. TurnsEnd self.old self.new emits (λ e. table.at_established message.now.kind now message.now e)) }
         ensures err { OnErr result (self.new ≡ self.old) }
-        ensures memory { OnErr result (Says self.old true (established_takes message.now.kind now message.now)) }
+        ensures memory { OnErr result (SaysEnd self.old true (established_takes message.now.kind now message.now)) }
     {
         match message.kind {
             IlKind::Sync if message.id == self.rstart.unwrap_or(0) => {
@@ -128,7 +128,7 @@ impl IlEnd {
     fn close_comes(&mut self, now: u64, message: &IlMsg) -> Option<IlMsg>
         requires in_time { now < 2 ^ 63 }
         requires short { IsFew self.old }
-        ensures { Turns self.old self.new result (λ e. table.at_established kind.Close now message.now e) }
+        ensures { TurnsEnd self.old self.new result (λ e. table.at_established kind.Close now message.now e) }
     {
         if message.spec != 0 {
             return None;
@@ -151,9 +151,9 @@ impl IlEnd {
     ) -> Result<Option<IlMsg>, AllocError>
         requires in_time { now < 2 ^ 63 }
         requires short { IsFew self.old }
-        ensures ok { IfOk result (λ emits. Turns self.old self.new emits (λ e. table.at_closing message.now.kind now message.now e)) }
+        ensures ok { IfOk result (λ emits. TurnsEnd self.old self.new emits (λ e. table.at_closing message.now.kind now message.now e)) }
         ensures err { OnErr result (self.new ≡ self.old) }
-        ensures memory { OnErr result (Says self.old true (closing_takes message.now.kind now message.now)) }
+        ensures memory { OnErr result (SaysEnd self.old true (closing_takes message.now.kind now message.now)) }
     {
         match message.kind {
             IlKind::Sync => {
@@ -188,7 +188,7 @@ impl IlEnd {
     /// Closed: an end that its peer closed answers a close that comes again.
     pub(super) fn arrive_at_closed(&mut self, now: u64, message: &IlMsg) -> Option<IlMsg>
         requires { now < 2 ^ 63 }
-        ensures { Turns self.old self.new result (λ e. table.at_closed message.now.kind now message.now e) }
+        ensures { TurnsEnd self.old self.new result (λ e. table.at_closed message.now.kind now message.now e) }
     {
         match message.kind {
             IlKind::Close if self.closed_by_peer && message.spec == 0 => {

@@ -1,6 +1,6 @@
 //! Tables of calls: what happens at a conversation, what it replies and emits.
 ghost use Rattle.std.specs.Prelude.{IsTrue, ◌<◌};
-ghost use Rattle.conversation.specs.Stands.{IsReady};
+ghost use Rattle.conversation.specs.Stands.{IsSeatReady};
 
 use conversation::Conv;
 use net_base::{
@@ -219,7 +219,7 @@ fn sent_in(emit: &Option<Packet>) -> Sent {
 // Whether a work is ready, as `ready` tells it.
 #[tactic(auto, unfolding(conversation::specs::Stands::StandsFor))]
 fn is_ready(conv: &Conv, now: u64, work: &Work) -> bool
-    ensures { IsTrue result → IsReady conv.now now work.now }
+    ensures { IsTrue result → IsSeatReady conv.now now work.now }
 {
     let _ = now;
     conv.ready(work)

@@ -1,6 +1,6 @@
 use Rattle.std.proofs.Common.{List, ◌∙◌, ap, arith, length, sym, subst}
 use Rattle.host_net.specs.Groups.{all_members, visits}
-use Rattle.host_net.specs.Playing.{ArePlayed}
+use Rattle.host_net.specs.Playing.{AreVisitsPlayed}
 use Rattle.net_guests.specs.Visits.{HasGuest, Visit}
 use Rattle.agenda.proofs.Backing.{backing_all, backing_none, backing_step}
 use Rattle.agenda.proofs.tasks.ended_of.Goals as goal
@@ -30,7 +30,7 @@ returns-clause-all g c = λ k lt.
 
 pub returns-clause-plays : goal.returns-clause-plays
 returns-clause-plays g c =
-    subst (λ (vs : List Visit). ArePlayed g.J.Placing.tasks g.J.Placing.world vs)
+    subst (λ (vs : List Visit). AreVisitsPlayed g.J.Placing.tasks g.J.Placing.world vs)
     (c.in_ok-parts.ensures.same ∙ sym (backing_all g.T.OwnTask.asks g.T.OwnTask.after g.T.OwnTask.Keeps g.J.Placing.tasks g.J.Placing.world
     (visits (all_members c.args.players.groups)) _ _ c.loop-part.guests.items c.loop-part.tasks.items c.loop-part.invariant c.in-None.ensures.steps.0))
     c.in_ok-parts.ensures.plays

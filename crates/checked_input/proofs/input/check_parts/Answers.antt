@@ -1,11 +1,11 @@
 use Rattle.std.proofs.Common.{sym, subst}
-use Rattle.checked_input.specs.Input.{Parts}
-use Rattle.checked_input.specs.Told.{Refuses}
+use Rattle.checked_input.specs.Input.{InputParts}
+use Rattle.checked_input.specs.Told.{RefusesInput}
 use Rattle.checked_input.specs.declared.fault.InputError.{InputError}
 use Rattle.checked_input.proofs.Handing.{parts_told}
 use Rattle.checked_input.proofs.input.check_parts.Goals as goal
 
 pub returns-in-Err : goal.returns-in-Err
 returns-in-Err c = λ input are.
-    let parts : Parts = record { world = c.args.parts.now.world.now; lines = c.args.parts.now.lines; history = c.args.parts.now.history.now } in
-    subst (λ (e : InputError). Refuses input e) (sym c.of_world.ensures) (parts_told input parts c.in-Err.error are c.in-Err.ensures.bad)
+    let parts : InputParts = record { world = c.args.parts.now.world.now; lines = c.args.parts.now.lines; history = c.args.parts.now.history.now } in
+    subst (λ (e : InputError). RefusesInput input e) (sym c.of_world.ensures) (parts_told input parts c.in-Err.error are c.in-Err.ensures.bad)

@@ -1,7 +1,7 @@
 use Rattle.std.proofs.Common.{◌≡◌, sym, subst, ap, ◌∙◌, ◌∷◌, [], arith, length, length-append, List}
 use Rattle.net_base.specs.declared.history.Entry.{Entry}
 use Rattle.net_base.specs.Addresses.{parts_at}
-use Rattle.history_reader.specs.LineReading.{Good, line_verdict, onto, reading_from}
+use Rattle.history_reader.specs.LineReading.{Good, entry_verdict, onto, history_reading_from}
 use Rattle.history_reader.proofs.Loops.{shorter}
 use Rattle.history_reader.proofs.Readings.{entry_on}
 use Rattle.history_reader.proofs.reader.read_lines.Goals as goal
@@ -19,6 +19,6 @@ loop-line-preserved c =
       room = omega (arith, less, room, more, count);
       reads =
           entry_on c.args.bytes.now c.loop-line.history c.loop-line.rest.now c.in-Some.line.now c.in-Some.behind.now c.in-Ok.entry c.loop-line.invariant.reads c.in-Some.ensures.cut (sym c.is_steps.ensures ∙ c.if-is_steps.false)
-          (subst (λ k. line_verdict k c.in-Some.line.now ≡ Good c.in-Ok.entry) c.len-in-Some.ensures c.in-Ok.ensures.ok)
-          ∙ ap (λ (h : List Entry). onto h (reading_from (length h) (parts_at 10 c.in-Some.behind.now))) (sym c.in_ok-push-in-Ok.ensures.ok);
+          (subst (λ k. entry_verdict k c.in-Some.line.now ≡ Good c.in-Ok.entry) c.len-in-Some.ensures c.in-Ok.ensures.ok)
+          ∙ ap (λ (h : List Entry). onto h (history_reading_from (length h) (parts_at 10 c.in-Some.behind.now))) (sym c.in_ok-push-in-Ok.ensures.ok);
     }

@@ -5,7 +5,7 @@ use Rattle.net_base.specs.Next.{next_by}
 use Rattle.net_base.specs.Steps.{Names}
 use Rattle.net_base.specs.Requests.{planned}
 use Rattle.guest_laws.specs.Works.{entries}
-use Rattle.net_locks.specs.Standings.{ask_of}
+use Rattle.net_locks.specs.Standings.{standing_ask}
 use Rattle.host_net.specs.Playing.{Playing}
 use Rattle.net_guests.specs.Visits.{Visit}
 use Rattle.host_net.proofs.Foreseen.{nothing_next, something_next}
@@ -33,7 +33,7 @@ returns-clause-next g c =
     let asks = ap (g.T.WholeTask.asks c.player.inside.task) (sym c.fids.ensures) ∙ (sym c.in_ok-request.ensures ∙ c.in-Some.is) in
     let home = c.host.ensures s script in
     let plans = ap (λ (l : Names). planned c.host.result l c.in-Some.request) (sym c.fids-2.ensures) ∙ c.plan-actor.ensures.event in
-    subst (λ (u : Visit). Some (ask_of (c.plan-actor.result.actor, c.bare.result)) ≡ next_by g.J.Placing.tasks w (entries u.sight.seen) u.caller) seen
+    subst (λ (u : Visit). Some (standing_ask (c.plan-actor.result.actor, c.bare.result)) ≡ next_by g.J.Placing.tasks w (entries u.sight.seen) u.caller) seen
     (ap (λ (x : Work). Some (record { actor = c.plan-actor.result.actor; event = x.event })) c.bare.ensures
     ∙ something_next g.T.WholeTask.asks g.T.WholeTask.Goes g.met.T.WholeTask.asks_there g.J.Placing.tasks w v s c.player.inside.task script
     (c.player.invariant.0.goes_on s script c.if-player.false) c.host.result c.in-Some.request

@@ -1,7 +1,7 @@
 use Rattle.std.proofs.Common.{◌≡◌, ◌++◌, List, [], ◌∷◌, length, length-append, reverse, ap, sym, subst, ◌∙◌, arith}
 use Rattle.std.proofs.lemmas.List.{append-nil, reverse-reverse, nil_from_length}
 use Rattle.host_net.specs.Groups.{visits}
-use Rattle.host_net.specs.Playing.{ArePlayed}
+use Rattle.host_net.specs.Playing.{AreVisitsPlayed}
 use Rattle.net_guests.specs.Visits.{Visit}
 use Rattle.host_net.proofs.Seating.{players_on, plays_more}
 use Rattle.host_net.proofs.players.add_players.Goals as goal
@@ -20,7 +20,7 @@ loop-player-preserved g c = (
   players_on c.loop-player.guests.items c.push.new.self.items _ c.loop-player.players.items c.pop.new.self.items c.in-Some.player c.loop-player.invariant.0
       c.in-Some.ensures.items (c.in_ok-push.ensures.items ∙ ap (λ (v : Visit). c.loop-player.guests.items ++ v ∷ []) c.into_guest.ensures.same),
   λ are.
-      subst (λ (l : List Visit). ArePlayed g.J.Placing.tasks g.J.Placing.world l) (sym c.in_ok-push.ensures.items)
+      subst (λ (l : List Visit). AreVisitsPlayed g.J.Placing.tasks g.J.Placing.world l) (sym c.in_ok-push.ensures.items)
       (plays_more g.J.Placing.tasks g.J.Placing.world c.loop-player.guests.items c.into_guest.result (c.loop-player.invariant.1 are) c.into_guest.ensures.plays),
 )
 

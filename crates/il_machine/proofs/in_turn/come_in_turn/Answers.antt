@@ -1,6 +1,6 @@
 use Rattle.std.proofs.Common.{◌≡◌, ◌+◌, [], ◌∷◌, None, arith, sym, ap, ◌∙◌, length, length-append}
 use Rattle.net_base.specs.IlEnd.{early_at}
-use Rattle.il_machine.specs.InTurn.{Turned}
+use Rattle.il_machine.specs.InTurn.{TurnedMessages}
 use Rattle.il_machine.proofs.Near.{begins_after, none_goes, one_further}
 use Rattle.il_machine.proofs.InTurn.{none_next, steps}
 use Rattle.il_machine.proofs.in_turn.come_in_turn.Goals as goal
@@ -31,7 +31,7 @@ pub returns-clause-left : goal.returns-clause-left
 returns-clause-left c =
     let none : early_at (c.loop-text.last + 1) c.loop-text.early ≡ None = sym c.take.ensures.value ∙ c.in_default.is in
     c.take.ensures.rest ∙ none_goes (c.loop-text.last + 1) c.loop-text.early none
-    ∙ ap (λ (t : Turned). t.early) (sym (none_next (length c.loop-text.early) c.loop-text.last c.loop-text.early none)) ∙ c.loop-text.invariant.left
+    ∙ ap (λ (t : TurnedMessages). t.early) (sym (none_next (length c.loop-text.early) c.loop-text.last c.loop-text.early none)) ∙ c.loop-text.invariant.left
 
 pub returns-clause-near : goal.returns-clause-near
 returns-clause-near c =

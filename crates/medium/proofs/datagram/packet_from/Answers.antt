@@ -2,7 +2,7 @@ use Rattle.std.proofs.Common.{subst}
 use Rattle.ip_wire.specs.Headers.{view}
 use Rattle.il_header.specs.Views.{message_in}
 use Rattle.wire_text.specs.Ipv4.{SpellsIpv4}
-use Rattle.wire_text.specs.Datagram.{header_for, body_bytes, packet_of}
+use Rattle.wire_text.specs.Datagram.{header_for, body_bytes, datagram_packet}
 use Rattle.medium.specs.Spelled.{HasText}
 use Rattle.medium.proofs.Bodies.{HoldsIl, HoldsUdp, ipv4_in, il_in, udp_in, ok_of, on_err, il_read, udp_read}
 use Rattle.medium.proofs.datagram.packet_from.Goals as goal
@@ -10,7 +10,7 @@ use Rattle.medium.proofs.datagram.packet_from.Goals.{then-ip-eq-IL+in_ok-text, e
 
 pub unwrap-ip-requires : goal.unwrap-ip-requires
 unwrap-ip-requires c =
-    ok_of _ c.decode_ip.result (c.decode_ip.ensures.only (header_for (packet_of c.args.bytes.now)) (body_bytes (packet_of c.args.bytes.now).src (packet_of c.args.bytes.now).dst (packet_of c.args.bytes.now).body) (ipv4_in c.args.bytes.now c.requires))
+    ok_of _ c.decode_ip.result (c.decode_ip.ensures.only (header_for (datagram_packet c.args.bytes.now)) (body_bytes (datagram_packet c.args.bytes.now).src (datagram_packet c.args.bytes.now).dst (datagram_packet c.args.bytes.now).body) (ipv4_in c.args.bytes.now c.requires))
 
 pub unwrap-il-requires : goal.unwrap-il-requires
 unwrap-il-requires c =

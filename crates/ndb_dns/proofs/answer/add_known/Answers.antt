@@ -3,7 +3,7 @@ use Rattle.std.specs.Option.{option_map}
 use Rattle.ndb_index.specs.Kept.{spots_with}
 use Rattle.net_base.specs.DomainAnswers.{key_of}
 use Rattle.ndb_dns.specs.Keys.{key_seen}
-use Rattle.ndb_dns.specs.Taken.{Adds}
+use Rattle.ndb_dns.specs.Taken.{AddsTaken}
 use Rattle.ndb_dns.proofs.Fitting.{adds_none}
 use Rattle.ndb_dns.proofs.Parts.{code_known, code_unknown, records_unknown}
 use Rattle.ndb_dns.proofs.answer.add_known.Goals as goal
@@ -17,7 +17,7 @@ returns-then-is_empty-clause-rcode g c =
 
 pub returns-then-is_empty-clause-took : goal.returns-then-is_empty-clause-took
 returns-then-is_empty-clause-took g c =
-    subst (λ (records : List (List ℕ)). Adds c.args.records.now records c.args.records.now)
+    subst (λ (records : List (List ℕ)). AddsTaken c.args.records.now records c.args.records.now)
     (records_unknown c.args.index.now c.args.question.now.kind (key_seen c.in-Some.key) (key_of c.args.question.now) c.in_ok-spots.spots.items
     (ap (option_map key_seen) (sym c.in-Some.is) ∙ c.in_ok-key.ensures)
     (c.in_ok-spots.ensures ∙ ap (λ (value : List ℕ). spots_with c.in-Some.key.attr.now value c.args.index.now) c.as_slice.ensures)

@@ -2,7 +2,7 @@ use Rattle.std.proofs.Common.{ℕ, ◌+◌, map, ap, ◌∙◌, refl, arith}
 use Rattle.std.proofs.lemmas.List.{length-map}
 use Rattle.net_base.specs.Store.{all_pairs}
 use Rattle.ndb_index.specs.Chained.{width_for, alike}
-use Rattle.ndb_index.specs.Hashing.{bucket_in, pair_bucket}
+use Rattle.ndb_index.specs.Hashing.{bucket_of_pair, pair_bucket}
 use Rattle.ndb_index.proofs.ByPair.{walk-none, walk-within, walk-costs, walk-next, walk-all}
 use Rattle.ndb_index.proofs.pairs.spots_of.Goals as goal
 
@@ -12,7 +12,7 @@ bucket_of-requires g c = omega (arith, c.width.ensures, c.requires.width)
 pub loop-left-init : goal.loop-left-init
 loop-left-init g c =
     walk-none c.args.tuples.now (width_for c.args.tuples.now) c.first-left.result c.bucket_of.result c.args.attr.now c.args.value.now c.new-spots.result.items c.args.steps.now (c.args.steps.now + alike c.args.attr.now c.args.value.now c.args.tuples.now) refl c.new-spots.ensures.items
-    (c.bucket_of.ensures.value ∙ ap (λ (n : ℕ). bucket_in n c.args.attr.now c.args.value.now) (c.width.ensures ∙ c.requires.width))
+    (c.bucket_of.ensures.value ∙ ap (λ (n : ℕ). bucket_of_pair n c.args.attr.now c.args.value.now) (c.width.ensures ∙ c.requires.width))
     (c.first-left.ensures (map (pair_bucket (width_for c.args.tuples.now)) (all_pairs c.args.tuples.now)) c.requires.are)
 
 pub overflow_sub-count : goal.overflow_sub-count

@@ -2,11 +2,11 @@ use Rattle.std.proofs.Common.{List, ℕ, length, ap, sym, subst, ◌∙◌, arit
 use Rattle.std.specs.Prelude.{flat_map}
 use Rattle.net_base.specs.Ndb.{NdbPair}
 use Rattle.net_base.specs.Search.{beside}
-use Rattle.ndb_index.specs.Near.{AreWithin, tuples_at}
+use Rattle.ndb_index.specs.Near.{AreWithinNear, tuples_at}
 use Rattle.ndb_query.proofs.found.beside_counted.Goals as goal
 
 pub place_values-requires : goal.place_values-requires
-place_values-requires g c = subst (AreWithin c.args.tuples.now) (sym c.as_slice.ensures) c.in_ok-places.ensures.within
+place_values-requires g c = subst (AreWithinNear c.args.tuples.now) (sym c.as_slice.ensures) c.in_ok-places.ensures.within
 
 pub returns-clause-values : goal.returns-clause-values
 returns-clause-values g c =

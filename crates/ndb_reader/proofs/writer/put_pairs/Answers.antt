@@ -1,10 +1,10 @@
 use Rattle.std.proofs.Common.{refl}
-use Rattle.ndb_reader.specs.Written.{line_text}
+use Rattle.ndb_reader.specs.Written.{pairs_text}
 use Rattle.ndb_reader.proofs.Lined.{some-one, no-one, nothing-more, line-whole}
 use Rattle.ndb_reader.proofs.writer.put_pairs.Goals as goal
 
 pub returns-then-len-eq0 : goal.returns-then-len-eq0
-returns-then-len-eq0 c = nothing-more line_text c.args.line.now c.args.out.now refl (no-one c.args.line.now c.len.result c.len.ensures c.if-len-eq0.true)
+returns-then-len-eq0 c = nothing-more pairs_text c.args.line.now c.args.out.now refl (no-one c.args.line.now c.len.result c.len.ensures c.if-len-eq0.true)
 
 pub returns : goal.returns
 returns c =

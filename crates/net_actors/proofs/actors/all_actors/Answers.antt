@@ -1,6 +1,6 @@
 use Rattle.std.proofs.Common.{ap, subst, sym, ◌+◌, ◌∙◌}
 use Rattle.net_base.specs.Actors.{has_actor, opening_actor}
-use Rattle.net_actors.specs.Numbers.{number_in}
+use Rattle.net_actors.specs.Numbers.{number_in_world}
 use Rattle.net_actors.specs.Together.{AreFirst}
 use Rattle.net_actors.proofs.Placed.{at_number, number_at, one_more}
 use Rattle.net_actors.proofs.actors.all_actors.Goals as goal
@@ -14,4 +14,4 @@ loop-number-preserved c =
     let number = number_at w c.args.hosts c.args.media c.actor_at.result c.loop-number.number c.requires.hosts c.requires.media at.number in
     subst (AreFirst w (c.loop-number.number + 1)) (sym c.in_ok-push.ensures.items)
     (one_more w c.loop-number.number c.loop-number.actors.items c.in_ok-actor.actor c.loop-number.invariant actor.of (ap (has_actor w) actor.name ∙ has)
-    (ap (number_in w) actor.name ∙ number) (actor.opening ∙ ap (opening_actor w.timers) (sym actor.name)))
+    (ap (number_in_world w) actor.name ∙ number) (actor.opening ∙ ap (opening_actor w.timers) (sym actor.name)))

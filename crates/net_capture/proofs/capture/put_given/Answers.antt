@@ -1,6 +1,6 @@
 use Rattle.std.proofs.Common.{◌≡◌, Some, None}
 use Rattle.net_base.specs.Net.{owed, with_of}
-use Rattle.net_capture.specs.Capture.{medium_of, packet_in}
+use Rattle.net_capture.specs.Capture.{medium_of, given_packet}
 use Rattle.net_capture.proofs.Following.{adds_given, adds_nothing, caller_is, early_at}
 use Rattle.net_capture.proofs.Laying.{laid_fits, shown_on}
 use Rattle.net_capture.proofs.capture.put_given.Goals as goal
@@ -10,7 +10,7 @@ returns-in_default c = λ w f.
     let r = c.args.runner.now in
     let x = c.args.entry.now in
     let is = c.packet_given.ensures w r.history.entries x.caller (caller_is w r x c.args.caller.now f c.requires.caller) in
-    let none : packet_in (with_of (owed w r.history.entries x.caller)) ≡ None = cc in
+    let none : given_packet (with_of (owed w r.history.entries x.caller)) ≡ None = cc in
     adds_nothing w r x c.args.medium c.args.out.now none
 
 pub put_spelled-requires-clause-early : goal.put_spelled-requires-clause-early
@@ -23,7 +23,7 @@ put_spelled-requires-clause-fits c =
     let r = c.args.runner.now in
     let x = c.args.entry.now in
     let is = c.packet_given.ensures w r.history.entries x.caller (caller_is w r x c.args.caller.now f c.requires.caller) in
-    let gift : packet_in (with_of (owed w r.history.entries x.caller)) ≡ Some c.in-Some.packet.now = cc in
+    let gift : given_packet (with_of (owed w r.history.entries x.caller)) ≡ Some c.in-Some.packet.now = cc in
     let on = shown_on c.args.medium (medium_of x.actor x.reply) c.requires.on in
     laid_fits w r.history.entries x on.0 c.in-Some.packet.now f.tracks.history.world f.may on.1 gift
 
@@ -32,6 +32,6 @@ returns c = λ w f.
     let r = c.args.runner.now in
     let x = c.args.entry.now in
     let is = c.packet_given.ensures w r.history.entries x.caller (caller_is w r x c.args.caller.now f c.requires.caller) in
-    let gift : packet_in (with_of (owed w r.history.entries x.caller)) ≡ Some c.in-Some.packet.now = cc in
+    let gift : given_packet (with_of (owed w r.history.entries x.caller)) ≡ Some c.in-Some.packet.now = cc in
     adds_given w r x c.args.medium c.in-Some.packet.now c.args.out.now c.put_spelled.new.out c.requires.on gift c.in_ok-put_spelled.ensures.record
     c.in_ok-put_spelled.ensures.fits c.in_ok-put_spelled.ensures.read

@@ -1,7 +1,7 @@
 use Rattle.std.proofs.Common.{◌≡◌, ◌++◌, drop}
-use Rattle.net_chart.specs.Places.{places_from, places_of}
+use Rattle.net_chart.specs.Places.{places_from, chart_places}
 use Rattle.net_chart.proofs.place.places_of.Given as goal
 
 -- the rows so far, and those that are left
 abbrev pub invariant-loop-entry : goal.invariant-loop-entry
-invariant-loop-entry l = l.places ++ places_from l.brief l.place (drop l.entry-index l.entries) ≡ places_of l.brief l.entries
+invariant-loop-entry l = l.places ++ places_from l.brief l.place (drop l.entry-index l.entries) ≡ chart_places l.brief l.entries

@@ -1,6 +1,6 @@
 use Rattle.std.proofs.Common.{sym, ap, ◌∙◌, ◌+◌, ◌++◌, ◌∷◌, [], length, take}
 use Rattle.std.proofs.lemmas.List.{take_more}
-use Rattle.net_import.specs.Marks.{marked, marks}
+use Rattle.net_import.specs.Marks.{remote_marked, marks}
 use Rattle.net_import.proofs.Marks.{marked_more, none_marked}
 use Rattle.net_import.proofs.remotes.taken_fids.Goals as goal
 
@@ -10,7 +10,7 @@ loop-remote-init c = c.in_ok-taken.ensures.items_if_clones_equal (λ y is. is) �
 pub loop-remote-preserved : goal.loop-remote-preserved
 loop-remote-preserved c =
     c.mark.ensures
-    ∙ ap (λ xs. marked xs c.remote-item.result c.args.call.now) c.loop-remote.invariant
+    ∙ ap (λ xs. remote_marked xs c.remote-item.result c.args.call.now) c.loop-remote.invariant
     ∙ sym (marked_more (take c.loop-remote.remote-index c.args.remotes.now) c.remote-item.result c.args.call.now (length c.args.remotes.now + 1))
     ∙ ap (λ rs. marks rs c.args.call.now (length c.args.remotes.now + 1))
     (ap (λ r. take c.loop-remote.remote-index c.args.remotes.now ++ r ∷ []) c.remote-item.is

@@ -6,7 +6,7 @@ use Rattle.net_base.specs.Actors.{actor_step}
 use Rattle.net_base.specs.Net.{after}
 use Rattle.duties.specs.declared.shown.Shown.{Shown}
 use Rattle.duties.specs.Showing.{shown_entry}
-use Rattle.plain_runner.specs.Callers.{GoesOn}
+use Rattle.plain_runner.specs.Callers.{WentOn}
 use Rattle.plain_runner.specs.Recording.{OwesAll}
 use Rattle.plain_runner.proofs.Growing.{ready_has, records_so}
 use Rattle.plain_runner.proofs.recording.record.Goals as goal
@@ -24,7 +24,7 @@ returns c =
     (λ (copy : Option Reply).
     OwesAll c.args.ways.now c.args.turn.actor c.args.stamp c.args.turn.work (record o { copy = copy }) c.in_ok-dues.dues c.args.caller.now.owed c.owe.new.owed)
     c.take.ensures.after c.in_ok-shown.ensures.owes)
-    (subst (λ (r : Reply). GoesOn (record c.args.caller.now { owed = c.owe.new.owed }) c.recorded.new.self c.args.turn.cites r)
+    (subst (λ (r : Reply). WentOn (record c.args.caller.now { owed = c.owe.new.owed }) c.recorded.new.self c.args.turn.cites r)
     reply c.in_ok-recorded.ensures)
     (c.entry_of.ensures.entry
     ∙ ap (λ (s : Shown). shown_entry c.args.turn.actor c.args.number c.args.now c.args.turn.cites s) c.in_ok-shown.ensures.shown)

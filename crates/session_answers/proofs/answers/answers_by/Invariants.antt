@@ -1,15 +1,15 @@
 use Rattle.std.proofs.Common.{◌≡◌, length}
-use Rattle.session_answers.specs.Served.{answered_of, state_of}
+use Rattle.session_answers.specs.Served.{answered_of, session_state}
 use Rattle.session_answers.proofs.Answering.{Answering}
-use Rattle.session_script.specs.Seen.{seen}
+use Rattle.session_script.specs.Seen.{seen_table}
 use Rattle.net_base.specs.SessionTable.{IsSound}
 use Rattle.session_answers.proofs.answers.answers_by.Given as goal
 
 -- the answers so far stand before those to what is left
 abbrev pub invariant-loop-replies : goal.invariant-loop-replies
 invariant-loop-replies g l = record {
-  so_far : Answering l.host l.bytes (answered_of l.owes (g.E.Entries.list l.entries) l.caller) l.answers (state_of l.session) l.rest l.replies;
-  sound : IsSound (seen l.session.table);
+  so_far : Answering l.host l.bytes (answered_of l.owes (g.E.Entries.list l.entries) l.caller) l.answers (session_state l.session) l.rest l.replies;
+  sound : IsSound (seen_table l.session.table);
   host : l.session.host ≡ l.host;
 }
 

@@ -8,7 +8,7 @@ use Rattle.session_answers.proofs.Short.{hungup_short, one_number, two_numbers}
 use Rattle.session_answers.proofs.printed.is_brief.Goals as goal
 
 abbrev HasRoom : Reply → Type 0
-HasRoom x = length (spec.told_text x) ≤ longest_error
+HasRoom x = length (spec.told_reply_text x) ≤ longest_error
 
 pub returns-in-CsRefused-clause-short : goal.returns-in-CsRefused-clause-short
 returns-in-CsRefused-clause-short c =

@@ -12,7 +12,7 @@ script_speaks-requires g c =
     let called = (get_or guests 0 d).caller in
     record {
       script = (
-        worked.script,
+        worked.worked_script,
         ap (λ (w : World). caller_of w called) c.requires.world ∙ ap (caller_of worked.echo_world) (first_is guests d c.requires.callers),
       );
     }

@@ -6,7 +6,7 @@ use Rattle.net_base.specs.declared.noted.Number.TheVariants as number
 use Rattle.net_base.specs.Stamped.{same_actor, In}
 use Rattle.journal.specs.Rule.{Held, caller_numbers, same_number}
 use Rattle.journal.specs.declared.tokens.Volume.{Volume}
-use Rattle.journal.specs.Tokens.{Holds, AreBlank}
+use Rattle.journal.specs.Tokens.{HoldsPass, AreBlank}
 use Rattle.locked.proofs.Shared.{below_two, only_blank}
 use Rattle.thread_tests.proofs.one_lock.counted_by_two.Goals as goal
 use Rattle.net_base.proofs.Shared.{in_front, in_back, same_actor_is}
@@ -20,9 +20,9 @@ join-one-requires-after_bounds g c =
     let theirs : c.split_pass-two.result.held ≡ (number.Caller 1, []) ∷ [] = split.given.1 ∙ ap (filter (λ (h : Held). same_number h.0 (number.Caller 1))) all in
     let blank = subst (λ (as' : List ActorName). AreBlank 0 as' c.in_ok-journal.books.items) c.requires.actors made.books in
     let actor : c.new-desk.result.actor ≡ name.Desk 0 = c.new-desk.ensures.actor ∙ only_blank 0 (name.Desk 0) c.pop.new.self.items c.in-Some.book (subst (λ (bs : List Volume). AreBlank 0 (name.Desk 0 ∷ []) bs) c.in-Some.ensures.items blank) in
-    let one : Holds c.split_pass-two.new.pass 0 [] = subst (λ (hs : List Held). In (number.Caller 0, []) hs) (sym mine) (inl refl) in
+    let one : HoldsPass c.split_pass-two.new.pass 0 [] = subst (λ (hs : List Held). In (number.Caller 0, []) hs) (sym mine) (inl refl) in
     let one_seen : c.split_pass-two.new.pass.seen ≡ [] = split.kept.0 ∙ made.seen in
-    let two : Holds c.split_pass-two.result 1 [] = subst (λ (hs : List Held). In (number.Caller 1, []) hs) (sym theirs) (inl refl) in
+    let two : HoldsPass c.split_pass-two.result 1 [] = subst (λ (hs : List Held). In (number.Caller 1, []) hs) (sym theirs) (inl refl) in
     let two_seen : c.split_pass-two.result.seen ≡ [] = split.given.0 ∙ made.seen in
     search (one, one_seen, two, two_seen, actor)
 
@@ -48,7 +48,7 @@ close-requires-clause-callers g c k lt =
     let f = c.join-one.ensures.first in
     let s = c.join-one.ensures.second in
     let held = c.look.ensures.held ∙ c.meet.ensures.held in
-    below_two (λ q. (es : List (ℕ × Noted)) × Holds c.look.new.pass q es)
+    below_two (λ q. (es : List (ℕ × Noted)) × HoldsPass c.look.new.pass q es)
     (f.0, subst (λ (hs : List Held). In (number.Caller 0, f.0) hs) (sym held) (in_front _ _ _ f.1))
     (s.0, subst (λ (hs : List Held). In (number.Caller 1, s.0) hs) (sym held) (in_back _ _ _ s.1))
     k (subst (λ (n : ℕ). k < n) c.requires.callers lt)

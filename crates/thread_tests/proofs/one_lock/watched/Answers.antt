@@ -6,7 +6,7 @@ use Rattle.net_base.specs.declared.noted.Number.TheVariants as number
 use Rattle.net_base.specs.Stamped.{moment_noted, In}
 use Rattle.journal.specs.Rule.{Held, caller_numbers, same_number}
 use Rattle.journal.specs.declared.tokens.Volume.{Volume}
-use Rattle.journal.specs.Tokens.{Holds, AreBlank}
+use Rattle.journal.specs.Tokens.{HoldsPass, AreBlank}
 use Rattle.locked.proofs.Shared.{first_blank, below_one}
 use Rattle.thread_tests.proofs.one_lock.watched.Goals as goal
 
@@ -41,4 +41,4 @@ act_once-told-requires-3-clause-actor g c =
 pub act_clock-requires-clause-all : goal.act_clock-requires-clause-all
 act_clock-requires-clause-all g c k lt =
     let h = c.act_once-told-3.ensures.held in
-    below_one (λ q. (es : List (ℕ × Noted)) × Holds c.act_once-told-3.result.1 q es) (h.0, h.1) k (subst (λ (n : ℕ). k < n) c.requires.callers lt)
+    below_one (λ q. (es : List (ℕ × Noted)) × HoldsPass c.act_once-told-3.result.1 q es) (h.0, h.1) k (subst (λ (n : ℕ). k < n) c.requires.callers lt)

@@ -1,6 +1,6 @@
 use Rattle.std.proofs.Common.{ℕ, List, [], ◌∷◌, ◌++◌, ◌∙◌, ap, arith, Bool}
 use Rattle.world_text.specs.WorldLines.{Goes, opening_draft}
-use Rattle.world_text.specs.WorldRefusal.{Leads}
+use Rattle.world_text.specs.WorldRefusal.{LeadsToWorld}
 use Rattle.world_file.specs.Told.{going}
 use Rattle.world_file.proofs.Cuts.{reading-line}
 use Rattle.world_file.proofs.reader.read_lines.Goals as goal
@@ -11,7 +11,7 @@ loop-rest-preserved c =
     let next = c.take_text.new.self in
     let line = c.cut_line.result.0.now in
     let before = c.loop-rest.invariant.led in
-    let led : (lines : List (List ℕ)) × Leads opening_draft lines next =
+    let led : (lines : List (List ℕ)) × LeadsToWorld opening_draft lines next =
     (before.0 ++ line ∷ [], c.worlds_so_far_are_small.ensures.next before.0 line c.loop-rest.draft next before.1 goes) in
     let room = c.loop-rest.invariant.room in
     let less = c.cut_line.ensures.less in

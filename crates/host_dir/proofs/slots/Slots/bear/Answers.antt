@@ -7,7 +7,7 @@ use Rattle.net_base.specs.declared.address.Pair.{Pair}
 use Rattle.net_base.specs.Directory.{Slot, free_slot, pair_place}
 use Rattle.host_dir.specs.contracts.slots.EndsPartialEq.TheImpl as derived
 use Rattle.host_dir.specs.Found.{slot_at}
-use Rattle.host_dir.specs.Tables.{IsIndexed, pair_of, pairs_of}
+use Rattle.host_dir.specs.Tables.{IsIndexed, kept_pair, kept_pairs}
 use Rattle.host_dir.proofs.Firsts.{at_place}
 use Rattle.host_dir.proofs.Index.{absent, given_to, kept, lookup_is, pairs_added, tables_are}
 use Rattle.host_dir.proofs.slots.Slots.bear.Goals as goal
@@ -20,10 +20,10 @@ invariant_of-self-2 c =
     let at = c.args.at.listener in
     let entries = c.self.inside.given.entries in
     let ends = c.ends_of.result in
-    let fresh : pair_place (pair_of ends) 1 (pairs_of entries) ≡ None = rw (← c.self.view_is, ← c.ends_of.ensures) at c.requires.new in
+    let fresh : pair_place (kept_pair ends) 1 (kept_pairs entries) ≡ None = rw (← c.self.view_is, ← c.ends_of.ensures) at c.requires.new in
     let added : c.insert.new.self.entries ≡ entries ++ (ends, c.args.at.free) ∷ [] =
     c.in_ok-insert.ensures.entries
-    ∙ insert_entry-new derived.eq-value.it c.self.inside.given ends c.args.at.free (lookup_is (derived.eq-value.it ends) (pair_of ends) entries (λ e. search rules) ∙ absent (pair_of ends) 1 entries fresh) in
+    ∙ insert_entry-new derived.eq-value.it c.self.inside.given ends c.args.at.free (lookup_is (derived.eq-value.it ends) (kept_pair ends) entries (λ e. search rules) ∙ absent (kept_pair ends) 1 entries fresh) in
     let born = slice_set slots free c.bear.new.self in
     let old : c.index_mut-listener.result.now ≡ slot_at born at = at_place born at c.index_mut-listener.result.now (search rules) c.index_mut-listener.ensures.value in (
       length-set born at c.queue.new.self ∙ length-set slots free c.bear.new.self ∙ before.0,
@@ -41,10 +41,10 @@ returns-clause-ok c =
     let at = c.args.at.listener in
     let entries = c.self.inside.given.entries in
     let ends = c.ends_of.result in
-    let fresh : pair_place (pair_of ends) 1 (pairs_of entries) ≡ None = rw (← c.self.view_is, ← c.ends_of.ensures) at c.requires.new in
+    let fresh : pair_place (kept_pair ends) 1 (kept_pairs entries) ≡ None = rw (← c.self.view_is, ← c.ends_of.ensures) at c.requires.new in
     let added : c.insert.new.self.entries ≡ entries ++ (ends, c.args.at.free) ∷ [] =
     c.in_ok-insert.ensures.entries
-    ∙ insert_entry-new derived.eq-value.it c.self.inside.given ends c.args.at.free (lookup_is (derived.eq-value.it ends) (pair_of ends) entries (λ e. search rules) ∙ absent (pair_of ends) 1 entries fresh) in
+    ∙ insert_entry-new derived.eq-value.it c.self.inside.given ends c.args.at.free (lookup_is (derived.eq-value.it ends) (kept_pair ends) entries (λ e. search rules) ∙ absent (kept_pair ends) 1 entries fresh) in
     let born = slice_set slots free c.bear.new.self in
     let old : c.index_mut-listener.result.now ≡ slot_at born at = at_place born at c.index_mut-listener.result.now (search rules) c.index_mut-listener.ensures.value in
     let same : slot_at born at ≡ slot_at slots at = get_or-set_other slots free at c.bear.new.self free_slot (λ e. c.requires.apart (sym e)) in
@@ -53,4 +53,4 @@ returns-clause-ok c =
     (tables_are
     (ap (λ (s : Slot). slice_set born at s) (c.queue.ensures ∙ ap (λ (s : Slot). record s { calls = s.calls ++ call ∷ [] }) (old ∙ same))
     ∙ ap (λ (s : Slot). slice_set (slice_set slots free s) at (record (slot_at slots at) { calls = (slot_at slots at).calls ++ call ∷ [] })) c.bear.ensures)
-    (ap pairs_of added ∙ pairs_added ends free entries ∙ ap (λ (p : Pair). pairs_of entries ++ p ∷ []) c.ends_of.ensures))
+    (ap kept_pairs added ∙ pairs_added ends free entries ∙ ap (λ (p : Pair). kept_pairs entries ++ p ∷ []) c.ends_of.ensures))

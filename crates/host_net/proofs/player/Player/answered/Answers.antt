@@ -1,7 +1,7 @@
 use Rattle.std.proofs.Common.{sym, subst, ◌∙◌}
 use Rattle.host_net.proofs.Answered.{answered_free, answered_owing, tells_free, tells_lost, tells_nothing, tells_owing}
 use Rattle.host_net.proofs.Keeping.{playing}
-use Rattle.host_net.specs.Answering.{IsAnswered}
+use Rattle.host_net.specs.Answering.{AreStepsAnswered}
 use Rattle.host_net.proofs.player.Player.answered.Goals as goal
 
 pub returns-then-not-self-clause-none : goal.returns-then-not-self-clause-none
@@ -12,7 +12,7 @@ returns-then-not-self-clause-none g c =
 pub returns-then-owes-clause-count : goal.returns-then-owes-clause-count
 returns-then-owes-clause-count g c =
     let p = c.self.inside in
-    subst (λ x. IsAnswered g.J.Placing.world x.visit p.before) c.self.view_is
+    subst (λ x. AreStepsAnswered g.J.Placing.world x.visit p.before) c.self.view_is
     (answered_owing g.T.WholeTask.Plays g.J.Placing.world p.guest p.task p.lost p.before
     (c.self.invariant.1 c.if-not-self.false) (sym c.owes.ensures ∙ c.if-owes.true))
 
@@ -31,7 +31,7 @@ returns-then-self-clause-none g c =
 pub returns-clause-count : goal.returns-clause-count
 returns-clause-count g c =
     let p = c.self.inside in
-    subst (λ x. IsAnswered g.J.Placing.world x.visit c.finished.result) c.self.view_is
+    subst (λ x. AreStepsAnswered g.J.Placing.world x.visit c.finished.result) c.self.view_is
     (answered_free g.T.WholeTask.Plays g.J.Placing.world p.guest p.task p.lost p.before
     (c.self.invariant.1 c.if-not-self.false) c.finished.result c.if-self.false
     (sym c.owes.ensures ∙ c.if-owes.false) c.finished.ensures)

@@ -1,5 +1,5 @@
 use Rattle.std.proofs.Common.{◌≡◌, ℕ, ◌+◌, ◌<◌, length, slice_set, ap, sym, subst, ◌∙◌}
-use Rattle.host_net.specs.Groups.{Follows, IsDealt, all_seats, caller, dealt, joined, joined_at, seat_of}
+use Rattle.host_net.specs.Groups.{FollowsDeal, IsDealt, all_seats, caller, dealt, joined, joined_at, seat_of}
 use Rattle.host_net.proofs.Joining.{alone_index, dealt_set, follows_set, grouping, groups_set, on_error}
 use Rattle.host_net.proofs.Seating.{seat_same, seat_within, set_same, some_groups}
 use Rattle.host_net.proofs.players.Players.add.Goals as goal
@@ -36,7 +36,7 @@ invariant_of-self g c =
     let same : slice_set gs k c.add.new.self ≡ gs = ap (slice_set gs k) (c.in_err-add.ensures.err ∙ c.index_mut.ensures.value)
     ∙ set_same gs k c.index_mut.result.now in (
       subst (λ l. IsDealt g.J.Placing.world c.self.inside.callers (all_seats l)) (sym same) c.self.invariant.0,
-      subst (λ l. Follows c.self.inside.deal.items (all_seats l)) (sym same) c.self.invariant.1,
+      subst (λ l. FollowsDeal c.self.inside.deal.items (all_seats l)) (sym same) c.self.invariant.1,
     )
 
 pub returns-in_err-add-clause-err : goal.returns-in_err-add-clause-err

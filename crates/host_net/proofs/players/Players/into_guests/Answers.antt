@@ -1,7 +1,7 @@
 use Rattle.std.proofs.Common.{◌≡◌, ◌++◌, List, [], ◌∷◌, length, length-append, reverse, ap, sym, subst, ◌∙◌, arith}
 use Rattle.std.proofs.lemmas.List.{append-nil, reverse-reverse, nil_from_length}
 use Rattle.host_net.specs.Groups.{IsDealt, all_members, all_seats, visits}
-use Rattle.host_net.specs.Playing.{ArePlayed}
+use Rattle.host_net.specs.Playing.{AreVisitsPlayed}
 use Rattle.net_guests.specs.Visits.{HasGuest, Visit}
 use Rattle.host_net.proofs.Seating.{groups_on, has_guest}
 use Rattle.host_net.proofs.players.Players.into_guests.Goals as goal
@@ -11,7 +11,7 @@ loop-group-init g c = (
   ap (λ (l : List Visit). l ++ visits (all_members (reverse c.reverse.new.self.items))) c.in_ok-guests.ensures.items
       ∙ (ap (λ l. visits (all_members l)) (ap reverse c.reverse.ensures.items ∙ reverse-reverse c.self.inside.groups.items)
       ∙ ap (λ x. visits (all_members x.groups)) c.self.view_is),
-  subst (λ (l : List Visit). ArePlayed g.J.Placing.tasks g.J.Placing.world l) (sym c.in_ok-guests.ensures.items) (λ v there. absurd there),
+  subst (λ (l : List Visit). AreVisitsPlayed g.J.Placing.tasks g.J.Placing.world l) (sym c.in_ok-guests.ensures.items) (λ v there. absurd there),
 )
 
 pub loop-group-smaller : goal.loop-group-smaller

@@ -1,7 +1,7 @@
 use Rattle.std.proofs.Common.{◌≡◌, ◌++◌, List, [], ◌∷◌, length, length-append, reverse, ap, sym, subst, ◌∙◌, arith}
 use Rattle.std.proofs.lemmas.List.{append-nil, reverse-reverse, nil_from_length}
 use Rattle.host_net.specs.Groups.{IsDealt, all_members, all_seats, visits}
-use Rattle.host_net.specs.Playing.{AreGoing, ArePlayed, guests_of}
+use Rattle.host_net.specs.Playing.{AreGoing, AreVisitsPlayed, guests_of}
 use Rattle.net_guests.specs.Visits.{HasGuest, Visit}
 use Rattle.host_net.proofs.Seating.{groups_on, has_guest}
 use Rattle.host_net.proofs.players.Players.into_parts.Goals as goal
@@ -11,7 +11,7 @@ loop-group-init g c = (
   ap (λ l. guests_of l ++ visits (all_members (reverse c.reverse.new.self.items))) c.in_ok-parts.ensures.items
       ∙ (ap (λ l. visits (all_members l)) (ap reverse c.reverse.ensures.items ∙ reverse-reverse c.self.inside.groups.items)
       ∙ ap (λ x. visits (all_members x.groups)) c.self.view_is),
-  subst (λ l. ArePlayed g.J.Placing.tasks g.J.Placing.world (guests_of l)) (sym c.in_ok-parts.ensures.items) (λ v there. absurd there),
+  subst (λ l. AreVisitsPlayed g.J.Placing.tasks g.J.Placing.world (guests_of l)) (sym c.in_ok-parts.ensures.items) (λ v there. absurd there),
   subst (λ l. AreGoing g.T.WholeTask.Goes g.J.Placing.tasks g.J.Placing.world l) (sym c.in_ok-parts.ensures.items) (λ x there. absurd there),
 )
 

@@ -3,7 +3,7 @@ use Rattle.net_base.specs.declared.noted.Noted.{Noted}
 use Rattle.net_base.specs.Stamped.{In}
 use Rattle.journal.specs.declared.law.View.{View}
 use Rattle.journal.specs.declared.tokens.Sight.{Sight}
-use Rattle.journal.specs.Rule.{Kept, Held}
+use Rattle.journal.specs.Rule.{KeptBySeat, Held}
 use Rattle.journal.specs.Tokens.{sight, HoldsAll}
 use Rattle.journal.proofs.Gathering.{closes, whole}
 use Rattle.journal.proofs.Placing.{all_there}
@@ -12,7 +12,7 @@ use Rattle.journal.proofs.word.Journal.close_in_books.Goals as goal
 pub new-requires : goal.new-requires
 new-requires g c =
     let f = c.close_with.ensures.values.2 in
-    let kept : Kept g.J.Naming.run.roster f.0 = subst (λ r. Kept r f.0) c.args.self.roster_is f.1.0 in
+    let kept : KeptBySeat g.J.Naming.run.roster f.0 = subst (λ r. KeptBySeat r f.0) c.args.self.roster_is f.1.0 in
     let v : View = c.pass.inside.seat.me.0 in
     let w : View = c.gather.new.all.me.0 in
     let all : HoldsAll g.J.Naming.run.roster (sight v) = subst (HoldsAll g.J.Naming.run.roster) (sym c.pass.view_is) c.requires.callers in
@@ -31,7 +31,7 @@ new-requires g c =
 pub returns : goal.returns
 returns g c =
     let f = c.close_with.ensures.values.2 in
-    let kept : Kept g.J.Naming.run.roster f.0 = subst (λ r. Kept r f.0) c.args.self.roster_is f.1.0 in
+    let kept : KeptBySeat g.J.Naming.run.roster f.0 = subst (λ r. KeptBySeat r f.0) c.args.self.roster_is f.1.0 in
     let v : View = c.pass.inside.seat.me.0 in
     let w : View = c.gather.new.all.me.0 in
     let all : HoldsAll g.J.Naming.run.roster (sight v) = subst (HoldsAll g.J.Naming.run.roster) (sym c.pass.view_is) c.requires.callers in

@@ -2,7 +2,7 @@ use Rattle.std.proofs.Common.{◌-◌, [], ◌∷◌, ap, sym, subst, ◌∙◌}
 use Rattle.std.specs.Prelude.{vec_len, vec_capacity}
 use Rattle.net_base.specs.declared.noted.Number.TheVariants as number
 use Rattle.journal.specs.declared.law.View.{View}
-use Rattle.journal.specs.Rule.{Looks, both, only}
+use Rattle.journal.specs.Rule.{Looks, both_seen, only}
 use Rattle.journal.specs.Tokens.{sight, Counted, Agrees, OnlyCallers}
 use Rattle.journal.proofs.After.{rested, volume_is, look_kept, look_given, look_agrees, look_actor, looked_with}
 use Rattle.journal.proofs.word.Journal.look_with.Goals as goal
@@ -19,7 +19,7 @@ invariant_of-book g c =
     let book = sym (volume_is a c.book.inside.number (vec_capacity c.book.inside.entries - vec_len c.book.inside.entries) c.book.inside.badge.views u (number.Actor a) b.list (badge ∙ c.into_seat.ensures.2) held) ∙ c.book.view_is in
     let n = c.watch-front.result in
     let w : View = c.watch-front.new.seat.me.0 in
-    let d : Looks g.J.Naming.run.roster (both v u) n w = subst (λ (z : View). Looks g.J.Naming.run.roster z n w) c.take_in.ensures.both c.watch-front.ensures.seen in
+    let d : Looks g.J.Naming.run.roster (both_seen v u) n w = subst (λ (z : View). Looks g.J.Naming.run.roster z n w) c.take_in.ensures.both c.watch-front.ensures.seen in
     let s = c.hand-seat.ensures in
     record {
       few = b.few;
@@ -45,7 +45,7 @@ invariant_of-pass g c =
     let book = sym (volume_is a c.book.inside.number (vec_capacity c.book.inside.entries - vec_len c.book.inside.entries) c.book.inside.badge.views u (number.Actor a) b.list (badge ∙ c.into_seat.ensures.2) held) ∙ c.book.view_is in
     let n = c.watch-front.result in
     let w : View = c.watch-front.new.seat.me.0 in
-    let d : Looks g.J.Naming.run.roster (both v u) n w = subst (λ (z : View). Looks g.J.Naming.run.roster z n w) c.take_in.ensures.both c.watch-front.ensures.seen in
+    let d : Looks g.J.Naming.run.roster (both_seen v u) n w = subst (λ (z : View). Looks g.J.Naming.run.roster z n w) c.take_in.ensures.both c.watch-front.ensures.seen in
     let s = c.hand-seat.ensures in
     record {
       seat = s.seats.0;
@@ -66,7 +66,7 @@ returns g c =
     let book = sym (volume_is a c.book.inside.number (vec_capacity c.book.inside.entries - vec_len c.book.inside.entries) c.book.inside.badge.views u (number.Actor a) b.list (badge ∙ c.into_seat.ensures.2) held) ∙ c.book.view_is in
     let n = c.watch-front.result in
     let w : View = c.watch-front.new.seat.me.0 in
-    let d : Looks g.J.Naming.run.roster (both v u) n w = subst (λ (z : View). Looks g.J.Naming.run.roster z n w) c.take_in.ensures.both c.watch-front.ensures.seen in
+    let d : Looks g.J.Naming.run.roster (both_seen v u) n w = subst (λ (z : View). Looks g.J.Naming.run.roster z n w) c.take_in.ensures.both c.watch-front.ensures.seen in
     let s = c.hand-seat.ensures in
     let room = vec_capacity c.book.inside.entries - vec_len c.book.inside.entries in
     looked_with v u a b.list p.agrees p.callers held g.J.Naming.run.roster n w d c.book.inside.number room

@@ -1,7 +1,7 @@
 use Rattle.std.proofs.Common.{List, sym, subst, ⊎_elim}
 use Rattle.net_base.specs.Stamped.{In, at}
 use Rattle.journal.specs.declared.law.View.{View}
-use Rattle.journal.specs.Rule.{Held, Looks, both}
+use Rattle.journal.specs.Rule.{Held, Looks, both_seen}
 use Rattle.journal.specs.Tokens.{Counted}
 use Rattle.journal.proofs.Counts.{counts_met}
 use Rattle.journal.proofs.After.{met}
@@ -14,7 +14,7 @@ invariant_of-pass g c =
     let q = c.other.invariant in
     let v : View = c.pass.inside.seat.me.0 in
     let u : View = c.other.inside.seat.me.0 in
-    let d : Looks g.J.Naming.run.roster (both v u) c.watch.result c.watch.new.seat.me.0 = subst (λ (z : View). Looks g.J.Naming.run.roster z c.watch.result c.watch.new.seat.me.0) c.take_in.ensures.both c.watch.ensures.seen in record {
+    let d : Looks g.J.Naming.run.roster (both_seen v u) c.watch.result c.watch.new.seat.me.0 = subst (λ (z : View). Looks g.J.Naming.run.roster z c.watch.result c.watch.new.seat.me.0) c.take_in.ensures.both c.watch.ensures.seen in record {
       seat = c.watch.ensures.seat;
       agrees = record { lists = d.lists; clock_is = d.moment_is };
       callers = λ k es i. ⊎_elim (λ t. p.callers k es t) (λ t. q.callers k es t) (in_parts (k, es) v.held u.held (subst (λ (hs : List Held). In (k, es) hs) d.held i));
@@ -29,5 +29,5 @@ returns g c =
     let q = c.other.invariant in
     let v : View = c.pass.inside.seat.me.0 in
     let u : View = c.other.inside.seat.me.0 in
-    let d : Looks g.J.Naming.run.roster (both v u) c.watch.result c.watch.new.seat.me.0 = subst (λ (z : View). Looks g.J.Naming.run.roster z c.watch.result c.watch.new.seat.me.0) c.take_in.ensures.both c.watch.ensures.seen in
+    let d : Looks g.J.Naming.run.roster (both_seen v u) c.watch.result c.watch.new.seat.me.0 = subst (λ (z : View). Looks g.J.Naming.run.roster z c.watch.result c.watch.new.seat.me.0) c.take_in.ensures.both c.watch.ensures.seen in
     met g.J.Naming.run.roster v u c.watch.new.seat.me.0 c.watch.result p.agrees q.agrees d c.args.pass.now c.args.other c.pass.view_is c.other.view_is

@@ -6,8 +6,8 @@ use Rattle.net_base.specs.Stamped.{In}
 use Rattle.journal.specs.declared.law.View.{View}
 use Rattle.journal.specs.declared.tokens.Sight.{Sight}
 use Rattle.journal.specs.declared.tokens.Volume.{Volume}
-use Rattle.journal.specs.Rule.{Held, MayAdd, Timely, Adds, both, only}
-use Rattle.journal.specs.Tokens.{noted, stamped, sight, MayRecord, Agrees, Counted, OnlyCallers}
+use Rattle.journal.specs.Rule.{Held, MayAdd, Timely, Adds, both_seen, only}
+use Rattle.journal.specs.Tokens.{noted_work, stamped, sight, MayBeRecorded, Agrees, Counted, OnlyCallers}
 use Rattle.journal.proofs.After.{rested, volume_is, may_add, kept_held, given_held, pass_agrees, book_agrees, book_short, recorded, gained_callers, map-stamped}
 use Rattle.journal.proofs.Counts.{counts_gain}
 use Rattle.journal.proofs.word.Journal.put.Goals as goal
@@ -16,15 +16,15 @@ pub add-stamp-requires-clause-may : goal.add-stamp-requires-clause-may
 add-stamp-requires-clause-may g c =
     let b = c.book.invariant in
     let p = c.pass.invariant in
-    let x : Noted = noted c.args.entry c.args.work.now in
+    let x : Noted = noted_work c.args.entry c.args.work.now in
     let v : View = c.pass.inside.seat.me.0 in
     let u : View = c.into_seat.result.me.0 in
     let a = c.book.inside.actor in
     let badge = ap (λ z. z.views) (sym c.replace-badge.ensures.value) in
     let held = rested c.book.inside.badge.views u b.view ((number.Actor a, b.list) ∷ []) (badge ∙ c.into_seat.ensures.2) b.views_is b.held in
     let book = sym (volume_is a c.book.inside.number (vec_capacity c.book.inside.entries - vec_len c.book.inside.entries) c.book.inside.badge.views u (number.Actor a) b.list (badge ∙ c.into_seat.ensures.2) held) ∙ c.book.view_is in
-    let may : MayRecord (sight v) record { actor = a; number = c.book.inside.number; seen = u.seen; list = b.list; room = vec_capacity c.book.inside.entries - vec_len c.book.inside.entries } x =
-    subst (λ (z : Volume). MayRecord (sight v) z x) (sym book) (subst (λ (z : Sight). MayRecord z c.args.book.now x) (sym c.pass.view_is) c.requires.may) in
+    let may : MayBeRecorded (sight v) record { actor = a; number = c.book.inside.number; seen = u.seen; list = b.list; room = vec_capacity c.book.inside.entries - vec_len c.book.inside.entries } x =
+    subst (λ (z : Volume). MayBeRecorded (sight v) z x) (sym book) (subst (λ (z : Sight). MayBeRecorded z c.args.book.now x) (sym c.pass.view_is) c.requires.may) in
     let timely : Timely g.J.Naming.run.roster v.held x = subst (λ (z : Sight). Timely g.J.Naming.run.roster z.held x) (sym c.pass.view_is) c.requires.timely in
     subst (λ (z : View). MayAdd g.J.Naming.run.roster z x) (sym c.take_in.ensures.both)
     (may_add v u a b.list p.agrees p.callers held g.J.Naming.run.roster x may.of_caller may.caller may.room may.actor may.moment_is may.event_is timely)
@@ -33,18 +33,18 @@ pub invariant_of-book : goal.invariant_of-book
 invariant_of-book g c =
     let b = c.book.invariant in
     let p = c.pass.invariant in
-    let x : Noted = noted c.args.entry c.args.work.now in
+    let x : Noted = noted_work c.args.entry c.args.work.now in
     let v : View = c.pass.inside.seat.me.0 in
     let u : View = c.into_seat.result.me.0 in
     let a = c.book.inside.actor in
     let badge = ap (λ z. z.views) (sym c.replace-badge.ensures.value) in
     let held = rested c.book.inside.badge.views u b.view ((number.Actor a, b.list) ∷ []) (badge ∙ c.into_seat.ensures.2) b.views_is b.held in
     let book = sym (volume_is a c.book.inside.number (vec_capacity c.book.inside.entries - vec_len c.book.inside.entries) c.book.inside.badge.views u (number.Actor a) b.list (badge ∙ c.into_seat.ensures.2) held) ∙ c.book.view_is in
-    let may : MayRecord (sight v) record { actor = a; number = c.book.inside.number; seen = u.seen; list = b.list; room = vec_capacity c.book.inside.entries - vec_len c.book.inside.entries } x =
-    subst (λ (z : Volume). MayRecord (sight v) z x) (sym book) (subst (λ (z : Sight). MayRecord z c.args.book.now x) (sym c.pass.view_is) c.requires.may) in
+    let may : MayBeRecorded (sight v) record { actor = a; number = c.book.inside.number; seen = u.seen; list = b.list; room = vec_capacity c.book.inside.entries - vec_len c.book.inside.entries } x =
+    subst (λ (z : Volume). MayBeRecorded (sight v) z x) (sym book) (subst (λ (z : Sight). MayBeRecorded z c.args.book.now x) (sym c.pass.view_is) c.requires.may) in
     let n = c.add-stamp.result in
     let w : View = c.add-stamp.new.seat.me.0 in
-    let d : Adds g.J.Naming.run.roster x (both v u) n w = subst (λ (z : View). Adds g.J.Naming.run.roster x z n w) c.take_in.ensures.both c.add-stamp.ensures.added in
+    let d : Adds g.J.Naming.run.roster x (both_seen v u) n w = subst (λ (z : View). Adds g.J.Naming.run.roster x z n w) c.take_in.ensures.both c.add-stamp.ensures.added in
     let s = c.hand-seat.ensures in record {
       few = b.few;
       table_is = c.into_badge.ensures.0 ∙ s.seats.1.0;
@@ -61,18 +61,18 @@ pub invariant_of-pass : goal.invariant_of-pass
 invariant_of-pass g c =
     let b = c.book.invariant in
     let p = c.pass.invariant in
-    let x : Noted = noted c.args.entry c.args.work.now in
+    let x : Noted = noted_work c.args.entry c.args.work.now in
     let v : View = c.pass.inside.seat.me.0 in
     let u : View = c.into_seat.result.me.0 in
     let a = c.book.inside.actor in
     let badge = ap (λ z. z.views) (sym c.replace-badge.ensures.value) in
     let held = rested c.book.inside.badge.views u b.view ((number.Actor a, b.list) ∷ []) (badge ∙ c.into_seat.ensures.2) b.views_is b.held in
     let book = sym (volume_is a c.book.inside.number (vec_capacity c.book.inside.entries - vec_len c.book.inside.entries) c.book.inside.badge.views u (number.Actor a) b.list (badge ∙ c.into_seat.ensures.2) held) ∙ c.book.view_is in
-    let may : MayRecord (sight v) record { actor = a; number = c.book.inside.number; seen = u.seen; list = b.list; room = vec_capacity c.book.inside.entries - vec_len c.book.inside.entries } x =
-    subst (λ (z : Volume). MayRecord (sight v) z x) (sym book) (subst (λ (z : Sight). MayRecord z c.args.book.now x) (sym c.pass.view_is) c.requires.may) in
+    let may : MayBeRecorded (sight v) record { actor = a; number = c.book.inside.number; seen = u.seen; list = b.list; room = vec_capacity c.book.inside.entries - vec_len c.book.inside.entries } x =
+    subst (λ (z : Volume). MayBeRecorded (sight v) z x) (sym book) (subst (λ (z : Sight). MayBeRecorded z c.args.book.now x) (sym c.pass.view_is) c.requires.may) in
     let n = c.add-stamp.result in
     let w : View = c.add-stamp.new.seat.me.0 in
-    let d : Adds g.J.Naming.run.roster x (both v u) n w = subst (λ (z : View). Adds g.J.Naming.run.roster x z n w) c.take_in.ensures.both c.add-stamp.ensures.added in
+    let d : Adds g.J.Naming.run.roster x (both_seen v u) n w = subst (λ (z : View). Adds g.J.Naming.run.roster x z n w) c.take_in.ensures.both c.add-stamp.ensures.added in
     let s = c.hand-seat.ensures in record {
       seat = s.seats.0;
       agrees = subst Agrees (sym s.kept) (pass_agrees v u a b.list p.agrees p.callers held g.J.Naming.run.roster x n w d may.of_caller may.caller may.actor);
@@ -85,18 +85,18 @@ pub returns : goal.returns
 returns g c =
     let b = c.book.invariant in
     let p = c.pass.invariant in
-    let x : Noted = noted c.args.entry c.args.work.now in
+    let x : Noted = noted_work c.args.entry c.args.work.now in
     let v : View = c.pass.inside.seat.me.0 in
     let u : View = c.into_seat.result.me.0 in
     let a = c.book.inside.actor in
     let badge = ap (λ z. z.views) (sym c.replace-badge.ensures.value) in
     let held = rested c.book.inside.badge.views u b.view ((number.Actor a, b.list) ∷ []) (badge ∙ c.into_seat.ensures.2) b.views_is b.held in
     let book = sym (volume_is a c.book.inside.number (vec_capacity c.book.inside.entries - vec_len c.book.inside.entries) c.book.inside.badge.views u (number.Actor a) b.list (badge ∙ c.into_seat.ensures.2) held) ∙ c.book.view_is in
-    let may : MayRecord (sight v) record { actor = a; number = c.book.inside.number; seen = u.seen; list = b.list; room = vec_capacity c.book.inside.entries - vec_len c.book.inside.entries } x =
-    subst (λ (z : Volume). MayRecord (sight v) z x) (sym book) (subst (λ (z : Sight). MayRecord z c.args.book.now x) (sym c.pass.view_is) c.requires.may) in
+    let may : MayBeRecorded (sight v) record { actor = a; number = c.book.inside.number; seen = u.seen; list = b.list; room = vec_capacity c.book.inside.entries - vec_len c.book.inside.entries } x =
+    subst (λ (z : Volume). MayBeRecorded (sight v) z x) (sym book) (subst (λ (z : Sight). MayBeRecorded z c.args.book.now x) (sym c.pass.view_is) c.requires.may) in
     let n = c.add-stamp.result in
     let w : View = c.add-stamp.new.seat.me.0 in
-    let d : Adds g.J.Naming.run.roster x (both v u) n w = subst (λ (z : View). Adds g.J.Naming.run.roster x z n w) c.take_in.ensures.both c.add-stamp.ensures.added in
+    let d : Adds g.J.Naming.run.roster x (both_seen v u) n w = subst (λ (z : View). Adds g.J.Naming.run.roster x z n w) c.take_in.ensures.both c.add-stamp.ensures.added in
     let s = c.hand-seat.ensures in
     let room = vec_capacity c.push_reserved.new.self - vec_len c.push_reserved.new.self in
     recorded v u a b.list p.agrees p.callers held g.J.Naming.run.roster x n w d may.of_caller may.caller may.actor c.book.inside.number (vec_capacity c.book.inside.entries - vec_len c.book.inside.entries) room

@@ -2,7 +2,7 @@ use Rattle.std.proofs.Common.{List, ℕ, None, Some, sym, ap, ◌∙◌, arith, 
 use Rattle.std.specs.Prelude.{codes}
 use Rattle.ndb_tuple.specs.Closest.{first_filled}
 use Rattle.net_base.specs.declared.ndb.spot.Spot.{Spot}
-use Rattle.ndb_index.specs.Near.{AreWithin, SpotsWithin, spot_tuples}
+use Rattle.ndb_index.specs.Near.{AreWithinNear, SpotsWithin, spot_tuples}
 use Rattle.ndb_index.specs.Nets.{longest_places}
 use Rattle.ndb_index.proofs.Nearby.{spots_within, longest_within, mine_cost, near_cost, met_are, closest_first, closest_second}
 use Rattle.ndb_index.proofs.index.Index.closest_counted.Goals as goal
@@ -25,7 +25,7 @@ pub returns-in_err-places-clause-cost : goal.returns-in_err-places-clause-cost
 returns-in_err-places-clause-cost g c = omega (arith, c.closest_of.ensures.cost, mine_cost c.args.me.now c.args.self.now c.deref.result.now (c.deref.ensures.value ∙ c.in_ok-mine.ensures))
 
 pub closest_among-requires : goal.closest_among-requires
-closest_among-requires g c = subst (AreWithin c.args.self.now) (sym (c.deref-3.ensures.value ∙ c.in_ok-places.ensures)) (longest_within c.deref-2.result.now c.args.self.now)
+closest_among-requires g c = subst (AreWithinNear c.args.self.now) (sym (c.deref-3.ensures.value ∙ c.in_ok-places.ensures)) (longest_within c.deref-2.result.now c.args.self.now)
 
 pub returns-in_err-values-2-clause-cost : goal.returns-in_err-values-2-clause-cost
 returns-in_err-values-2-clause-cost g c =

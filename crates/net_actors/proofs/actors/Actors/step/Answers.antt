@@ -2,7 +2,7 @@ use Rattle.std.proofs.Common.{ℕ, get_or, length, refl, OnErr, slice_set, ap, s
 use Rattle.std.proofs.lemmas.Option.{slice_get_read}
 use Rattle.net_base.specs.declared.history.Outcome.{Outcome}
 use Rattle.net_actors.specs.Numbers.{number_of}
-use Rattle.net_actors.specs.Together.{CanStep, MayWantAt, Numbered, Steps}
+use Rattle.net_actors.specs.Together.{CanStep, MayWantAt, Numbered, StepsTogether}
 use Rattle.net_actors.proofs.Placed.{map_ok, steps_at, want_at, within}
 use Rattle.net_actors.proofs.actors.Actors.step.Goals as goal
 
@@ -16,8 +16,8 @@ returns-clause-ok c =
     let there = slice_get_read xs (length xs) n c.index_mut.result.now refl (within here c.args.name c.args.now c.args.work.now can c.self.invariant) at in
     map_ok c.step.result _ _ _
     (λ (o : Outcome) done.
-    subst (λ (v : Numbered). Steps v (record { hosts = c.self.inside.hosts; media = c.self.inside.media; actors = slice_set xs c.number_of-number.result c.step.new.self }) c.args.name c.args.now c.args.work.now o) c.self.view_is
-    (subst (λ (k : ℕ). Steps here (record { hosts = c.self.inside.hosts; media = c.self.inside.media; actors = slice_set xs k c.step.new.self }) c.args.name c.args.now c.args.work.now o) (sym c.number_of-number.ensures)
+    subst (λ (v : Numbered). StepsTogether v (record { hosts = c.self.inside.hosts; media = c.self.inside.media; actors = slice_set xs c.number_of-number.result c.step.new.self }) c.args.name c.args.now c.args.work.now o) c.self.view_is
+    (subst (λ (k : ℕ). StepsTogether here (record { hosts = c.self.inside.hosts; media = c.self.inside.media; actors = slice_set xs k c.step.new.self }) c.args.name c.args.now c.args.work.now o) (sym c.number_of-number.ensures)
     (steps_at here c.args.name c.index_mut.result.now c.step.new.self c.args.now c.args.work.now o there done c.step.ensures.name)))
     c.step.ensures.ok
 

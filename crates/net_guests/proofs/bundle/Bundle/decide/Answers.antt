@@ -6,7 +6,7 @@ use Rattle.net_locks.specs.declared.clock.Advance.{Advance}
 use Rattle.net_locks.specs.declared.clock.Advance.TheVariants as advance
 use Rattle.net_locks.specs.Moving.{Halts, MayGo}
 use Rattle.net_locks.specs.Standings.{AllStand}
-use Rattle.net_guests.specs.Deciding.{Leaves}
+use Rattle.net_guests.specs.Deciding.{LeavesGuest}
 use Rattle.net_guests.specs.Visits.{Carried, IsComplete, visit_of}
 use Rattle.net_guests.proofs.Decided.{gone, halted, held, held_may}
 use Rattle.net_guests.proofs.bundle.Bundle.decide.Goals as goal
@@ -34,7 +34,7 @@ returns-in-Some-clause-leaves g c =
     let v = c.self.inside.visitor in
     let clock = ap (λ (b : Carried). caller_of w b.visit.caller) c.self.view_is ∙ c.requires.clock in
     let h = c.halt-halt.new.bearer in
-    subst (λ (b : Carried). Leaves g.J.Placing.tasks w r b.visit c.in-Some.answer (visit_of (record v { bearer = h }) c.self.inside.fids.names)) c.self.view_is
+    subst (λ (b : Carried). LeavesGuest g.J.Placing.tasks w r b.visit c.in-Some.answer (visit_of (record v { bearer = h }) c.self.inside.fids.names)) c.self.view_is
     (halted g.J.Placing.tasks w r v.bearer h v.duties.list c.self.inside.fids.names clock c.halt-halt.ensures.same c.in-Some.answer c.in-Some.ensures.halts)
 
 pub returns-in-Some-clause-complete : goal.returns-in-Some-clause-complete
@@ -76,5 +76,5 @@ returns-clause-leaves g c =
     let may = subst (λ (o : Option Advance). Halts g.J.Placing.tasks w v.bearer.caller v.bearer.pass o) c.in_default.is c.halt-halt.ensures.halts in
     let went = subst (λ (o : Option ℕ). MayGo g.J.Placing.tasks w r h.caller h.now h.pass v.duties.list o v'.bearer.pass v'.duties.list) c.in-Some-moved.is c.try_move-moved.ensures.go in
     let now : v'.bearer.now ≡ m = c.try_move-moved.ensures.now ∙ ap (λ (o : Option ℕ). unwrap_or o h.now) c.in-Some-moved.is in
-    subst (λ (b : Carried). Leaves g.J.Placing.tasks w r b.visit (advance.Moved m) (visit_of v' names)) c.self.view_is
+    subst (λ (b : Carried). LeavesGuest g.J.Placing.tasks w r b.visit (advance.Moved m) (visit_of v' names)) c.self.view_is
     (gone g.J.Placing.tasks w r v.bearer h v.duties.list names clock c.halt-halt.ensures.same v'.bearer v'.duties.list c.try_move-moved.ensures.caller m now may went)

@@ -1,6 +1,6 @@
 use Rattle.std.proofs.Common.{Some, slice_get, ap, sym, subst, ◌∙◌}
 use Rattle.duties.specs.Queue.{work_of_duty}
-use Rattle.net_guests.specs.Visits.{Carried, IsComplete, Takes, visit_of}
+use Rattle.net_guests.specs.Visits.{Carried, IsComplete, TakesPasses, visit_of}
 use Rattle.net_guests.proofs.Firsts.{first_some}
 use Rattle.net_guests.proofs.Operating.{hosted_on}
 use Rattle.net_guests.proofs.bundle.Bundle.serve.Goals as goal
@@ -18,7 +18,7 @@ serve-requires-clause-some g c =
 pub returns-clause-turn : goal.returns-clause-turn
 returns-clause-turn g c d is =
     let new = visit_of c.serve.new.visitor c.self.inside.fids.names in
-    subst (λ (b : Carried). Takes g.J.Placing.tasks g.J.Placing.world d.actor (work_of_duty d) (Some d.cites) b.visit c.serve.result new) c.self.view_is
+    subst (λ (b : Carried). TakesPasses g.J.Placing.tasks g.J.Placing.world d.actor (work_of_duty d) (Some d.cites) b.visit c.serve.result new) c.self.view_is
     (c.serve.ensures.turn d (ap (λ (b : Carried). slice_get b.visit.owed 0) c.self.view_is ∙ is))
 
 pub returns-clause-complete : goal.returns-clause-complete

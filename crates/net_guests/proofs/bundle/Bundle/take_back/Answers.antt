@@ -1,6 +1,6 @@
 use Rattle.std.proofs.Common.{◌≡◌, ◌==◌, false, List, ℕ, ap, sym, subst, ◌∙◌}
 use Rattle.net_base.specs.declared.noted.Noted.{Noted}
-use Rattle.journal.specs.Tokens.{Holds}
+use Rattle.journal.specs.Tokens.{HoldsPass}
 use Rattle.net_guests.specs.Lent.{IsAway}
 use Rattle.net_guests.specs.Visits.{Carried, IsComplete, IsWith, Visit}
 use Rattle.net_guests.proofs.Returning.{clock_after, me_visits, others_stay, returned}
@@ -16,7 +16,7 @@ hand_over-requires g c =
     let away = c.requires.away.1 in
     let with = subst (λ (b : Carried). IsWith w r v b.visit.sight) (sym c.clock.view_is) c.requires.away.2 in
     let caller = ap (λ (x : Visit). x.caller) (sym away.visit_is) ∙ ap (λ (b : Carried). b.visit.caller) (sym c.self.view_is) in
-    subst (λ (n : ℕ). (es : List (ℕ × Noted)) × Holds clock.visitor.bearer.pass n es) caller (with.guest.list, with.guest.held)
+    subst (λ (n : ℕ). (es : List (ℕ × Noted)) × HoldsPass clock.visitor.bearer.pass n es) caller (with.guest.list, with.guest.held)
 
 pub returns-clause-complete : goal.returns-clause-complete
 returns-clause-complete g c =

@@ -11,7 +11,7 @@ use Rattle.journal.specs.Tokens.{HoldsAll}
 use Rattle.duties.specs.Ticking.{dues_of}
 use Rattle.guest_laws.specs.Guests.{IsGuest}
 use Rattle.guest_laws.specs.Works.{noted_net}
-use Rattle.net_locks.specs.Standings.{awaited_moments}
+use Rattle.net_locks.specs.Standings.{standing_moments}
 use Rattle.net_locks.specs.Knowing.{IsKnown}
 use Rattle.net_locks.specs.Turns.{HasRoom, bare}
 use Rattle.net_locks.proofs.Concluding.{free_of}
@@ -60,7 +60,7 @@ record_move-requires-clause-in_time g c =
     let t = target_is g.J.Placing.tasks w g.J.Naming.run.roster p c.args.standings.now c.requires.all c.args.self.now.of.roster.callers_are (c.nets_of_works_grow.ensures.past w p.seen)
     (c.conversations_are_these.ensures.only w) (c.targets_are_least.ensures g.J.Placing.tasks w (noted_net w p.seen)) c.as_slice-dues.result.now c.least_awaited-awaited.result
     c.least_due-moment.result (c.as_slice-dues.ensures ∙ c.catch_up.ensures.dues c.if-not-catch_up.false)
-    (c.least_awaited-awaited.ensures ∙ ap (λ (v : World). least v.end (awaited_moments c.args.standings.now)) (sym c.requires.world)) c.least_due-moment.ensures in
+    (c.least_awaited-awaited.ensures ∙ ap (λ (v : World). least v.end (standing_moments c.args.standings.now)) (sym c.requires.world)) c.least_due-moment.ensures in
     subst (λ (q : Sight). IsInTimeBy g.J.Placing.tasks (noted_net w q.seen) w (event.Move c.least_due-moment.result)) (sym c.catch_up.ensures.same) (c.requires.may.may, t.0)
 
 pub returns-then-not-catch_up-clause-known : goal.returns-then-not-catch_up-clause-known
@@ -91,7 +91,7 @@ returns-clause-go g c =
     let t = target_is g.J.Placing.tasks w g.J.Naming.run.roster p c.args.standings.now c.requires.all c.args.self.now.of.roster.callers_are (c.nets_of_works_grow.ensures.past w p.seen)
     (c.conversations_are_these.ensures.only w) (c.targets_are_least.ensures g.J.Placing.tasks w (noted_net w p.seen)) c.as_slice-dues.result.now c.least_awaited-awaited.result
     c.least_due-moment.result (c.as_slice-dues.ensures ∙ c.catch_up.ensures.dues c.if-not-catch_up.false)
-    (c.least_awaited-awaited.ensures ∙ ap (λ (v : World). least v.end (awaited_moments c.args.standings.now)) (sym c.requires.world)) c.least_due-moment.ensures in (
+    (c.least_awaited-awaited.ensures ∙ ap (λ (v : World). least v.end (standing_moments c.args.standings.now)) (sym c.requires.world)) c.least_due-moment.ensures in (
       moved_so g.J.Placing.tasks w g.J.Naming.run.roster c.args.visitor.now.bearer.caller c.args.visitor.now.bearer.now c.least_due-moment.result p c.catch_up.new.pass c.record_move.new.bearer.pass c.args.visitor.now.duties.list
           c.reserve.new.self.list c.record_move.new.duties.list c.catch_up.ensures.same c.reserve.ensures.list c.record_move.result c.record_move.ensures.leaves c.if-not-record_move.false,
       t.0,

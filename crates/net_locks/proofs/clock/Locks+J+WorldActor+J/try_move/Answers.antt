@@ -6,7 +6,7 @@ use Rattle.journal.specs.declared.tokens.Sight.{Sight}
 use Rattle.due_moments.specs.Marks.{Covers, Marks}
 use Rattle.guest_laws.specs.Guests.{IsGuest}
 use Rattle.net_locks.specs.Moving.{MayGo}
-use Rattle.net_locks.specs.Turns.{own}
+use Rattle.net_locks.specs.Turns.{own_seen}
 use Rattle.net_locks.proofs.Visited.{early_end}
 use Rattle.net_locks.proofs.clock.Locks+J+WorldActor+J.try_move.Goals as goal
 
@@ -26,9 +26,9 @@ returns-in_default-clause-complete g c =
           (subst (λ (q : Sight). IsGuest w r v.bearer.caller q v.duties.list) (sym still.0) is.guest));
       here = b.now ∙ (is.here ∙ ap (λ (q : Sight). moment_of q.seen) (sym still.0));
       early = omega (arith, is.early, b.now);
-      covers = subst (λ (n : ℕ). Covers (own n v'.bearer.pass) v'.touched) (sym b.caller)
-          (subst (λ (q : Sight). Covers (own v.bearer.caller q) v'.touched) (sym still.0)
-          (subst (λ (m : Marks). Covers (own v.bearer.caller v.bearer.pass) m) (sym c.reach.ensures.touched) is.covers));
+      covers = subst (λ (n : ℕ). Covers (own_seen n v'.bearer.pass) v'.touched) (sym b.caller)
+          (subst (λ (q : Sight). Covers (own_seen v.bearer.caller q) v'.touched) (sym still.0)
+          (subst (λ (m : Marks). Covers (own_seen v.bearer.caller v.bearer.pass) m) (sym c.reach.ensures.touched) is.covers));
       known = c.reach.ensures.known;
     }
 
@@ -46,7 +46,7 @@ returns-clause-complete g c =
       guest = subst (λ (n : ℕ). IsGuest w r n v'.bearer.pass v'.duties.list) (sym b.caller) gone.0.guest;
       here = gone.0.here;
       early = early_end m c.args.world.now.end c.requires.is.end (omega (arith, gone.2, ap (λ (u : World). u.end) c.requires.world));
-      covers = c.forget.ensures.covers (own v'.bearer.caller v'.bearer.pass) (subst (λ (n : ℕ). Covers (own n v'.bearer.pass) v'.touched) (sym b.caller)
-          (subst (λ (t : Marks). Covers (own v.bearer.caller v'.bearer.pass) t) (sym c.reach.ensures.touched) (gone.0.covers v.touched is.covers)));
+      covers = c.forget.ensures.covers (own_seen v'.bearer.caller v'.bearer.pass) (subst (λ (n : ℕ). Covers (own_seen n v'.bearer.pass) v'.touched) (sym b.caller)
+          (subst (λ (t : Marks). Covers (own_seen v.bearer.caller v'.bearer.pass) t) (sym c.reach.ensures.touched) (gone.0.covers v.touched is.covers)));
       known = c.reach.ensures.known;
     }

@@ -1,5 +1,5 @@
 use Rattle.std.proofs.Common.{◌∙◌}
-use Rattle.net_actors.specs.Kept.{state_of}
+use Rattle.net_actors.specs.Kept.{kept_state}
 use Rattle.net_locks.proofs.Works.{ready_named}
 use Rattle.net_locks.proofs.machine.WorldActorMachine.ready.Goals as goal
 
@@ -7,4 +7,4 @@ pub returns : goal.returns
 returns g c =
     let w = g.P.Placing.world in
     let kept = c.self.inside.actor in
-    c.ready.ensures w c.self.invariant ∙ ready_named w kept.name (state_of kept) c.args.now c.args.work.now c.args.self.now c.self.view_is
+    c.ready.ensures w c.self.invariant ∙ ready_named w kept.name (kept_state kept) c.args.now c.args.work.now c.args.self.now c.self.view_is

@@ -1,11 +1,11 @@
 use Rattle.std.proofs.Common.{length, refl, ap, sym, subst, ◌∙◌, arith, rules}
 use Rattle.net_base.specs.declared.actor.ActorName.{ActorName}
-use Rattle.guest_laws.specs.Guests.{IsGuest, Records}
-use Rattle.guest_laws.specs.Named.{answer_in, opening}
+use Rattle.guest_laws.specs.Guests.{IsGuest, GuestRecords}
+use Rattle.guest_laws.specs.Named.{answer_in, named_opening}
 use Rattle.guest_laws.specs.Works.{noted_net}
 use Rattle.journal.specs.declared.tokens.Sight.{Sight}
 use Rattle.locked.specs.Acts.{IsNotReady}
-use Rattle.net_locks.specs.Turns.{own}
+use Rattle.net_locks.specs.Turns.{own_seen}
 use Rattle.net_locks.proofs.Turning.{has_number, owed_few, unready, unready_there}
 use Rattle.net_locks.proofs.turn.Locks+J+WorldActor+J.attempt.Goals as goal
 
@@ -17,7 +17,7 @@ act-requires-clause-room g c =
 pub returns-in-Done-clause-here : goal.returns-in-Done-clause-here
 returns-in-Done-clause-here g c =
     let b = c.args.bearer.now in
-    let d = subst (λ (a : ActorName). Records g.J.Placing.world g.J.Naming.run.roster a b.caller b.now c.args.work.now c.args.cites b.pass c.in-Done.stamp c.in-Done.outcome c.act.new.pass)
+    let d = subst (λ (a : ActorName). GuestRecords g.J.Placing.world g.J.Naming.run.roster a b.caller b.now c.args.work.now c.args.cites b.pass c.in-Done.stamp c.in-Done.outcome c.act.new.pass)
     c.in-Some.ensures.some c.in-Done.ensures in
     c.requires.here ∙ sym (d.moment_kept c.requires.other)
 
@@ -29,7 +29,7 @@ returns-in-Done-clause-attempted g c ds guest turn =
     let work = c.args.work.now in
     let b = c.args.bearer.now in
     let p' = c.act.new.pass in
-    let d = subst (λ (n : ActorName). Records w r n b.caller b.now work c.args.cites b.pass c.in-Done.stamp c.in-Done.outcome p') c.in-Some.ensures.some c.in-Done.ensures in
+    let d = subst (λ (n : ActorName). GuestRecords w r n b.caller b.now work c.args.cites b.pass c.in-Done.stamp c.in-Done.outcome p') c.in-Some.ensures.some c.in-Done.ensures in
     let rec = c.guests_record.ensures w r a b.caller b.now work c.args.cites b.pass ds c.in-Done.stamp c.in-Done.outcome p' guest turn d in
     record {
       records = d;
@@ -52,7 +52,7 @@ returns-in-NotReady-clause-attempted g c ds guest =
     let work = c.args.work.now in
     let b = c.args.bearer.now in
     let p' = c.act.new.pass in
-    let n = subst (λ (m : ActorName). IsNotReady (opening w) (answer_in w) r m b.now work b.pass c.in-NotReady.front p') c.in-Some.ensures.some c.in-NotReady.ensures in
+    let n = subst (λ (m : ActorName). IsNotReady (named_opening w) (answer_in w) r m b.now work b.pass c.in-NotReady.front p') c.in-Some.ensures.some c.in-NotReady.ensures in
     let stays = c.guests_look.ensures w r b.caller b.pass ds c.in-NotReady.front p' guest n.look in
     record {
       guest = stays.guest;
@@ -66,7 +66,7 @@ returns-in-Memory-clause-attempted g c ds guest =
     record {
       guest = subst (λ (q : Sight). IsGuest g.J.Placing.world g.J.Naming.run.roster b.caller q ds) (sym c.in-Memory.ensures) guest;
       turned = (c.requires.room, c.in-Memory.ensures, refl);
-      alone = ap (own b.caller) c.in-Memory.ensures;
+      alone = ap (own_seen b.caller) c.in-Memory.ensures;
     }
 
 pub returns-in_default-clause-attempted : goal.returns-in_default-clause-attempted

@@ -1,6 +1,6 @@
 use Rattle.std.proofs.Common.{List, drop, None, ap, sym, subst, ◌∙◌, arith, rules}
 use Rattle.net_base.specs.Duties.{Duty}
-use Rattle.guest_laws.specs.Guests.{IsTurn}
+use Rattle.guest_laws.specs.Guests.{IsGuestTurn}
 use Rattle.net_locks.specs.declared.turn.Turn.{Turn}
 use Rattle.net_locks.specs.Turns.{bare}
 use Rattle.net_locks.specs.Visitors.{Visited}
@@ -10,7 +10,7 @@ use Rattle.net_locks.proofs.turn.Locks+J+WorldActor+J.own.Goals as goal
 pub settle-requires-clause-owing : goal.settle-requires-clause-owing
 settle-requires-clause-owing g c =
     let v = c.args.visitor.now in
-    let is = subst (λ (l : List Duty). IsTurn g.J.Placing.world v.bearer.caller v.bearer.pass l c.args.actor (bare c.args.event) None) (sym c.requires.free) c.requires.turn in
+    let is = subst (λ (l : List Duty). IsGuestTurn g.J.Placing.world v.bearer.caller v.bearer.pass l c.args.actor (bare c.args.event) None) (sym c.requires.free) c.requires.turn in
     let d = c.in-Ok.ensures.attempted v.duties.list c.requires.complete.guest is in
     let room = c.in_default.ensures.none (search rules) in
     omega (arith, d.few, room.1)
@@ -19,7 +19,7 @@ pub returns-in-Ok-clause-complete : goal.returns-in-Ok-clause-complete
 returns-in-Ok-clause-complete g c =
     let w = g.J.Placing.world in
     let v = c.args.visitor.now in
-    let is = subst (λ (l : List Duty). IsTurn w v.bearer.caller v.bearer.pass l c.args.actor (bare c.args.event) None) (sym c.requires.free) c.requires.turn in
+    let is = subst (λ (l : List Duty). IsGuestTurn w v.bearer.caller v.bearer.pass l c.args.actor (bare c.args.event) None) (sym c.requires.free) c.requires.turn in
     let d = c.in-Ok.ensures.attempted v.duties.list c.requires.complete.guest is in
     let room = c.in_default.ensures.none (search rules) in
     let rest = c.lacks_room.ensures.list ∙ (c.requires.free ∙ sym (ap (λ (l : List Duty). drop 1 l) c.requires.free)) in
@@ -31,7 +31,7 @@ pub returns-in-Ok-clause-turn : goal.returns-in-Ok-clause-turn
 returns-in-Ok-clause-turn g c =
     let w = g.J.Placing.world in
     let v = c.args.visitor.now in
-    let is = subst (λ (l : List Duty). IsTurn w v.bearer.caller v.bearer.pass l c.args.actor (bare c.args.event) None) (sym c.requires.free) c.requires.turn in
+    let is = subst (λ (l : List Duty). IsGuestTurn w v.bearer.caller v.bearer.pass l c.args.actor (bare c.args.event) None) (sym c.requires.free) c.requires.turn in
     let d = c.in-Ok.ensures.attempted v.duties.list c.requires.complete.guest is in
     let room = c.in_default.ensures.none (search rules) in
     let rest = c.lacks_room.ensures.list ∙ (c.requires.free ∙ sym (ap (λ (l : List Duty). drop 1 l) c.requires.free)) in

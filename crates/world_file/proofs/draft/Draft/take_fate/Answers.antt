@@ -12,7 +12,7 @@ returns-then-place-len c =
     let change = spec.with_fate c.args.fate in
     let len = c.len.ensures ∙ c.self.inside.media.ok.0 in
     let lt = c.if-place-len.true in
-    with_media _ c.args.self.now _ (spec.on_medium c.args.name.now change) c.self.view_is
+    with_media _ c.args.self.now _ (spec.on_named_medium c.args.name.now change) c.self.view_is
     (set_medium c.args.name.now change c.self.inside.media.items c.medium_place-place.result c.index_mut-medium.result.now c.add_fate.new.self
     (ap (λ (d : spec.Draft). all_apart bytes_eq (map (λ (s : MediumSpec). s.name) d.media)) c.self.view_is ∙ c.requires.small.named)
     (c.medium_place-place.ensures ∙ ap (position_or_len (spec.is_medium_named c.args.name.now)) c.as_slice.ensures.value)
@@ -21,7 +21,7 @@ returns-then-place-len c =
 pub returns : goal.returns
 returns c =
     let change = spec.with_fate c.args.fate in
-    same_media c.args.self.now (spec.on_medium c.args.name.now change)
+    same_media c.args.self.now (spec.on_named_medium c.args.name.now change)
     (past_name c.args.name.now change c.as_slice.result.now c.args.self.now.media c.medium_place-place.result c.len.result
     c.medium_place-place.ensures (c.as_slice.ensures.value ∙ ap (λ (d : spec.Draft). d.media) c.self.view_is)
     (c.len.ensures ∙ sym c.as_slice.ensures.len) c.if-place-len.false)
