@@ -23,7 +23,7 @@ use Rattle.whole_script.specs.declared.place.PlaceTask.{PlaceTask}
 use Rattle.whole_script.specs.declared.place.PlaceTask.TheVariants as place
 use Rattle.whole_script.specs.Places as places
 use Rattle.net_base.proofs.Shared.{in_front, script_is}
-use Rattle.history_laws.proofs.DirPairs.{in_last}
+use Rattle.history_laws.proofs.Shared.{in_last}
 
 in_either : {A : Type 0} (x y : A) (xs : List A) → In x (xs ++ y ∷ []) → In x xs ⊎ (x ≡ y)
 in_either x y [] (inl same) = inr same

@@ -10,8 +10,8 @@ use Rattle.net_base.specs.declared.world.World.{World}
 use Rattle.net_base.specs.Actors.{has_actor, slot_count}
 use Rattle.net_base.specs.Duties.{conversations, slots_of}
 use Rattle.net_base.specs.Stamped.{In}
-use Rattle.net_base.proofs.Members.{in_flat}
-use Rattle.history_laws.proofs.Ordered.{in_range}
+use Rattle.net_base.proofs.Shared.{in_flat}
+use Rattle.history_laws.proofs.Shared.{in_range}
 
 -- Ranges.
 

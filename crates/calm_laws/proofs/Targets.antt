@@ -12,7 +12,7 @@ use Rattle.net_base.specs.Tasks.{Tasks}
 use Rattle.calm_laws.specs.Moments.{IsAwaited, IsDue}
 use Rattle.calm_laws.proofs.Members.{filter_map_in, in_either, in_filter_map, in_left, in_right, range_in}
 use Rattle.net_base.proofs.Shared.{within_last, within_each}
-use Rattle.history_laws.proofs.Ordered.{in_range}
+use Rattle.history_laws.proofs.Shared.{in_range}
 
 -- The least.
 

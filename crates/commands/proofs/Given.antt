@@ -12,7 +12,7 @@ use Rattle.commands.specs.Built.{asking, cs_found, cs_over, dns_found, dns_over,
 use Rattle.checked_input.specs.Input.{bad_world}
 use Rattle.command_line.specs.Asking.{IsGiven}
 use Rattle.command_line.proofs.Shared.{answer_within, within_limit}
-use Rattle.world_file.proofs.SessionWorlds.{ok-err}
+use Rattle.world_file.proofs.Shared.{ok-err}
 
 -- what was found, unless a line is bad
 given_unless : (asked : Command) (input : List ℕ) (answer found : Answer) (bad : Option (ℕ × ℕ)) → (answer ≡ found → IsFound asked input answer)

@@ -1,6 +1,6 @@
 -- A run ends in one way, and so has one status.
-use Rattle.std.proofs.Common.{◌≡◌, ◌==◌, ◌&&◌, not, Some, Bool, true, false, refl, sym, inl, inr, arith}
-use Rattle.std.proofs.lemmas.Bool.{and_parts, true≢false}
+use Rattle.std.proofs.Common.{◌≡◌, ◌==◌, ◌&&◌, not, Some, Bool, true, false, refl, inl, inr, arith}
+use Rattle.std.proofs.lemmas.Bool.{and_parts}
 use Rattle.net_base.specs.declared.world.World.{World}
 use Rattle.net_base.specs.Calm.{calm, unfinished, limited, done, stopped}
 use Rattle.net_base.specs.Net.{Net}
@@ -11,7 +11,7 @@ use Rattle.run_record.specs.declared.end.RunEnd.TheVariants as ended
 use Rattle.transcript.specs.RunStatus.{run_end_word}
 use Rattle.commands.specs.Built.{IsStatus}
 use Rattle.commands.specs.Runs.{status_of}
-use Rattle.journal.proofs.Steps.{not_both}
+use Rattle.journal.proofs.Shared.{not_both}
 
 module _ (w : World) (net : Net) where
   done_parts : done w net ≡ true → (not (limited w net) ≡ true) × (not (unfinished w net) ≡ true)

@@ -6,8 +6,8 @@ use Rattle.std.proofs.lemmas.List.{take_more}
 use Rattle.std.proofs.lemmas.List.Elements.{filter-append}
 use Rattle.std.proofs.lemmas.Bool.Decides.{nat_tests}
 use Rattle.net_base.specs.Cs.{once_each}
-use Rattle.net_base.proofs.Ranges.{cond_true, cond_false}
-use Rattle.ndb_tuple.proofs.Firsts.{turned}
+use Rattle.net_base.proofs.Shared.{cond_true, cond_false}
+use Rattle.ndb_tuple.proofs.Shared.{turned}
 
 -- the numbers that are not this one
 abbrev pub others : ℕ → List ℕ → List ℕ

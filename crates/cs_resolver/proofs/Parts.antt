@@ -2,7 +2,7 @@
 use Rattle.std.proofs.Common.{None, ◌≡◌, ℕ, ◌<◌, List, [], ◌∷◌, length, refl, arith}
 use Rattle.net_base.specs.Addresses.{parts_at}
 use Rattle.net_base.specs.Cs.{query_of, read_query}
-use Rattle.net_base.proofs.Texts.{some_part}
+use Rattle.net_base.proofs.Shared.{some_part}
 
 more_than_three : (a b c : List ℕ) (others : List (List ℕ)) → 0 < length others → query_of (a ∷ b ∷ c ∷ others) ≡ None
 more_than_three a b c [] more = absurd (omega arith)

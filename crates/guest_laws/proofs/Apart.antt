@@ -19,7 +19,7 @@ use Rattle.history_laws.specs.Apart as apart
 use Rattle.guest_laws.specs.Works.{step_by, noted_after, next_noted, noted_from, noted_net, owed_in, entries}
 use Rattle.guest_laws.specs.Own.{IsTurnOf, IsNextOf, IsTimelyIn, OwnFrom, EachOwn, OwnStandsStill, OwnGains}
 use Rattle.guest_laws.proofs.Nets.{noted_from-append, noted_push}
-use Rattle.net_base.proofs.Members.{no_cons}
+use Rattle.net_base.proofs.Shared.{no_cons}
 
 same_and : {A : Type 0} (xs ys : List A) → xs ++ ys ≡ xs → ys ≡ []
 same_and xs ys e = nil_from_length ys (omega (arith, sym (ap length e) ∙ length-append xs ys))

@@ -8,3 +8,4 @@ pub mod Views
 pub mod Turns
 pub mod FewCalls
 pub mod Away
+pub mod Shared

@@ -17,7 +17,7 @@ use Rattle.net_base.specs.Stamped.{entries_from, of_caller}
 use Rattle.net_base.specs.Tasks.{Tasks}
 use Rattle.history_laws.specs.Apart.{StandsStill, step_in, own_steps_from, own_steps, owed_then, owed_by}
 use Rattle.history_laws.proofs.Histories.{net_of-append}
-use Rattle.net_base.proofs.Members.{no_cons}
+use Rattle.net_base.proofs.Shared.{no_cons}
 
 module _ (w : World) (c : ℕ) where
   -- an entry of another caller

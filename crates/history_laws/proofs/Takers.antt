@@ -9,7 +9,7 @@ use Rattle.net_base.specs.declared.packet.Packet.{Packet}
 use Rattle.net_base.specs.Directory.{Key, Slot, Dir, is_free, is_announced, is_keyed, Exactly, ByPort, ByAny, key_at, match_of, or_else, first_slot, pair_place, Taker, taker_of, is_first_packet}
 use Rattle.net_base.specs.Mirror.{mirror}
 use Rattle.net_base.specs.Same.{same_pair}
-use Rattle.net_base.proofs.Members.{none_is}
+use Rattle.net_base.proofs.Shared.{none_is}
 
 -- Slots.
 

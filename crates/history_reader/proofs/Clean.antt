@@ -8,8 +8,7 @@ use Rattle.net_base.specs.Numeral.{numeral}
 use Rattle.net_base.specs.Plain.{IsClean, IsLine}
 use Rattle.net_base.specs.Transcript.{ip_word}
 use Rattle.words.proofs.Shared.{numeral_by_steps}
-use Rattle.net_base.proofs.Shared.{number_itself}
-use Rattle.net_base.proofs.HexTexts.{digit-other}
+use Rattle.net_base.proofs.Shared.{number_itself, digit-other}
 
 -- no byte of the word is this one
 abbrev pub IsFree : ℕ → List ℕ → Type 0

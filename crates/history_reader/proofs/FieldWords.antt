@@ -32,8 +32,7 @@ use Rattle.history_reader.specs.Fields.{Words, Read, both_fields, read_as, one}
 use Rattle.history_reader.specs.Wide.{IfAny, IsLongField, IsNarrow, IsOctet, IsPlace, IsPort, IsWideActor}
 use Rattle.history_reader.proofs.Clean.{IsFree, AreFree, free_address, free_both, free_numeral, one_part, parts_back}
 use Rattle.history_reader.proofs.Exact.{AreBare, AreRows, Exact, ExactWord, IsBare, bare_row, exact_as, exact_both, exact_made, exact_one, exact_parts, exact_spelled, made_told, row, rows_sound}
-use Rattle.net_base.proofs.Shared.{number_in-spelled, number-back, within-is, address-dotted, address-back}
-use Rattle.net_base.proofs.PathNames.{proto_back}
+use Rattle.net_base.proofs.Shared.{number_in-spelled, number-back, within-is, address-dotted, address-back, proto_back}
 
 -- Numbers.
 

@@ -3,7 +3,7 @@ use Rattle.std.proofs.Common.{◌≡◌, ℕ, List, [], ◌∷◌, ap, arith, le
 use Rattle.std.specs.List.{join_with_byte}
 use Rattle.std.proofs.lemmas.List.Splits.{join_with_byte-slice_split}
 use Rattle.net_base.specs.Addresses.{parts_at}
-use Rattle.net_base.proofs.Texts.{some_part}
+use Rattle.net_base.proofs.Shared.{some_part}
 
 pub some_word : (separator : ℕ) (text : List ℕ) → parts_at separator text ≡ [] → ⊥
 some_word separator text e =

@@ -11,9 +11,8 @@ use Rattle.std.proofs.lemmas.List.{map_push}
 use Rattle.net_base.specs.Addresses.{is_padded}
 use Rattle.net_base.specs.Numeral.{numeral}
 use Rattle.history_reader.specs.LineReading.{is_numeral}
-use Rattle.words.proofs.Shared.{numeral_by_steps}
-use Rattle.words.proofs.Numerals.{numeral_one}
-use Rattle.net_base.proofs.NumberTexts.{in-range}
+use Rattle.words.proofs.Shared.{numeral_by_steps, numeral_one}
+use Rattle.net_base.proofs.Shared.{in-range}
 
 -- the number that goes on with these digits
 pub value : ℕ → List ℕ → ℕ

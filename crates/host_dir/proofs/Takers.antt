@@ -14,7 +14,7 @@ use Rattle.host_dir.specs.declared.slots.TakerAt.{TakerAt}
 use Rattle.host_dir.specs.Found.{found_at, slot_at}
 use Rattle.host_dir.specs.Taking.{TakesSlot, may_take}
 use Rattle.host_dir.proofs.Firsts.{passes_at}
-use Rattle.net_base.proofs.Members.{none_is}
+use Rattle.net_base.proofs.Shared.{none_is}
 
 -- what matches announces
 announces : (a : Addr) (slots : List Slot) (n : ℕ) → match_of a slots ≡ found_at slots (Some n) → is_announced (slot_at slots n).kind ≡ true

@@ -23,7 +23,7 @@ use Rattle.net_base.specs.Versions.{Tuples}
 use Rattle.net_base.specs.Steps.{Names}
 use Rattle.net_base.specs.Summary.{answered_by, answered_steps}
 use Rattle.guest_laws.specs.Works.{entries}
-use Rattle.net_guests.proofs.Shared.{apart_test, last_or}
+use Rattle.net_guests.proofs.Shared.{apart_test, last_or, owes_some, free_none}
 use Rattle.host_net.proofs.Histories.{lists_are}
 use Rattle.host_net.proofs.Joining.{get_index}
 use Rattle.host_net.proofs.Seating.{get_seats, seats_long}
@@ -35,7 +35,6 @@ use Rattle.host_net.specs.Groups.{members, seat_of, seats, visits, with_last}
 use Rattle.host_net.specs.Playing.{IsCounted, Playing, replies_of}
 use Rattle.net_guests.specs.Visits.{Visit}
 use Rattle.net_base.proofs.Shared.{in_front, in_back, in_parts, there_at, next_one}
-use Rattle.net_guests.proofs.Firsts.{owes_some, free_none}
 
 -- One player.
 

@@ -24,7 +24,7 @@ use Rattle.script_task.specs.Fitting.{fits}
 use Rattle.guest_laws.specs.Named.{Named, answer_in, named, named_opening}
 use Rattle.guest_laws.specs.Works.{entries, noted_net}
 use Rattle.net_base.proofs.Shared.{number_itself}
-use Rattle.guest_laws.proofs.Nets.{named_left}
+use Rattle.guest_laws.proofs.Shared.{named_left}
 
 -- The own entries.
 

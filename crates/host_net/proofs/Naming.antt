@@ -8,7 +8,7 @@ use Rattle.std.proofs.lemmas.Option.{slice_get_past}
 use Rattle.net_base.specs.declared.world.Script.{Script}
 use Rattle.net_base.specs.declared.world.World.{World}
 use Rattle.net_base.specs.Callers.{IsClock, IsCourier, IsNobody, IsScript, caller_count, caller_of, clock_number, first_courier, other_caller}
-use Rattle.net_locks.proofs.Sighted.{clock_at}
+use Rattle.net_locks.proofs.Shared.{clock_at}
 
 by_script : (w : World) (c : ℕ) (o : Option Script) → slice_get w.scripts c ≡ o
     → caller_of w c ≡ option_map_or (λ (s : Script). IsScript s) o (other_caller w c)

@@ -20,7 +20,7 @@ use Rattle.host_net.specs.Groups.{GroupsApart, AreUpTo, Grouped, IsSeated, Seats
 use Rattle.host_net.specs.Groups.{members, seats, visits, with_last}
 use Rattle.host_net.specs.Playing.{Playing}
 use Rattle.net_guests.specs.Visits.{HasGuest, IsWith, Visit}
-use Rattle.net_locks.proofs.Sighted.{clock_at}
+use Rattle.net_locks.proofs.Shared.{clock_at}
 
 -- The clock's number.
 

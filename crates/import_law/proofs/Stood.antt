@@ -2,7 +2,6 @@
 use Rattle.std.proofs.Common.{◌≡◌, ℕ, ◌==◌, Bool, true, false, List, [], ◌∷◌, ◌++◌, Option, Some, None, refl, sym, ap, subst, ◌∙◌, arith, append-nil}
 use Rattle.std.specs.Prelude.{filter, is_none}
 use Rattle.std.proofs.lemmas.Bool.{eqb-true}
-use Rattle.std.proofs.lemmas.List.Elements.{filter-append}
 use Rattle.std.proofs.lemmas.Option.{none-some}
 use Rattle.net_base.specs.declared.history.Entry.{Entry}
 use Rattle.net_base.specs.declared.world.Script.{Script}
@@ -11,14 +10,13 @@ use Rattle.net_base.specs.Callers.{Caller, IsScript, caller_of}
 use Rattle.net_base.specs.Duties.{Duty}
 use Rattle.net_base.specs.Legal.{IsAsked, IsLegal, MayFollow, asked_by, cites_of}
 use Rattle.net_base.specs.Net.{owed}
-use Rattle.net_base.specs.Next.{by, finished_by, next_recorded, next_of, own_entries, own_replies, standing, zone_of}
+use Rattle.net_base.specs.Next.{finished_by, next_recorded, next_of, own_entries, own_replies, standing, zone_of}
 use Rattle.net_base.specs.Scripts.{at_first}
-use Rattle.history_laws.proofs.Shared.{by_entries}
+use Rattle.history_laws.proofs.Shared.{by_entries, own_push, one_own}
 use Rattle.import_law.specs.ImportLaw.{StandsInOrder}
 use Rattle.import_law.specs.Order.{StandInOrder}
 use Rattle.import_law.specs.Scripted.{scripted}
 use Rattle.import_law.proofs.Plays.{Stood, counted, none_stood, replies, stood_push}
-use Rattle.history_laws.proofs.Asked.{own_push, one_own}
 
 -- what a script records where it owes nothing is its next event
 pub asks_next : (w : World) (past : List Entry) (ds : List Duty) (k : Caller) (c : ℕ) (s : Script) (x : Entry)

@@ -24,7 +24,7 @@ use Rattle.cs_resolver.proofs.Shared.{among, once_push, same_any}
 use Rattle.net_base.specs.DomainAnswers.{ZoneKey, is_unknown, naming_record, records_beside, records_found}
 use Rattle.net_base.specs.DomainNames.{name_in}
 use Rattle.ndb_dns.proofs.Lowering.{is_valid, valid_at}
-use Rattle.ndb_tuple.proofs.Firsts.{turned}
+use Rattle.ndb_tuple.proofs.Shared.{turned}
 
 -- ---- values at spots
 

@@ -23,7 +23,7 @@ use Rattle.ndb_index.specs.Kept.{spot_in, spots_from, spots_with}
 use Rattle.ndb_index.specs.Nets.{is_own_network, own_places, longest_places}
 use Rattle.ndb_index.specs.Index.{near_count}
 use Rattle.ndb_index.specs.Near.{AreWithinNear, FindsPlaces, SpotsWithin, tuples_at, spot_tuples, numbers_of}
-use Rattle.net_base.proofs.Members.{length_map}
+use Rattle.net_base.proofs.Shared.{length_map}
 
 abbrev pub Db : Type 0
 Db = List (List (List NdbPair))

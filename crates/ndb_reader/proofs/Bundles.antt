@@ -1,5 +1,5 @@
 -- A bundle without a bad line is spelled by the tuples of its database.
-use Rattle.std.proofs.Common.{◌≡◌, ℕ, ◌+◌, ◌<◌, Bool, true, false, not, ◌&&◌, ◌||◌, cond, List, [], ◌∷◌, ◌++◌, length, take, drop, get_or, refl, sym, ap, subst, ◌∙◌, arith, Option, Some, None, length-append}
+use Rattle.std.proofs.Common.{◌≡◌, ℕ, ◌+◌, Bool, true, false, not, ◌||◌, List, [], ◌∷◌, ◌++◌, length, take, drop, get_or, refl, sym, ap, subst, ◌∙◌, arith, None, length-append}
 use Rattle.std.specs.Prelude.{codes}
 use Rattle.std.specs.List.{list_any, before_first}
 use Rattle.std.proofs.Math.Seq.{take-append_seam}
@@ -8,13 +8,11 @@ use Rattle.std.proofs.lemmas.List.{take_all}
 use Rattle.std.proofs.lemmas.Slice.Eq.{bytes_eq-Decides}
 use Rattle.std.proofs.lemmas.Bool.{and_parts, not-true}
 use Rattle.net_base.specs.Ndb.{NdbPair}
-use Rattle.net_base.specs.NdbText.{is_white, is_zero, is_empty, pairs_of, starts_tuple, goes_on, going_on, tuples_of, lines_of, begins_with}
-use Rattle.net_base.specs.NdbBundle.{File, unnamed_file, local_file, named_files, file_of, bundle_file, is_file_line, has_tuple, cause, causes_of, least_of_causes, told_line, first_bad, bad_line, database}
+use Rattle.net_base.specs.NdbText.{is_white, is_zero, is_empty, starts_tuple, goes_on, going_on, tuples_of, lines_of, begins_with}
+use Rattle.net_base.specs.NdbBundle.{File, unnamed_file, local_file, named_files, file_of, bundle_file, is_file_line, has_tuple, causes_of, first_bad, bad_line, database}
 use Rattle.ndb_text.specs.NdbSpelling.{ReadsTuples, ReadsFile, ReadsFiles, ReadsBundle, IsFileName}
-use Rattle.ndb_text.proofs.Shared.{some_none, none-drop, EachSpelled, line_is_spelled, tuples_spelled}
+use Rattle.ndb_text.proofs.Shared.{none-drop, EachSpelled, line_is_spelled, tuples_spelled, cause-none, first-good, not_alone, going_on-at, and_not, some_of}
 use Rattle.ndb_reader.proofs.Reading.{Next, has-file, has-line, before-more, before-stop, named-more, named-stop}
-use Rattle.ndb_text.proofs.NdbFiles.{cause-none, least-none, told-none, first-good, not_alone, going_on-at, and_not}
-use Rattle.ndb_text.proofs.NdbComplete.{some_of}
 
 no-zero : (has : Bool) (line : List ℕ) → causes_of has line ≡ [] → list_any is_zero line ≡ false
 no-zero has line e =

@@ -1,8 +1,6 @@
 -- What few lines or no line of a text has.
-use Rattle.std.proofs.Common.{◌≡◌, ℕ, Bool, true, false, ◌||◌, cond, List, [], ◌∷◌, codes, refl, ap, ◌∙◌, arith}
+use Rattle.std.proofs.Common.{◌≡◌, ℕ, Bool, true, false, ◌||◌, cond, List, [], ◌∷◌, refl, ap, ◌∙◌}
 use Rattle.std.specs.List.{list_any, slice_split, onto_first}
-use Rattle.std.proofs.lemmas.Bool.Decides.{nat_tests}
-use Rattle.net_base.specs.NdbText.{is_percent, begins, begins_with}
 use Rattle.net_base.proofs.Shared.{or_true}
 
 module _ (part found : ℕ → Bool) where

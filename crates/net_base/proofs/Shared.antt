@@ -9,24 +9,24 @@ pub use Rattle.net_base.proofs.Cuts.{slice-length, slice-more, slice-rest}
 -- runs that grow by a pair, by the end of a line and by the end of a tuple
 pub use Rattle.net_base.proofs.Growth.{drop-all}
 -- bytes in hexadecimal: what is read of a word is what it spells, and what is spelled is read
-pub use Rattle.net_base.proofs.HexTexts.{digit-is, hex-back, hex-spelled, hex-without}
+pub use Rattle.net_base.proofs.HexTexts.{byte-small, digit-is, digit-other, hex-back, hex-spelled, hex-without}
 -- what a slice holds after texts were copied into it, one behind the other
 pub use Rattle.net_base.proofs.Laid.{laid, laid_more}
 -- the least of moments
-pub use Rattle.net_base.proofs.Leasts.{least_min, min_swap, within_each, within_last}
+pub use Rattle.net_base.proofs.Leasts.{least_min, within_each, within_last}
 -- members of lists, and what stands at places
-pub use Rattle.net_base.proofs.Members.{drop_one, get_set, get_set_other, in_back, in_filter, in_front, in_of_get, in_parts, next_one, past_all, there_at}
+pub use Rattle.net_base.proofs.Members.{append_one, first_of, get_set, get_set_other, in_back, in_filter, in_flat, in_front, in_of_get, in_parts, length_map, next_one, no_cons, none_first, none_is, past_all, there_at}
 -- numbers and addresses as words: what is read of a word is what it spells, and what is spelled is read
-pub use Rattle.net_base.proofs.NumberTexts.{address-back, address-dotted, number-back, number_in-spelled, within-is}
+pub use Rattle.net_base.proofs.NumberTexts.{address-back, address-dotted, in-range, number-back, number_in-spelled, within-is}
 -- a path that names a node is walked to it, and no other is
-pub use Rattle.net_base.proofs.PathNames.{walks_exactly}
+pub use Rattle.net_base.proofs.PathNames.{proto_back, walks_exactly}
 -- tests, and which numbers of a range pass them
-pub use Rattle.net_base.proofs.Ranges.{all_range, fails_range, found_in_range, none_in_range, none_more, none_range, not_below, passed_range, some_range, unpassed}
+pub use Rattle.net_base.proofs.Ranges.{all_range, cond_false, cond_true, fails_range, found_in_range, none_in_range, none_more, none_range, not_below, passed_range, some_range, unpassed}
 -- the tests of names that are the same: of protocols, actors, addresses and pairs
-pub use Rattle.net_base.proofs.SameNames.{same_actor_is, same_addr_is, same_addr_itself, same_itself, same_pair_is, same_pair_itself, same_proto_is, same_proto_itself}
+pub use Rattle.net_base.proofs.SameNames.{same_actor_is, same_itself, same_pair_is, same_pair_itself, same_proto_is, same_proto_itself}
 -- where the pair with a number stands, by where lines and tuples end
 pub use Rattle.net_base.proofs.Spots.{lines-length}
 -- tests of numbers and of texts, and tests of which one side is known
 pub use Rattle.net_base.proofs.Tests.{and_none, apart_turned, equal_texts, number_itself, or_none, or_true, same_text}
 -- texts of numbers and addresses, cut at their separators
-pub use Rattle.net_base.proofs.Texts.{IsWithout, cut_at, decimal_without, dotted_without, four_parts, one_part, value_of, without_one}
+pub use Rattle.net_base.proofs.Texts.{IsWithout, cut_at, decimal_without, dotted_without, four_parts, one_part, some_part, value_of, without_one}

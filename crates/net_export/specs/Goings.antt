@@ -23,8 +23,8 @@ use Rattle.net_base.specs.declared.request.Request.TheVariants as request
 use Rattle.script_task.specs.Fitting.{fits_grant, fits_write, is_granted, is_unopened}
 use Rattle.net_base.specs.Requests.{bound_after, opened_names, request_play, settled}
 use Rattle.script_task.specs.Task.{fits_play}
-use Rattle.script_task.proofs.Settling.{unbind_free}
-use Rattle.session_answers.proofs.Plays.{same_ends}
+use Rattle.script_task.proofs.Shared.{unbind_free}
+use Rattle.session_answers.proofs.Shared.{same_ends}
 
 -- the play of a request, these names after the reply, and the request that goes on, if one does
 pub data Goes (h : ℕ) (names : Names) (r : Reply) (now : Names) : Option Request → Play → Type 0 where

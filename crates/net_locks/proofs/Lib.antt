@@ -12,3 +12,4 @@ pub mod Moved
 pub mod Concluding
 pub mod Halting
 pub mod Visited
+pub mod Shared

@@ -34,7 +34,7 @@ use Rattle.guest_laws.specs.Guests.{HasRecorded, IsGuest, GuestRecords, StaysGue
 use Rattle.guest_laws.specs.Named.{answer_in, named_opening}
 use Rattle.guest_laws.specs.Works.{entries, noted_net}
 use Rattle.net_locks.specs.Turns.{HasRoom, IsFull, RecordedTurn, StaysOwn, Unready}
-use Rattle.journal.proofs.Steps.{in_has_caller}
+use Rattle.journal.proofs.Shared.{in_has_caller}
 
 -- Room.
 

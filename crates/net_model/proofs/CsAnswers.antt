@@ -40,7 +40,7 @@ use Rattle.table_laws.specs.DirRows.{DirRow}
 use Rattle.table_laws.specs.DirRows as dir_row
 use Rattle.table_laws.proofs.Shared.{shown_reply}
 use Rattle.net_base.proofs.Shared.{same_actor_is}
-use Rattle.world_text.proofs.VersionCuts.{last-more}
+use Rattle.world_text.proofs.Shared.{last-more}
 
 -- The version that a desk told last.
 

@@ -1,21 +1,15 @@
 -- A bundle that is spelled by tuples has no bad line and reads as them.
-use Rattle.std.proofs.Common.{◌≡◌, ℕ, ◌+◌, ◌⊎◌, inl, inr, Bool, true, false, not, ◌&&◌, ◌||◌, List, [], ◌∷◌, ◌++◌, length, take, get_or, refl, sym, ap, subst, ◌∙◌, arith, Option, Some, None, length-append, append-nil}
-use Rattle.std.specs.Prelude.{codes, nat_eq}
+use Rattle.std.proofs.Common.{◌≡◌, ℕ, ◌+◌, ◌⊎◌, inl, inr, Bool, true, false, not, ◌&&◌, List, [], ◌∷◌, ◌++◌, refl, sym, ap, subst, ◌∙◌, arith, Option, Some, None, append-nil}
+use Rattle.std.specs.Prelude.{codes}
 use Rattle.std.specs.List.{list_any, before_first}
-use Rattle.std.proofs.Math.Seq.{take-append_seam}
-use Rattle.std.proofs.lemmas.Bool.Decides.{nat_tests}
-use Rattle.std.proofs.lemmas.List.{take_all}
 use Rattle.std.proofs.lemmas.Bool.{or_parts, or_left, or_right}
 use Rattle.net_base.specs.Ndb.{NdbPair}
-use Rattle.net_base.specs.NdbText.{is_percent, begins, begins_with, is_empty, lines_of, pairs_of, starts_tuple, goes_on, tuples_of}
+use Rattle.net_base.specs.NdbText.{is_empty, lines_of, pairs_of, starts_tuple, goes_on, tuples_of}
 use Rattle.net_base.specs.NdbBundle.{File, file_of, is_file_line, named_files, has_tuple, cause, causes_of, told_line, first_bad, bad_line, chosen, reading, database}
-use Rattle.ndb_text.specs.NdbSpelling.{ReadsLine, ReadsTuples, ReadsFiles, ReadsBundle, IsFileName}
-use Rattle.ndb_text.proofs.Shared.{or_false, some_none, before_first-none, line_reads, cons_none, some_once, starts-at, goes_on-at, line_has_no_cause, tuples_read}
-use Rattle.ndb_reader.proofs.Shared.{Next, has-line, before-more, before-stop, named-more, named-stop, reading-is, bundle-is-spelled}
-use Rattle.net_base.proofs.Shared.{and_none}
-use Rattle.world_text.proofs.VersionCuts.{good-more}
-use Rattle.ndb_text.proofs.NdbFiles.{percent_of_file, begins_no_file, and_not_true}
-use Rattle.ndb_reader.proofs.Bundles.{whole, push-line}
+use Rattle.ndb_text.specs.NdbSpelling.{ReadsTuples, ReadsFiles, ReadsBundle, IsFileName}
+use Rattle.ndb_text.proofs.Shared.{or_false, some_none, before_first-none, line_reads, cons_none, some_once, starts-at, goes_on-at, line_has_no_cause, tuples_read, begins_no_file, and_not_true}
+use Rattle.ndb_reader.proofs.Shared.{before-more, before-stop, named-more, named-stop, reading-is, bundle-is-spelled, push-line}
+use Rattle.world_text.proofs.Shared.{good-more}
 
 -- Lines that begin a file.
 
@@ -30,13 +24,6 @@ file-good : (has : Bool) (name : List ℕ) → IsFileName name → causes_of has
 file-good has name n = two-causes _ (is_file_line (codes "%file " ++ name)) n.zero (file-begins name n)
 
 -- Whether a file has a tuple before the next line.
-
-at-end : (before : List (List ℕ)) (line : List ℕ) → Next (before ++ line ∷ []) (length before) line
-at-end before line = record { within = omega (arith, length-append before (line ∷ [])); is = sym (here before) }
-  where
-    here : (ls : List (List ℕ)) → get_or (ls ++ line ∷ []) (length ls) line ≡ line
-    here [] = refl
-    here (l ∷ ls) = here ls
 
 -- a tuple stands before in this file, or no line goes on with one
 abbrev Begun : List (List ℕ) → List (List NdbPair) → Type 0

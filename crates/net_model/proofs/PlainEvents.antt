@@ -28,7 +28,7 @@ use Rattle.net_base.specs.Remotes.{is_remote_path}
 use Rattle.net_base.specs.World.{is_within, is_letter, is_name_byte, is_name, is_byte, is_text, is_word, is_step}
 use Rattle.history_laws.proofs.Shared.{Each, IsOther, own_other, IsOpened, IsNamed, Fits, IsExporting, Says}
 use Rattle.net_model.proofs.PlainTexts.{IsText, ListsTexts, decimal_text, text_append}
-use Rattle.net_base.proofs.HexTexts.{byte-small}
+use Rattle.net_base.proofs.Shared.{byte-small}
 
 -- The words of a file.
 

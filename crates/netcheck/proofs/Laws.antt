@@ -8,10 +8,9 @@ use Rattle.net_base.specs.declared.world.World.{World}
 use Rattle.net_base.specs.Callers.{Caller, caller_count}
 use Rattle.net_base.specs.Legal.{IsFault, IsLegal, IsTimed, Rule, rule_number}
 use Rattle.net_base.specs.Next.{next_recorded, next_of}
-use Rattle.history_laws.proofs.Shared.{fault_is_not_legal}
+use Rattle.history_laws.proofs.Shared.{fault_is_not_legal, nobody}
 use Rattle.netcheck.specs.Judged.{KeepsAt}
 use Rattle.netcheck.proofs.Least.{same_rule}
-use Rattle.history_laws.proofs.Limits.{nobody}
 
 -- One fault.
 

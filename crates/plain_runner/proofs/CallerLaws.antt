@@ -23,8 +23,7 @@ use Rattle.plain_runner.specs.declared.turn.Turn.{Turn}
 use Rattle.plain_runner.specs.Callers.{IsCallerKept, IsEntryOf, IsScriptAt}
 use Rattle.plain_runner.specs.Turns.{AreOwn, IsOwnTurn, asks_of, may_turn, may_turn_by}
 use Rattle.plain_runner.proofs.Replies.{before_last, next_replies}
-use Rattle.net_base.proofs.Shared.{script_is}
-use Rattle.net_base.proofs.Members.{first_of, none_first}
+use Rattle.net_base.proofs.Shared.{script_is, first_of, none_first}
 
 -- What comes next.
 

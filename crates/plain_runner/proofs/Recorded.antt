@@ -1,17 +1,13 @@
 -- What the entry of a turn leaves of a run.
-use Rattle.std.proofs.Common.{◌≡◌, ℕ, ◌+◌, ◌-◌, ◌<◌, ◌==◌, Bool, true, false, List, [], ◌∷◌, ◌++◌, length, map, filter, take, Option, Some, None, is_none, get_or, Result, Ok, Err, IfOk, slice_get, slice_set, refl, sym, ap, subst, ◌∙◌, arith, length-append}
-use Rattle.std.specs.Prelude.{IsSome}
-use Rattle.std.specs.Option.{option_map}
-use Rattle.std.proofs.lemmas.Bool.{eqb-true, eqb-false, false≢true, ne_eqb}
+use Rattle.std.proofs.Common.{◌≡◌, ℕ, ◌+◌, ◌-◌, ◌<◌, ◌==◌, Bool, true, false, List, [], ◌∷◌, ◌++◌, length, map, filter, take, Some, is_none, get_or, Result, Ok, Err, IfOk, slice_get, slice_set, refl, sym, ap, subst, ◌∙◌, arith, length-append}
+use Rattle.std.proofs.lemmas.Bool.{eqb-true, eqb-false, ne_eqb}
 use Rattle.std.proofs.lemmas.List.{length-set}
 use Rattle.std.proofs.lemmas.Option.{same_Some, slice_get_read}
 use Rattle.net_base.specs.declared.history.Entry.{Entry}
 use Rattle.net_base.specs.declared.reply.Reply.{Reply}
 use Rattle.net_base.specs.declared.world.World.{World}
-use Rattle.net_base.specs.ActorStep.{Step}
-use Rattle.net_base.specs.Actors.{Actor}
 use Rattle.net_base.specs.Legal.{IsInTime}
-use Rattle.net_base.specs.Net.{Net, after, moment, moment_after, net_after, step_of}
+use Rattle.net_base.specs.Net.{Net, after, moment, moment_after, step_of}
 use Rattle.net_base.specs.Next.{by, finished_by, own_replies, zone_of}
 use Rattle.net_base.specs.Tasks.{nobody}
 use Rattle.duties.specs.WaysOf.{AreWaysOfWorld}
@@ -28,7 +24,7 @@ use Rattle.plain_runner.specs.declared.caller.Role.TheVariants as role
 use Rattle.plain_runner.specs.declared.runner.Runner.{Runner}
 use Rattle.plain_runner.specs.declared.turn.Turn.{Turn}
 use Rattle.net_base.proofs.Shared.{get_set, get_set_other}
-use Rattle.transcript.proofs.Latest.{moment_of_ready}
+use Rattle.transcript.proofs.Shared.{moment_of_ready}
 
 -- Lists.
 

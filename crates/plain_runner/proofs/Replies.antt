@@ -1,5 +1,5 @@
 -- The entries of a caller, and the replies to its own events, with an entry more.
-use Rattle.std.proofs.Common.{◌≡◌, ℕ, ◌+◌, ◌-◌, ◌==◌, List, [], ◌∷◌, ◌++◌, length, take, map, filter, Some, None, is_none, refl, ap, ◌∙◌, arith, append-nil, length-append}
+use Rattle.std.proofs.Common.{◌≡◌, ℕ, ◌+◌, ◌-◌, ◌==◌, List, [], ◌∷◌, ◌++◌, length, take, map, filter, None, is_none, refl, ap, ◌∙◌, arith, length-append}
 use Rattle.std.proofs.lemmas.Bool.{eq-eqb}
 use Rattle.std.proofs.lemmas.List.{map-append, take_at}
 use Rattle.std.proofs.lemmas.List.Elements.{filter-append}
@@ -15,13 +15,6 @@ own_entry h x c is = filter-append (λ (y : Entry). y.caller == c) h (x ∷ []) 
 
 pub one_entry_more : (h : List Entry) (x : Entry) (c : ℕ) → x.caller ≡ c → length (by (h ++ x ∷ []) c) ≡ length (by h c) + 1
 one_entry_more h x c is = ap length (own_entry h x c is) ∙ length-append (by h c) (x ∷ [])
-
--- an entry that was owed
-pub duty_replies : (h : List Entry) (x : Entry) (c n : ℕ) → x.caller ≡ c → x.cites ≡ Some n → own_replies (h ++ x ∷ []) c ≡ own_replies h c
-duty_replies h x c n is cites =
-    ap own_of (own_entry h x c is)
-    ∙ ap (λ (xs : List Entry). map (λ (y : Entry). y.reply) xs)
-    (filter-append (λ (y : Entry). is_none y.cites) (by h c) (x ∷ []) ∙ rw cites (append-nil (filter (λ (y : Entry). is_none y.cites) (by h c))))
 
 -- an own one
 pub next_replies : (h : List Entry) (x : Entry) (c : ℕ) → x.caller ≡ c → x.cites ≡ None → own_replies (h ++ x ∷ []) c ≡ own_replies h c ++ x.reply ∷ []

@@ -38,8 +38,7 @@ use Rattle.prefix_law.proofs.Deeds.{both_ways}
 use Rattle.history_laws.proofs.Shared.{after_push, by_entries, legal_take, one_more, next_same, next_other, all_at, in_range}
 use Rattle.prefix_law.proofs.Untils.{UntilAt, FineNext, fine_position}
 use Rattle.prefix_law.proofs.Waits.{Beyond}
-use Rattle.net_base.proofs.Shared.{in_front, in_back, in_parts, there_at, same_actor_is, same_itself}
-use Rattle.net_base.proofs.Members.{in_flat}
+use Rattle.net_base.proofs.Shared.{in_front, in_back, in_parts, there_at, same_actor_is, same_itself, in_flat}
 
 -- Lists.
 

@@ -1,12 +1,12 @@
 -- A run that follows a history entry by entry.
-use Rattle.std.proofs.Common.{◌≡◌, ℕ, zero, suc, ◌+◌, ◌<◌, List, [], ◌∷◌, ◌++◌, length, take, get_or, Some, slice_get, sym, ap, subst, ◌∙◌, arith}
+use Rattle.std.proofs.Common.{◌≡◌, ℕ, zero, suc, ◌+◌, ◌<◌, List, [], ◌∷◌, ◌++◌, length, take, get_or, sym, ap, subst, ◌∙◌, arith}
 use Rattle.net_base.specs.declared.history.Entry.{Entry}
 use Rattle.net_base.specs.declared.world.World.{World}
 use Rattle.net_base.specs.Legal.{IsInTime, IsLegal, IsTimed, MayFollow}
 use Rattle.net_base.specs.Net.{after}
 use Rattle.plain_runner.specs.Followed.{Followed, FollowsRun}
 use Rattle.plain_runner.specs.declared.runner.Runner.{Runner}
-use Rattle.plain_runner.proofs.Recorded.{got}
+use Rattle.plain_runner.proofs.Shared.{got}
 
 -- one element more
 taken : {A : Type 0} (xs : List A) (n : ℕ) (x : A) → n < length xs → x ≡ get_or xs n x → take n xs ++ x ∷ [] ≡ take (suc n) xs

@@ -26,7 +26,7 @@ use Rattle.script_task.specs.Planning.{ask_of}
 use Rattle.net_base.specs.Requests.{bound_after, head, planned, request_play, settled}
 use Rattle.script_task.specs.Holdings.{Holdings}
 use Rattle.session_answers.specs.Served.{IsServed, Reaches, asked_request, is_grant}
-use Rattle.script_task.proofs.Settling.{unbind_free}
+use Rattle.script_task.proofs.Shared.{unbind_free}
 
 -- what a play does by its first event
 data Ahead (after : Reply → Names) : Play → Type 0 where

@@ -1,5 +1,5 @@
 -- A brief reply is short: a number has at most 20 digits.
-use Rattle.std.proofs.Common.{◌≡◌, ◌≤◌, ◌<◌, ℕ, zero, suc, ◌+◌, ◌/◌, ◌%◌, ◌^◌, true, List, [], ◌∷◌, ◌++◌, length, map, refl, sym, ap, subst, ◌∙◌, arith, append_assoc, length-append}
+use Rattle.std.proofs.Common.{◌≡◌, ◌≤◌, ◌<◌, ℕ, zero, suc, ◌+◌, ◌/◌, ◌%◌, ◌^◌, true, List, [], ◌∷◌, ◌++◌, length, refl, sym, ap, subst, ◌∙◌, arith, append_assoc, length-append}
 use Rattle.std.specs.Prelude.{codes}
 use Rattle.std.specs.Int.Digits.{digits_of}
 use Rattle.std.specs.List.{list_all}
@@ -15,9 +15,8 @@ use Rattle.net_base.specs.declared.reply.Reply.TheVariants as reply
 use Rattle.net_base.specs.Numeral.{numeral}
 use Rattle.net_base.specs.Transcript.{addr_word, cause_number, ip_word, reply_words}
 use Rattle.net_base.specs.SessionAnswers.{longest_error, printed}
-use Rattle.sessions.proofs.Shared.{has_room, is_short}
-use Rattle.transcript.proofs.Told.{address_is}
-use Rattle.sessions.proofs.Sayable.{length_shown}
+use Rattle.sessions.proofs.Shared.{has_room, is_short, length_shown}
+use Rattle.transcript.proofs.Shared.{address_is}
 
 few_shown : (k n : ℕ) → length (digits_of 10 (suc n)) ≤ k → length (numeral (suc n)) ≤ k
 unfolding numeral

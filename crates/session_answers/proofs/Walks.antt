@@ -5,7 +5,7 @@ use Rattle.std.proofs.lemmas.List.{drop_all}
 use Rattle.net_base.specs.declared.names.Node.{Node}
 use Rattle.net_base.specs.declared.ninep.Qid.{Qid}
 use Rattle.net_base.specs.SessionFiles.{qid_of, step_to, walked}
-use Rattle.session_script.proofs.Walks.{next_name}
+use Rattle.session_script.proofs.Shared.{next_name}
 
 -- the qids so far, and those of what is left
 abbrev pub passed : List Qid → Node → List (List ℕ) → List Qid

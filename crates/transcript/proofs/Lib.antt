@@ -11,3 +11,4 @@ mod Spacing
 mod Summing
 mod Telling
 pub mod Told
+pub mod Shared

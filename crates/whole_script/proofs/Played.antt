@@ -24,7 +24,7 @@ use Rattle.step_task.specs.StepLaws as step_laws
 use Rattle.step_task.specs.StepTasks as step
 use Rattle.whole_script.specs.ScriptLaws.{begins, ended_play, step_heads}
 use Rattle.whole_script.specs.ScriptTasks.{Scripting, finished_in, AtStep, AtEnd, begun_at, begun_by, progress, step_goes_on, KeptStep, asks, first_asked, after, heard_in_step, told_by_task, is_played, left_by, task_after_all, AllFit, play_behind, plays_of, plays_behind, Plays}
-use Rattle.net_base.proofs.Members.{append_one}
+use Rattle.net_base.proofs.Shared.{append_one}
 
 -- Replies.
 

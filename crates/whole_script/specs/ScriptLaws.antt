@@ -24,7 +24,7 @@ use Rattle.step_task.specs.StepLaws as step_laws
 use Rattle.step_task.specs.StepTasks as step
 use Rattle.whole_script.specs.ScriptTasks.{Scripting, finished_in, AtStep, AtEnd, begun_at, step_goes_on, asks, after, task_after_all, play_behind, plays_behind, plays_of, StandsFor, Plays, GoesScripting}
 use Rattle.whole_script.specs.Wholes.{AsksThere, Comes, GoesThere, PlaysThere}
-use Rattle.net_base.proofs.Members.{append_one, none_is}
+use Rattle.net_base.proofs.Shared.{append_one, none_is}
 
 -- Plays, one after another.
 

@@ -12,3 +12,4 @@ pub mod SessionLines
 pub mod SessionWorlds
 pub mod SessionRows
 pub mod SessionTaken
+pub mod Shared

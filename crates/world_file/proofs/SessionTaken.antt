@@ -13,7 +13,7 @@ use Rattle.world_text.specs.VersionLines.{bad_version_line}
 use Rattle.world_text.specs.WorldLines.{Bad, Begins, Draft, Goes, Verdict, line_verdict, opening_draft, world_of}
 use Rattle.world_text.specs.WorldRefusal.{LeadsToWorld}
 use Rattle.world_text.specs.WorldText.{Cut, cuts_of, missing, with_versions}
-use Rattle.world_text.proofs.Shared.{led-next, small-led}
+use Rattle.world_text.proofs.Shared.{led-next, small-led, goes-bad}
 use Rattle.world_words.specs.declared.fault.LineFault.{LineFault}
 use Rattle.world_words.specs.declared.fault.LineFault.TheVariants as fault
 use Rattle.world_file.specs.declared.fault.WorldError.{WorldError}
@@ -21,7 +21,6 @@ use Rattle.world_file.specs.declared.fault.WorldError.TheVariants as error
 use Rattle.world_file.specs.SessionText.{ClosesLines, Extends, Feeds, Judges, OpensSession, Other, Passes, Row, SaysSessions, SaysFrom, ToldLines, as_script, bad_stream, extended, host_of_last, is_step_read, last_stream, opened_at, opening_told, other_verdict, with_sessions}
 use Rattle.world_file.specs.SessionTold.{BundleBad, ClosesBad, IsWholeSession, LeadsOn, SaysBad, TakenLine, TakenAs, session_at}
 use Rattle.world_file.specs.Told.{IsSmallDraft, Tells, TellsAt, TellsCause, going}
-use Rattle.world_text.proofs.WorldRefusals.{goes-bad}
 
 abbrev Outcome : Type 0
 Outcome = Result SessionWorld (ℕ × ℕ)

@@ -19,14 +19,13 @@ use Rattle.world_text.specs.VersionLines.{bad_version_line, versions_in}
 use Rattle.world_text.specs.WorldLines.{Bad, Begins, Draft, Goes, Verdict, after, at_last, empty_script, host_number, line_verdict, opening_draft, world_of}
 use Rattle.world_text.specs.WorldRefusal.{LeadsToWorld}
 use Rattle.world_text.specs.WorldText.{Cut, cuts_of, with_first, with_versions}
-use Rattle.world_text.proofs.Shared.{versions-databases, versions-timed, apart-map, apart-push, at_last-push, last-push, same-numbers, led-next, Behind, Opening, Stage, read-all, complete, Ends, ends}
+use Rattle.world_text.proofs.Shared.{versions-databases, versions-timed, apart-map, apart-push, at_last-push, last-push, same-numbers, led-next, Behind, Opening, Stage, read-all, complete, Ends, ends, goes-bad}
 use Rattle.world_text.specs.declared.line.LineCause.{LineCause}
 use Rattle.world_text.specs.declared.line.LineCause.TheVariants as cause
 use Rattle.world_text.specs.declared.line.WorldLine.{WorldLine}
 use Rattle.world_text.specs.declared.line.WorldLine.TheVariants as line
 use Rattle.world_file.specs.SessionText.{ClosesLines, Extends, Feeds, FollowsLine, IsStreamOf, Judges, OpensSession, Other, Passes, Row, SaysSessions, SaysFrom, ToldLines, as_script, bad_stream, extended, host_of_last, is_step_read, last_stream, opened_at, opening_told, other_verdict, session_row, with_bytes, with_sessions}
 use Rattle.world_file.proofs.SessionLines.{Grows, grows, hosts_of, map-at_last, opened, opens}
-use Rattle.world_text.proofs.WorldRefusals.{goes-bad}
 
 -- ---- lists
 

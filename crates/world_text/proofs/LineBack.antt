@@ -25,7 +25,7 @@ use Rattle.net_base.specs.Paths.{proto_name}
 use Rattle.net_base.specs.Transcript.{mode_word}
 use Rattle.net_base.specs.Remotes.{is_remote_path}
 use Rattle.net_base.specs.World.{is_address, is_byte, is_letter, is_name, is_name_byte, is_nets, is_step, is_text, is_within, is_word}
-use Rattle.net_base.proofs.Shared.{IsWithout, cut_at, decimal_without, one_part, without_one, hex-back, hex-without, address-back, number-back}
+use Rattle.net_base.proofs.Shared.{IsWithout, cut_at, decimal_without, one_part, without_one, hex-back, hex-without, address-back, number-back, some_part}
 use Rattle.world_text.specs.declared.line.Frames.{Frames}
 use Rattle.world_text.specs.declared.line.Frames.TheVariants as frames
 use Rattle.world_text.specs.declared.line.HostLine.TheVariants as host
@@ -38,7 +38,6 @@ use Rattle.world_text.specs.WorldSpelling.{fate_word, frames_spelled, is_line, s
 use Rattle.world_text.proofs.Controls.{dotted_is_without}
 use Rattle.world_text.specs.LineFit.{fit_frames, is_fit, is_frame, is_rate}
 use Rattle.world_text.proofs.WorldLists.{list-without}
-use Rattle.net_base.proofs.Texts.{some_part}
 
 -- Words without a byte.
 

@@ -1,5 +1,5 @@
 -- Lines without a bad one are bundles, and lines that begin versions between them; and back.
-use Rattle.std.proofs.Common.{◌≡◌, ℕ, ◌+◌, ◌-◌, ◌<◌, suc, Bool, true, false, not, ◌&&◌, ◌||◌, cond, List, [], ◌∷◌, ◌++◌, length, take, drop, map, refl, sym, ap, subst, ◌∙◌, arith, Option, Some, None, append-nil, append_assoc, length-append}
+use Rattle.std.proofs.Common.{◌≡◌, ℕ, ◌+◌, ◌-◌, ◌<◌, Bool, true, false, not, ◌&&◌, ◌||◌, cond, List, [], ◌∷◌, ◌++◌, length, take, drop, map, refl, sym, ap, subst, ◌∙◌, arith, Option, Some, None, append-nil, append_assoc, length-append}
 use Rattle.std.specs.Prelude.{⊤, bytes_eq, codes, filter_map, flat_map, nat_le, nat_lt, unwrap_or}
 use Rattle.std.specs.List.{before_first, cons_option, last_or, list_any, prefix_len, suffix_len}
 use Rattle.std.proofs.Math.Seq.{drop-append-le, drop-length}
@@ -19,10 +19,8 @@ use Rattle.world_text.specs.declared.line.LineCause.TheVariants as line_cause
 use Rattle.world_text.specs.LineCauses.{cause_number_of}
 use Rattle.world_text.specs.VersionLines.{at_causes, begins_at, first_bad_version, is_at_line, last_moment, later_versions, moment_of, own_lines, version_causes, versions_in, with_version}
 use Rattle.world_text.specs.WorldSpelling.{IsGoodBundle, LaterText, line_of_moment, lines_of_later, version_said}
-use Rattle.net_base.proofs.Shared.{number-back, number_in-spelled}
-use Rattle.net_base.proofs.Members.{no_cons}
-use Rattle.ndb_text.proofs.NdbFiles.{cause-none, least-none, told-none, first-good, cause-alone}
-use Rattle.ndb_text.proofs.NdbPlain.{one_add}
+use Rattle.net_base.proofs.Shared.{number-back, number_in-spelled, no_cons}
+use Rattle.ndb_text.proofs.Shared.{cause-none, least-none, told-none, first-good, cause-alone, one_add}
 
 -- Causes.
 

@@ -23,8 +23,7 @@ use Rattle.world_text.specs.LineFit.{fit_host_line}
 use Rattle.world_text.proofs.WorldLists.{all-at, all-if, apart-map, false-of-not, place-there}
 use Rattle.world_text.proofs.WorldMediums.{all-found}
 use Rattle.world_text.proofs.WorldHosts.{FineHost, FineHosts, bare_route, count-said, good_net, ifaces, names-said, networks, routes, saids, starts}
-use Rattle.net_base.proofs.Shared.{equal_texts}
-use Rattle.net_base.proofs.Members.{length_map}
+use Rattle.net_base.proofs.Shared.{equal_texts, length_map}
 
 -- Lists.
 

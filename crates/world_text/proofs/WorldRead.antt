@@ -38,7 +38,7 @@ use Rattle.world_text.proofs.WorldLed.{FineWorld, Led, begun, names-fit, of_host
 use Rattle.world_text.proofs.WorldScripts.{script_group}
 use Rattle.world_text.proofs.VersionTexts.{versions-back}
 use Rattle.world_text.proofs.WorldTexts.{going, goes-on, leads-all, reading-lines}
-use Rattle.net_base.proofs.Members.{length_map}
+use Rattle.net_base.proofs.Shared.{length_map}
 
 -- From lines to texts.
 

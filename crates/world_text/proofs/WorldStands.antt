@@ -35,8 +35,7 @@ use Rattle.world_text.proofs.WorldHosts.{FineHosts, bare_text, count-said, host-
 use Rattle.world_text.proofs.WorldHostForms.{hosts-of-lines}
 use Rattle.world_text.proofs.WorldScripts.{FineScripts, empty_text, script-after, script-fits, script_draft, scripts-none, scripts_said, step-after, step-fits, with_one}
 use Rattle.world_text.proofs.WorldLed.{begun, of_media}
-use Rattle.net_base.proofs.Members.{length_map}
-use Rattle.net_base.proofs.NumberTexts.{within-is}
+use Rattle.net_base.proofs.Shared.{length_map, within-is}
 
 -- Lines so far.
 

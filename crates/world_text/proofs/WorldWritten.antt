@@ -33,8 +33,7 @@ use Rattle.world_text.proofs.WorldHostForms.{near-matches}
 use Rattle.world_text.proofs.WorldLed.{Led, begun, of_host, of_media, of_script, whole_draft, world-lead}
 use Rattle.world_text.proofs.WorldRead.{SaidBy, fine-world}
 use Rattle.world_text.proofs.WorldCanon.{canon-media, media_lines}
-use Rattle.net_base.proofs.Shared.{same_text}
-use Rattle.net_base.proofs.Members.{length_map}
+use Rattle.net_base.proofs.Shared.{same_text, length_map}
 
 -- Places by name.
 

@@ -10,10 +10,10 @@ use Rattle.net_base.specs.declared.names.Mode.{Mode}
 use Rattle.net_base.specs.declared.world.Step.{Step}
 use Rattle.net_base.specs.declared.world.Step.TheVariants as step
 use Rattle.world_text.specs.LineReading.{cs_of, frames_of, host_line_of, row_kept, of_one, of_two, open_of, rwrite_of, write_of}
-use Rattle.world_text.specs.WorldWords.{Three, Two, four, words_left, mode_named, single_word, three, two}
+use Rattle.world_text.specs.WorldWords.{four, words_left, mode_named, single_word, three, two}
 use Rattle.world_text.specs.declared.line.WorldLine.TheVariants as line
-use Rattle.net_base.proofs.Texts.{some_part}
-use Rattle.world_text.proofs.LineSpelled.{two-is, three-is}
+use Rattle.net_base.proofs.Shared.{some_part}
+use Rattle.world_text.proofs.Shared.{two-is, three-is}
 
 pub some_word : (rest : List ℕ) → parts_at 32 rest ≡ [] → ⊥
 some_word rest e = let some = some_part 32 rest in let n = ap (λ (ws : List (List ℕ)). length ws) e in absurd (omega (arith, some, n))

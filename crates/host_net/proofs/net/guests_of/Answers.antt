@@ -7,7 +7,7 @@ use Rattle.journal.specs.Rule.{Held}
 use Rattle.net_guests.specs.Visits.{AreFresh, IsFresh}
 use Rattle.host_net.proofs.Freshly.{fresh_more, given_own, kept_later, some_versions}
 use Rattle.host_net.proofs.net.guests_of.Goals as goal
-use Rattle.journal.proofs.Steps.{in-callers}
+use Rattle.journal.proofs.Shared.{in-callers}
 
 pub loop-caller-init : goal.loop-caller-init
 loop-caller-init g c = (

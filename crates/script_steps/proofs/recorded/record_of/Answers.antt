@@ -2,7 +2,7 @@ use Rattle.std.proofs.Common.{refl}
 use Rattle.script_steps.proofs.Entries.{has_caller, may_come, one_further}
 use Rattle.script_steps.proofs.Latests.{latest_more}
 use Rattle.script_steps.proofs.recorded.record_of.Goals as goal
-use Rattle.plain_runner.proofs.Recorded.{got}
+use Rattle.plain_runner.proofs.Shared.{got}
 
 pub note_entry-requires : goal.note_entry-requires
 note_entry-requires c =

@@ -1,5 +1,5 @@
 use Rattle.script_steps.proofs.standing.finished.Goals as goal
-use Rattle.plain_runner.proofs.Recorded.{got}
+use Rattle.plain_runner.proofs.Shared.{got}
 
 pub returns : goal.returns
 returns c = λ w s st at.

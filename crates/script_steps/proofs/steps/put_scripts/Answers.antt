@@ -3,7 +3,7 @@ use Rattle.net_base.specs.declared.history.Entry.{Entry}
 use Rattle.net_base.specs.declared.world.Script.{Script}
 use Rattle.plain_runner.specs.Callers.{IsCallerKept}
 use Rattle.script_steps.proofs.steps.put_scripts.Goals as goal
-use Rattle.plain_runner.proofs.Recorded.{got}
+use Rattle.plain_runner.proofs.Shared.{got}
 
 pub put_script-requires-clause-caller : goal.put_script-requires-clause-caller
 put_script-requires-clause-caller c =

@@ -1,6 +1,6 @@
 use Rattle.std.proofs.Common.{ap, arith, length}
 use Rattle.words.proofs.parts.single.Goals as goal
-use Rattle.net_base.proofs.Texts.{some_part}
+use Rattle.net_base.proofs.Shared.{some_part}
 
 pub returns-in-Some : goal.returns-in-Some
 returns-in-Some c =

@@ -2,7 +2,7 @@ use Rattle.std.proofs.Common.{◌≡◌, ℕ, sym, ap, ◌∙◌, arith}
 use Rattle.net_base.specs.Addresses.{parts_at}
 use Rattle.world_words.proofs.RemotePaths.{are_few, none_counted, too_many}
 use Rattle.world_words.proofs.remote_paths.are_few_names.Goals as goal
-use Rattle.net_base.proofs.Texts.{some_part}
+use Rattle.net_base.proofs.Shared.{some_part}
 
 -- behind 16 names another one stands
 pub returns : goal.returns

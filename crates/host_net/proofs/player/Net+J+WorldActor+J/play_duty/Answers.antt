@@ -6,7 +6,7 @@ use Rattle.net_guests.proofs.Shared.{first_some}
 use Rattle.host_net.proofs.Counting.{counts_stay}
 use Rattle.host_net.proofs.Keeping.{duty_keeps, duty_plays, duty_stays, playing}
 use Rattle.host_net.proofs.player.Net+J+WorldActor+J.play_duty.Goals as goal
-use Rattle.net_base.proofs.Members.{first_of}
+use Rattle.net_base.proofs.Shared.{first_of}
 
 pub invariant_of-player : goal.invariant_of-player
 invariant_of-player g c =
