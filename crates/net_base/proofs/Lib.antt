@@ -11,7 +11,6 @@ pub mod Members
 pub mod Texts
 pub mod Kept
 pub mod Skipped
-pub mod Alike
 pub mod NumberTexts
 pub mod HexTexts
 pub mod Ranges
