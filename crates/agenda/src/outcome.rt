@@ -13,7 +13,7 @@ pub struct Run {
     pub end: RunEnd,
 }
 
-/// The same with the history in the books, and whether a thread that was asked for couldn't be had.
+/// A run whose history lies in the books, and whether a thread that was asked for couldn't be had.
 #[derive(Debug, Drop)]
 pub struct BookedRun {
     pub books: ClosedBooks,

@@ -136,7 +136,7 @@ impl<J: Naming, M: Machine> Locked<J, M> {
         answer
     }
 
-    // The same within the lock, with the copy that the entry keeps.
+    // What `act_timely` does within the lock, with the copy that the entry keeps.
     fn act_locked<R: Wait, G: Gate>(
         &self,
         rt: &R,

@@ -106,7 +106,7 @@ impl Index {
         self.spots_by::<Brand>(alloc, attr, value, Blank::new(1))
     }
 
-    /// The same by a counter of its own, of looks at pairs.
+    /// Where a pair stands, with looks at pairs on a counter of its own.
     fn spots_by<P: Ledger>(
         &self,
         alloc: Global,

@@ -96,7 +96,7 @@ fn spots_of<P: Ledger>(
     Ok(spots)
 }
 
-/// The same by one pass over all pairs, for a step for each.
+/// The spots of a pair, by one pass over all pairs, for a step for each.
 pub fn spots_scanned<P: Ledger>(
     alloc: Global,
     tuples: &Tuples,

@@ -34,7 +34,7 @@ pub fn search_scanned(
     search_by::<Brand>(alloc, tuples, attr, value, Blank::new(1))
 }
 
-/// The same by a counter of its own.
+/// One pass over all pairs, with the looks at them on a counter of its own.
 fn search_by<P: Ledger>(
     alloc: Global,
     tuples: &Tuples,

@@ -5,7 +5,7 @@ use Rattle.std.proofs.lemmas.List.{length-drop, length-map, length-take-le, drop
 use Rattle.net_base.specs.Ndb.{NdbPair}
 use Rattle.net_base.specs.declared.ndb.runs.Mark.{Mark}
 use Rattle.net_base.specs.declared.ndb.runs.Runs.{Runs}
-use Rattle.net_base.specs.Parts.{start_at, last_end, lowered, parts, Rise}
+use Rattle.net_base.specs.Parts.{start_at, last_end, ends_lowered, parts, Rise}
 use Rattle.net_base.specs.Store.{pair_with, pair_between, mark_lowered, marks_lowered, marked, value_at, MarksRise, pairs_in, lines_in, tuples_in, AreSound, AreWhole}
 use Rattle.net_base.proofs.Cuts.{rise-start}
 use Rattle.net_base.proofs.Marks.{marks-start}
@@ -67,23 +67,23 @@ slice-lowered xs k a b ka ab =
     ap (λ (n : ℕ). take n (drop (a - k) (drop k xs))) same
     ∙ ap (take (b - a)) (drop-drop (a - k) k xs ∙ ap (λ (n : ℕ). drop n xs) at)
 
-parts-lowered : {X : Type 0} (k start : ℕ) (ends : List ℕ) (xs : List X) (count : ℕ) → k ≤ start → Rise start ends count → parts (start - k) (lowered k ends) (drop k xs) ≡ parts start ends xs
+parts-lowered : {X : Type 0} (k start : ℕ) (ends : List ℕ) (xs : List X) (count : ℕ) → k ≤ start → Rise start ends count → parts (start - k) (ends_lowered k ends) (drop k xs) ≡ parts start ends xs
 parts-lowered k start [] xs count le rise = refl
 parts-lowered k start (end ∷ ends) xs count le rise =
-    ap (λ l. l ∷ parts (end - k) (lowered k ends) (drop k xs)) (slice-lowered xs k start end le rise.0)
+    ap (λ l. l ∷ parts (end - k) (ends_lowered k ends) (drop k xs)) (slice-lowered xs k start end le rise.0)
     ∙ ap (λ ls. slice_range xs start end ∷ ls) (parts-lowered k end ends xs count (omega (arith, le, rise.0)) rise.1)
 
-rise-lowered : (k start : ℕ) (ends : List ℕ) (count : ℕ) → k ≤ start → Rise start ends count → Rise (start - k) (lowered k ends) (count - k)
+rise-lowered : (k start : ℕ) (ends : List ℕ) (count : ℕ) → k ≤ start → Rise start ends count → Rise (start - k) (ends_lowered k ends) (count - k)
 rise-lowered k start [] count le rise = omega (arith, rise)
 rise-lowered k start (end ∷ ends) count le rise = (omega (arith, rise.0, le), rise-lowered k end ends count (omega (arith, le, rise.0)) rise.1)
 
-last-lowered : (k start : ℕ) (ends : List ℕ) → last_end (start - k) (lowered k ends) ≡ last_end start ends - k
+last-lowered : (k start : ℕ) (ends : List ℕ) → last_end (start - k) (ends_lowered k ends) ≡ last_end start ends - k
 last-lowered k start [] = refl
 last-lowered k start (end ∷ ends) = last-lowered k end ends
 
 -- the ends behind the first ones, so many, as they are kept
 abbrev left : ℕ → List ℕ → List ℕ
-left n ends = lowered (start_at 0 ends n) (drop n ends)
+left n ends = ends_lowered (start_at 0 ends n) (drop n ends)
 
 left-parts : {X : Type 0} (n : ℕ) (ends : List ℕ) (xs : List X) (count : ℕ) → Rise 0 ends count → parts 0 (left n ends) (drop (start_at 0 ends n) xs) ≡ drop n (parts 0 ends xs)
 left-parts n ends xs count rise =
@@ -171,17 +171,17 @@ pub record Skips (count lines pairs bytes : ℕ) (r s : Runs) : Type 0 where
   pub lines_is : lines ≡ start_at 0 r.tuples.items count
   pub pairs_is : pairs ≡ start_at 0 r.lines.items lines
   pub bytes_is : bytes ≡ value_at 0 r.pairs.items pairs
-  pub tuples_left : s.tuples.items ≡ lowered lines (drop count r.tuples.items)
-  pub lines_left : s.lines.items ≡ lowered pairs (drop lines r.lines.items)
+  pub tuples_left : s.tuples.items ≡ ends_lowered lines (drop count r.tuples.items)
+  pub lines_left : s.lines.items ≡ ends_lowered pairs (drop lines r.lines.items)
   pub pairs_left : s.pairs.items ≡ marks_lowered bytes (drop pairs r.pairs.items)
   pub bytes_left : s.bytes.items ≡ drop bytes r.bytes.items
 
 module _ (count lines pairs bytes : ℕ) (r s : Runs) (sound : AreSound r) (k : Skips count lines pairs bytes r s) where
   tuples-are : s.tuples.items ≡ left count r.tuples.items
-  tuples-are = k.tuples_left ∙ ap (λ (n : ℕ). lowered n (drop count r.tuples.items)) k.lines_is
+  tuples-are = k.tuples_left ∙ ap (λ (n : ℕ). ends_lowered n (drop count r.tuples.items)) k.lines_is
 
   lines-are : s.lines.items ≡ left lines r.lines.items
-  lines-are = k.lines_left ∙ ap (λ (n : ℕ). lowered n (drop lines r.lines.items)) k.pairs_is
+  lines-are = k.lines_left ∙ ap (λ (n : ℕ). ends_lowered n (drop lines r.lines.items)) k.pairs_is
 
   marks-are : s.pairs.items ≡ left_marks pairs r.pairs.items
   marks-are = k.pairs_left ∙ ap (λ (n : ℕ). marks_lowered n (drop pairs r.pairs.items)) k.bytes_is

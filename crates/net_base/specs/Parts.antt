@@ -23,5 +23,5 @@ Rise start [] count = start ≤ count
 Rise start (end ∷ ends) count = (start ≤ end) × Rise end ends count
 
 -- the ends where so many elements in front are gone
-abbrev pub lowered : ℕ → List ℕ → List ℕ
-lowered count ends = map (λ end. end - count) ends
+abbrev pub ends_lowered : ℕ → List ℕ → List ℕ
+ends_lowered count ends = map (λ end. end - count) ends

@@ -2,7 +2,7 @@
 ghost use Rattle.std.specs.Prelude.{◌≡◌, ◌≤◌, ◌<◌, ◌+◌, ◌-◌, ℕ, slice_set, true, ◌∷◌, ◌++◌, [], length, take, drop, slice_range, get_or, IfOk, OnOk, OnErr};
 ghost use Rattle.net_base.specs.declared.ndb.spot.Spot.{Spot as Seen};
 ghost use Rattle.net_base.specs.Spots.{pair_spots, Owns};
-ghost use Rattle.net_base.specs.Parts.{start_at, last_end, lowered, Rise};
+ghost use Rattle.net_base.specs.Parts.{start_at, last_end, ends_lowered, Rise};
 ghost use Rattle.net_base.specs.Store.{pair_with, grown, with_pair, line_ended, tuple_ended, pairs_in, tuples_in, value_at, last_value, mark_lowered, marks_lowered, AreSound, AreWhole};
 ghost use Rattle.net_base.specs.Ndb.{NdbPair};
 
@@ -98,14 +98,14 @@ fn drop_first<T: Copy + Drop>(list: &mut Vec<T>, count: usize)
 
 /// The ends where so many elements in front are gone.
 fn lower(ends: &mut Vec<u32>, count: usize)
-    ensures { ends.new.items ≡ lowered count ends.old.items }
+    ensures { ends.new.items ≡ ends_lowered count ends.old.items }
 {
     for place in 0..ends.len() {
         lower_at(ends, place, count);
     }
 }
 
-/// The same of one end.
+/// One end, lowered so.
 fn lower_at(ends: &mut Vec<u32>, place: usize, count: usize)
     requires { place < length ends.old.items }
     ensures { (d : ℕ) → ends.new.items ≡ slice_set ends.old.items place (get_or ends.old.items place d - count) }
@@ -122,7 +122,7 @@ fn lower_marks(marks: &mut Vec<Mark>, count: usize)
     }
 }
 
-/// The same of one mark.
+/// One mark, lowered so.
 fn lower_mark(marks: &mut Vec<Mark>, place: usize, count: usize)
     requires { place < length marks.old.items }
     ensures { (d : Mark) → marks.new.items ≡ slice_set marks.old.items place (mark_lowered count (get_or marks.old.items place d)) }

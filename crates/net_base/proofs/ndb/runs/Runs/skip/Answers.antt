@@ -1,6 +1,6 @@
 use Rattle.std.proofs.Common.{ℕ, List, ap, ◌∙◌, arith, length}
 use Rattle.net_base.specs.declared.ndb.runs.Mark.{Mark}
-use Rattle.net_base.specs.Parts.{start_at, lowered}
+use Rattle.net_base.specs.Parts.{start_at, ends_lowered}
 use Rattle.net_base.specs.Store.{value_at, marks_lowered}
 use Rattle.net_base.proofs.Skipped.{start-within, value-within, skipped-sound, skipped-whole, skipped-tuples}
 use Rattle.net_base.proofs.ndb.runs.Runs.skip.Goals as goal
@@ -27,8 +27,8 @@ returns-clause-sound c =
       lines_is = c.begin_of-lines.ensures ∙ ap (λ (es : List ℕ). start_at 0 es c.args.count) c.deref.ensures.value;
       pairs_is = c.begin_of-pairs.ensures ∙ ap (λ (es : List ℕ). start_at 0 es c.begin_of-lines.result) c.deref-2.ensures.value;
       bytes_is = c.value_begin-bytes.ensures ∙ ap (λ (ms : List Mark). value_at 0 ms c.begin_of-pairs.result) c.deref-3.ensures.value;
-      tuples_left = c.lower.ensures ∙ ap (lowered c.begin_of-lines.result) c.drop_first.ensures;
-      lines_left = c.lower-2.ensures ∙ ap (lowered c.begin_of-pairs.result) c.drop_first-2.ensures;
+      tuples_left = c.lower.ensures ∙ ap (ends_lowered c.begin_of-lines.result) c.drop_first.ensures;
+      lines_left = c.lower-2.ensures ∙ ap (ends_lowered c.begin_of-pairs.result) c.drop_first-2.ensures;
       pairs_left = c.lower_marks.ensures ∙ ap (marks_lowered c.value_begin-bytes.result) c.drop_first-3.ensures;
       bytes_left = c.drop_first-4.ensures;
     }
@@ -40,8 +40,8 @@ returns-clause-whole c =
       lines_is = c.begin_of-lines.ensures ∙ ap (λ (es : List ℕ). start_at 0 es c.args.count) c.deref.ensures.value;
       pairs_is = c.begin_of-pairs.ensures ∙ ap (λ (es : List ℕ). start_at 0 es c.begin_of-lines.result) c.deref-2.ensures.value;
       bytes_is = c.value_begin-bytes.ensures ∙ ap (λ (ms : List Mark). value_at 0 ms c.begin_of-pairs.result) c.deref-3.ensures.value;
-      tuples_left = c.lower.ensures ∙ ap (lowered c.begin_of-lines.result) c.drop_first.ensures;
-      lines_left = c.lower-2.ensures ∙ ap (lowered c.begin_of-pairs.result) c.drop_first-2.ensures;
+      tuples_left = c.lower.ensures ∙ ap (ends_lowered c.begin_of-lines.result) c.drop_first.ensures;
+      lines_left = c.lower-2.ensures ∙ ap (ends_lowered c.begin_of-pairs.result) c.drop_first-2.ensures;
       pairs_left = c.lower_marks.ensures ∙ ap (marks_lowered c.value_begin-bytes.result) c.drop_first-3.ensures;
       bytes_left = c.drop_first-4.ensures;
     }
@@ -54,8 +54,8 @@ returns-clause-rest c =
       lines_is = c.begin_of-lines.ensures ∙ ap (λ (es : List ℕ). start_at 0 es c.args.count) c.deref.ensures.value;
       pairs_is = c.begin_of-pairs.ensures ∙ ap (λ (es : List ℕ). start_at 0 es c.begin_of-lines.result) c.deref-2.ensures.value;
       bytes_is = c.value_begin-bytes.ensures ∙ ap (λ (ms : List Mark). value_at 0 ms c.begin_of-pairs.result) c.deref-3.ensures.value;
-      tuples_left = c.lower.ensures ∙ ap (lowered c.begin_of-lines.result) c.drop_first.ensures;
-      lines_left = c.lower-2.ensures ∙ ap (lowered c.begin_of-pairs.result) c.drop_first-2.ensures;
+      tuples_left = c.lower.ensures ∙ ap (ends_lowered c.begin_of-lines.result) c.drop_first.ensures;
+      lines_left = c.lower-2.ensures ∙ ap (ends_lowered c.begin_of-pairs.result) c.drop_first-2.ensures;
       pairs_left = c.lower_marks.ensures ∙ ap (marks_lowered c.value_begin-bytes.result) c.drop_first-3.ensures;
       bytes_left = c.drop_first-4.ensures;
     }
