@@ -66,7 +66,7 @@ impl<J: Naming + Placing> Locks<J, WorldActor<J>> {
             return turn;
         }
         match self.attempt_first(rt, gate, &mut visitor.bearer, &visitor.duties) {
-            Ok((stamp, outcome)) => {
+            Answer::Done { stamp, outcome } => {
                 let Duty {
                     actor,
                     work,
@@ -75,7 +75,8 @@ impl<J: Naming + Placing> Locks<J, WorldActor<J>> {
                 let (duties, touched) = (&mut visitor.duties, &mut visitor.touched);
                 self.settle(duties, touched, actor, work, stamp, outcome)
             }
-            Err(turn) => turn,
+            Answer::NotReady { front: _ } => Turn::NotReady,
+            Answer::Memory => Turn::Memory,
         }
     }
 
@@ -106,11 +107,12 @@ impl<J: Naming + Placing> Locks<J, WorldActor<J>> {
             with: With::Nothing,
         };
         match self.attempt(rt, gate, &mut visitor.bearer, actor, &work, None) {
-            Ok((stamp, outcome)) => {
+            Answer::Done { stamp, outcome } => {
                 let (duties, touched) = (&mut visitor.duties, &mut visitor.touched);
                 self.settle(duties, touched, actor, work, stamp, outcome)
             }
-            Err(turn) => turn,
+            Answer::NotReady { front: _ } => Turn::NotReady,
+            Answer::Memory => Turn::Memory,
         }
     }
 
@@ -122,7 +124,7 @@ impl<J: Naming + Placing> Locks<J, WorldActor<J>> {
         gate: &G,
         bearer: &mut Bearer<J>,
         duties: &Duties,
-    ) -> Result<(u64, Outcome), Turn>
+    ) -> Answer
         requires guest { IsGuest J.world J.run.roster bearer.old.caller bearer.old.pass duties.now.list }
         requires some { (d : AnyDuty) × (slice_get duties.now.list 0 ≡ Some d) }
         requires room { HasRoom bearer.old.caller bearer.old.pass }
@@ -139,8 +141,7 @@ impl<J: Naming + Placing> Locks<J, WorldActor<J>> {
         self.attempt(rt, gate, bearer, first.actor, first.work(), cites)
     }
 
-    // One try to record a work at an actor. The answer is the stamp of its entry and what the step gave, or else what became
-    // of the turn.
+    // One try to record a work at an actor.
     #[inline(always)]
     fn attempt<R: Wait, G: Gate>(
         &self,
@@ -150,7 +151,7 @@ impl<J: Naming + Placing> Locks<J, WorldActor<J>> {
         actor: ActorName,
         work: &Work,
         cites: Option<u64>,
-    ) -> Result<(u64, Outcome), Turn>
+    ) -> Answer
         requires guest { (ds : List AnyDuty) × IsGuest J.world J.run.roster bearer.old.caller bearer.old.pass ds }
         requires room { HasRoom bearer.old.caller bearer.old.pass }
         requires here { bearer.old.now ≡ moment_noted bearer.old.pass.seen }
@@ -166,18 +167,19 @@ impl<J: Naming + Placing> Locks<J, WorldActor<J>> {
         locks_keep_actors();
         moves_are_the_clocks();
         let Some(lock) = self.lock_of(actor) else {
-            return Err(Turn::NotReady);
+            return Answer::NotReady { front: 0 };
         };
         let (caller, now) = (bearer.caller, bearer.now);
         let pass = &mut bearer.pass;
-        match lock.act(rt, &self.journal, gate, pass, caller, now, work, cites) {
-            Answer::Done { stamp, outcome } => {
-                // who waits for the actor sees that it has had an entry more
-                self.marks.add(lock.number() as usize, may_give_text(work));
-                Ok((stamp, outcome))
-            }
-            Answer::NotReady { front: _ } => Err(Turn::NotReady),
-            Answer::Memory => Err(Turn::Memory),
+        let answer = lock.act(rt, &self.journal, gate, pass, caller, now, work, cites);
+        self.mark(lock.number(), work, &answer);
+        answer
+    }
+
+    // Who waits for the actor of this number sees that it has had an entry more, where it has.
+    fn mark(&self, number: u32, work: &Work, answer: &Answer) {
+        if let Answer::Done { .. } = answer {
+            self.marks.add(number as usize, may_give_text(work));
         }
     }
 
