@@ -9,7 +9,7 @@ use Rattle.net_locks.specs.declared.turn.Turn.{Turn}
 use Rattle.net_locks.specs.declared.turn.Turn.TheVariants as turn
 use Rattle.net_locks.specs.Visitors.{Visited}
 use Rattle.net_locks.proofs.Firsts.{first_in, first_turn}
-use Rattle.net_locks.proofs.Visited.{done_turn, done_visitor, missed_visitor, visitor}
+use Rattle.net_locks.proofs.Visited.{done_turn, done_visitor, missed_turn, missed_visitor, visitor}
 use Rattle.net_locks.proofs.turn.Locks+J+WorldActor+J.serve.Goals as goal
 
 pub settle-requires-clause-owing : goal.settle-requires-clause-owing
@@ -87,3 +87,19 @@ returns-in-Memory-clause-complete g c =
     c.attempt_first.ensures.here turn.Memory
     (c.in-Memory.ensures.attempted f.0 (ap (λ (l : List Duty). slice_get l 0) c.lacks_room.ensures.list ∙ f.1) v.duties.list c.requires.complete.guest) c.lacks_room.new.duties
     c.lacks_room.ensures.list (c.calendars_stay_known.ensures w) c.lacks_room.new.touched (c.lacks_room.ensures.covers _ c.requires.complete.covers)
+
+pub returns-in-NotReady-clause-turn : goal.returns-in-NotReady-clause-turn
+returns-in-NotReady-clause-turn g c d is =
+    let v = c.args.visitor.now in
+    missed_turn g.J.Placing.tasks g.J.Placing.world g.J.Naming.run.roster d.actor (work_of_duty d) (Some d.cites) v c.requires.complete c.attempt_first.new.bearer
+    c.attempt_first.ensures.same c.attempt_first.ensures.here turn.NotReady
+    (c.in-NotReady.ensures.attempted d (ap (λ (l : List Duty). slice_get l 0) c.lacks_room.ensures.list ∙ is) v.duties.list c.requires.complete.guest) c.lacks_room.new.duties
+    c.lacks_room.ensures.list c.lacks_room.new.touched
+
+pub returns-in-Memory-clause-turn : goal.returns-in-Memory-clause-turn
+returns-in-Memory-clause-turn g c d is =
+    let v = c.args.visitor.now in
+    missed_turn g.J.Placing.tasks g.J.Placing.world g.J.Naming.run.roster d.actor (work_of_duty d) (Some d.cites) v c.requires.complete c.attempt_first.new.bearer
+    c.attempt_first.ensures.same c.attempt_first.ensures.here turn.Memory
+    (c.in-Memory.ensures.attempted d (ap (λ (l : List Duty). slice_get l 0) c.lacks_room.ensures.list ∙ is) v.duties.list c.requires.complete.guest) c.lacks_room.new.duties
+    c.lacks_room.ensures.list c.lacks_room.new.touched
