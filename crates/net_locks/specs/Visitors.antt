@@ -1,7 +1,7 @@
 -- What a caller has with it at the locks, and what its turn leaves of that.
 --     IsVisit        what is known of it
 --     Visited        what its turn did
-use Rattle.std.specs.Prelude.{◌≡◌, ℕ, ◌<◌, ◌≤◌, ◌^◌, List, Option, Result, Ok, Err}
+use Rattle.std.specs.Prelude.{◌≡◌, ℕ, ◌<◌, ◌≤◌, ◌^◌, List, Option}
 use Rattle.net_base.specs.declared.actor.ActorName.{ActorName}
 use Rattle.net_base.specs.declared.history.Outcome.{Outcome}
 use Rattle.net_base.specs.declared.history.Work.{Work}
@@ -12,12 +12,15 @@ use Rattle.net_base.specs.Stamped.{moment_noted}
 use Rattle.net_base.specs.Tasks.{Tasks}
 use Rattle.journal.specs.declared.law.Roster.{Roster}
 use Rattle.journal.specs.declared.tokens.Sight.{Sight}
+use Rattle.locked.specs.declared.guarded.Answer.{Answer}
+use Rattle.locked.specs.declared.guarded.Answer.TheVariants as answered
 use Rattle.due_moments.specs.Marks.{Covers, Marks}
 use Rattle.duties.specs.Owing.{most_owed}
 use Rattle.guest_laws.specs.Guests.{HasRecorded, IsGuest, IsGuestTurn, GuestRecords, deed_at}
 use Rattle.guest_laws.specs.Works.{noted_net}
 use Rattle.net_locks.specs.declared.calendar.Calendar.{Calendar}
 use Rattle.net_locks.specs.declared.turn.Turn.{Turn}
+use Rattle.net_locks.specs.declared.turn.Turn.TheVariants as turn
 use Rattle.net_locks.specs.declared.visitor.Bearer.{Bearer}
 use Rattle.net_locks.specs.declared.visitor.Visitor.{Visitor}
 use Rattle.net_locks.specs.Knowing.{IsKnown}
@@ -63,11 +66,12 @@ pub record Misses {J : Type 0} (ts : Tasks) (w : World) (r : Roster) (a : ActorN
   pub turned : Turned ts w (deed_at a old.caller old.now work cites) old.pass ds t new.pass ds
   pub alone : own_seen old.caller new.pass ≡ own_seen old.caller old.pass
 
--- by whether it was recorded, as a turn of the caller whatever it owes
-abbrev pub Attempted : {J : Type 0} → Tasks → World → Roster → ActorName → Work → Option ℕ → Bearer J → Result (ℕ × Outcome) Turn
-    → Bearer J → Type 0
-Attempted ts w r a work cites old (Ok done) new =
+-- by the answer at the lock, as a turn of the caller whatever it owes
+abbrev pub Attempted : {J : Type 0} → Tasks → World → Roster → ActorName → Work → Option ℕ → Bearer J → Answer → Bearer J → Type 0
+Attempted ts w r a work cites old (answered.Done stamp o) new =
     (ds : List Duty) → IsGuest w r old.caller old.pass ds → IsGuestTurn w old.caller old.pass ds a work cites
-    → Does ts w r a work cites old ds done.0 done.1 new
-Attempted ts w r a work cites old (Err t) new =
-    (ds : List Duty) → IsGuest w r old.caller old.pass ds → Misses ts w r a work cites old ds t new
+    → Does ts w r a work cites old ds stamp o new
+Attempted ts w r a work cites old (answered.NotReady front) new =
+    (ds : List Duty) → IsGuest w r old.caller old.pass ds → Misses ts w r a work cites old ds turn.NotReady new
+Attempted ts w r a work cites old answered.Memory new =
+    (ds : List Duty) → IsGuest w r old.caller old.pass ds → Misses ts w r a work cites old ds turn.Memory new

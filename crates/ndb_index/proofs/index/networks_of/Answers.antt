@@ -9,8 +9,8 @@ use Rattle.ndb_index.proofs.index.networks_of.Goals as goal
 
 pub returns-then-not-names : goal.returns-then-not-names
 returns-then-not-names c = (
-  λ asked. ap (λ (kept : Kept). places_kept asked kept) c.new-networks.ensures.entries ∙ sym (none_placed asked 0 c.args.db.now (sym c.names.ensures ∙ c.if-not-names.true)),
-  λ bits. ap (list_any (nat_eq bits)) c.new-lengths.ensures.keys ∙ sym (none_long bits c.args.db.now (sym c.names.ensures ∙ c.if-not-names.true)),
+  λ asked. ap (λ (kept : Kept). places_kept asked kept) c.new-networks.ensures.empty ∙ sym (none_placed asked 0 c.args.db.now (sym c.names.ensures ∙ c.if-not-names.true)),
+  λ bits. ap (list_any (nat_eq bits)) c.new-lengths.ensures.empty ∙ sym (none_long bits c.args.db.now (sym c.names.ensures ∙ c.if-not-names.true)),
 )
 
 pub loop-place-preserved : goal.loop-place-preserved
