@@ -1,5 +1,6 @@
 pub mod Works
 pub mod Turning
+pub mod Attempts
 pub mod Firsts
 pub mod Rows
 pub mod Sighted

@@ -1,7 +1,7 @@
 -- What a caller has with it at the locks, and what its turn leaves of that.
 --     IsVisit        what is known of it
 --     Visited        what its turn did
-use Rattle.std.specs.Prelude.{◌≡◌, ℕ, ◌<◌, ◌≤◌, ◌^◌, List, Option, Result, Ok, Err}
+use Rattle.std.specs.Prelude.{◌≡◌, ℕ, ◌<◌, ◌≤◌, ◌^◌, List, Option}
 use Rattle.net_base.specs.declared.actor.ActorName.{ActorName}
 use Rattle.net_base.specs.declared.history.Outcome.{Outcome}
 use Rattle.net_base.specs.declared.history.Work.{Work}
@@ -12,12 +12,15 @@ use Rattle.net_base.specs.Stamped.{moment_noted}
 use Rattle.net_base.specs.Tasks.{Tasks}
 use Rattle.journal.specs.declared.law.Roster.{Roster}
 use Rattle.journal.specs.declared.tokens.Sight.{Sight}
+use Rattle.locked.specs.declared.guarded.Answer.{Answer}
+use Rattle.locked.specs.declared.guarded.Answer.TheVariants as answered
 use Rattle.due_moments.specs.Marks.{Covers, Marks}
 use Rattle.duties.specs.Owing.{most_owed}
-use Rattle.guest_laws.specs.Guests.{HasRecorded, IsGuest, IsGuestTurn, GuestRecords}
+use Rattle.guest_laws.specs.Guests.{HasRecorded, IsGuest, IsGuestTurn, GuestRecords, deed_at}
 use Rattle.guest_laws.specs.Works.{noted_net}
 use Rattle.net_locks.specs.declared.calendar.Calendar.{Calendar}
 use Rattle.net_locks.specs.declared.turn.Turn.{Turn}
+use Rattle.net_locks.specs.declared.turn.Turn.TheVariants as turn
 use Rattle.net_locks.specs.declared.visitor.Bearer.{Bearer}
 use Rattle.net_locks.specs.declared.visitor.Visitor.{Visitor}
 use Rattle.net_locks.specs.Knowing.{IsKnown}
@@ -43,15 +46,16 @@ pub record IsSameBearer {J : Type 0} (old new : Bearer J) : Type 0 where
 -- what a turn of the visitor with this work at this actor did, by its answer
 abbrev pub Visited : {J : Type 0} → Tasks → World → ActorName → Work → Option ℕ → Visitor J → Turn → Visitor J → Type 0
 Visited ts w a work cites old t new =
-    Turned ts w old.bearer.caller old.bearer.now a work cites old.bearer.pass old.duties.list t new.bearer.pass new.duties.list
+    Turned ts w (deed_at a old.bearer.caller old.bearer.now work cites) old.bearer.pass old.duties.list t
+    new.bearer.pass new.duties.list
 
 -- One try to record a work.
 
 -- the entry of this stamp was recorded as a turn of the caller that owed these
 pub record Does {J : Type 0} (ts : Tasks) (w : World) (r : Roster) (a : ActorName) (work : Work) (cites : Option ℕ) (old : Bearer J)
     (ds : List Duty) (stamp : ℕ) (o : Outcome) (new : Bearer J) : Type 0 where
-  pub records : GuestRecords w r a old.caller old.now work cites old.pass stamp o new.pass
-  pub recorded : HasRecorded w r a old.caller old.now work cites records.past old.pass ds stamp o new.pass
+  pub records : GuestRecords w r (deed_at a old.caller old.now work cites) old.pass stamp o new.pass
+  pub recorded : HasRecorded w r (deed_at a old.caller old.now work cites) records.past old.pass ds stamp o new.pass
   pub in_time : IsInTimeBy ts (noted_net w records.past) w work.event
   pub few : most_owed o ≤ 13
 
@@ -59,14 +63,15 @@ pub record Does {J : Type 0} (ts : Tasks) (w : World) (r : Roster) (a : ActorNam
 pub record Misses {J : Type 0} (ts : Tasks) (w : World) (r : Roster) (a : ActorName) (work : Work) (cites : Option ℕ) (old : Bearer J)
     (ds : List Duty) (t : Turn) (new : Bearer J) : Type 0 where
   pub guest : IsGuest w r old.caller new.pass ds
-  pub turned : Turned ts w old.caller old.now a work cites old.pass ds t new.pass ds
+  pub turned : Turned ts w (deed_at a old.caller old.now work cites) old.pass ds t new.pass ds
   pub alone : own_seen old.caller new.pass ≡ own_seen old.caller old.pass
 
--- by whether it was recorded, as a turn of the caller whatever it owes
-abbrev pub Attempted : {J : Type 0} → Tasks → World → Roster → ActorName → Work → Option ℕ → Bearer J → Result (ℕ × Outcome) Turn
-    → Bearer J → Type 0
-Attempted ts w r a work cites old (Ok done) new =
+-- by the answer at the lock, as a turn of the caller whatever it owes
+abbrev pub Attempted : {J : Type 0} → Tasks → World → Roster → ActorName → Work → Option ℕ → Bearer J → Answer → Bearer J → Type 0
+Attempted ts w r a work cites old (answered.Done stamp o) new =
     (ds : List Duty) → IsGuest w r old.caller old.pass ds → IsGuestTurn w old.caller old.pass ds a work cites
-    → Does ts w r a work cites old ds done.0 done.1 new
-Attempted ts w r a work cites old (Err t) new =
-    (ds : List Duty) → IsGuest w r old.caller old.pass ds → Misses ts w r a work cites old ds t new
+    → Does ts w r a work cites old ds stamp o new
+Attempted ts w r a work cites old (answered.NotReady front) new =
+    (ds : List Duty) → IsGuest w r old.caller old.pass ds → Misses ts w r a work cites old ds turn.NotReady new
+Attempted ts w r a work cites old answered.Memory new =
+    (ds : List Duty) → IsGuest w r old.caller old.pass ds → Misses ts w r a work cites old ds turn.Memory new

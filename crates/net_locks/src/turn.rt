@@ -4,11 +4,12 @@ ghost use Rattle.net_base.specs.declared.actor.ActorName.{ActorName as Name};
 ghost use Rattle.net_base.specs.declared.actor.ActorName.TheVariants.{Clock};
 ghost use Rattle.net_base.specs.declared.history.Work.{Work as AnyWork};
 ghost use Rattle.net_base.specs.declared.noted.Noted.{Noted};
+ghost use Rattle.net_base.specs.Actors.{has_actor};
 ghost use Rattle.net_base.specs.Duties.{Duty as AnyDuty};
 ghost use Rattle.net_base.specs.Stamped.{moment_noted, same_actor};
 ghost use Rattle.duties.specs.Owing.{Owes, most_owed};
 ghost use Rattle.duties.specs.Queue.{work_of_duty};
-ghost use Rattle.guest_laws.specs.Guests.{IsGuest, IsGuestTurn};
+ghost use Rattle.guest_laws.specs.Guests.{IsGuest, IsGuestTurn, deed_at};
 ghost use Rattle.due_moments.specs.Marks.{Covers};
 ghost use Rattle.net_locks.specs.Turns.{HasRoom, Turned, bare};
 ghost use Rattle.net_locks.specs.Visitors.{Attempted, IsSameBearer, IsVisitor, Visited};
@@ -26,7 +27,7 @@ use guest_laws::{
     no_duty_is_the_clocks, turns_are_these,
 };
 use journal::Naming;
-use locked::Answer;
+use locked::{Answer, Asked, Locked};
 use net_base::{ActorName, Body, Event, IlKind, Outcome, Reply, With, Work};
 use outside::Gate;
 use std::sync::Wait;
@@ -65,8 +66,11 @@ impl<J: Naming + Placing> Locks<J, WorldActor<J>> {
         if let Some(turn) = lacks_room(bearer, &mut visitor.duties, &mut visitor.touched) {
             return turn;
         }
-        match self.attempt_first(rt, gate, &mut visitor.bearer, &visitor.duties) {
-            Ok((stamp, outcome)) => {
+        let Some(lock) = self.lock_of_first(&visitor.duties) else {
+            return Turn::NotReady;
+        };
+        match self.attempt_first(rt, gate, lock, &mut visitor.bearer, &visitor.duties) {
+            Answer::Done { stamp, outcome } => {
                 let Duty {
                     actor,
                     work,
@@ -75,7 +79,8 @@ impl<J: Naming + Placing> Locks<J, WorldActor<J>> {
                 let (duties, touched) = (&mut visitor.duties, &mut visitor.touched);
                 self.settle(duties, touched, actor, work, stamp, outcome)
             }
-            Err(turn) => turn,
+            Answer::NotReady { front: _ } => Turn::NotReady,
+            Answer::Memory => Turn::Memory,
         }
     }
 
@@ -101,33 +106,49 @@ impl<J: Naming + Placing> Locks<J, WorldActor<J>> {
         if let Some(turn) = lacks_room(bearer, &mut visitor.duties, &mut visitor.touched) {
             return turn;
         }
+        let Some(lock) = self.lock_of(actor) else {
+            return Turn::NotReady;
+        };
         let work = Work {
             event,
             with: With::Nothing,
         };
-        match self.attempt(rt, gate, &mut visitor.bearer, actor, &work, None) {
-            Ok((stamp, outcome)) => {
+        match self.attempt(rt, gate, lock, &mut visitor.bearer, &work, None) {
+            Answer::Done { stamp, outcome } => {
                 let (duties, touched) = (&mut visitor.duties, &mut visitor.touched);
                 self.settle(duties, touched, actor, work, stamp, outcome)
             }
-            Err(turn) => turn,
+            Answer::NotReady { front: _ } => Turn::NotReady,
+            Answer::Memory => Turn::Memory,
         }
     }
 
-    // One try to record the first duty.
+    // The lock of the first duty's actor, where the world has it.
+    fn lock_of_first(&self, duties: &Duties) -> Option<&Locked<J, WorldActor<J>>>
+        requires some { (d : AnyDuty) × (slice_get duties.now.list 0 ≡ Some d) }
+        ensures some { (d : AnyDuty) → slice_get duties.now.list 0 ≡ Some d → IfSome result (λ l. l.now.actor ≡ d.actor) }
+        ensures none { (d : AnyDuty) → slice_get duties.now.list 0 ≡ Some d → IsNone result → has_actor J.world d.actor ≡ false }
+    {
+        let first = duties.first().unwrap();
+        self.lock_of(first.actor)
+    }
+
+    // One try to record the first duty, at its actor's lock.
     #[inline(always)]
     fn attempt_first<R: Wait, G: Gate>(
         &self,
         rt: &R,
         gate: &G,
+        lock: &Locked<J, WorldActor<J>>,
         bearer: &mut Bearer<J>,
         duties: &Duties,
-    ) -> Result<(u64, Outcome), Turn>
+    ) -> Answer
         requires guest { IsGuest J.world J.run.roster bearer.old.caller bearer.old.pass duties.now.list }
         requires some { (d : AnyDuty) × (slice_get duties.now.list 0 ≡ Some d) }
         requires room { HasRoom bearer.old.caller bearer.old.pass }
         requires here { bearer.old.now ≡ moment_noted bearer.old.pass.seen }
         requires early { bearer.old.now < 2 ^ 63 }
+        requires lock { (d : AnyDuty) → slice_get duties.now.list 0 ≡ Some d → lock.now.actor ≡ d.actor }
         ensures same { IsSameBearer bearer.old bearer.new }
         ensures here { bearer.new.now ≡ moment_noted bearer.new.pass.seen }
         ensures attempted { (d : AnyDuty) → slice_get duties.now.list 0 ≡ Some d
@@ -135,49 +156,49 @@ impl<J: Naming + Placing> Locks<J, WorldActor<J>> {
     {
         no_duty_is_the_clocks();
         let first = duties.first().unwrap();
-        let cites = Some(first.cites);
-        self.attempt(rt, gate, bearer, first.actor, first.work(), cites)
+        self.attempt(rt, gate, lock, bearer, first.work(), Some(first.cites))
     }
 
-    // One try to record a work at an actor. The answer is the stamp of its entry and what the step gave, or else what became
-    // of the turn.
+    // One try to record a work at an actor's lock.
     #[inline(always)]
     fn attempt<R: Wait, G: Gate>(
         &self,
         rt: &R,
         gate: &G,
+        lock: &Locked<J, WorldActor<J>>,
         bearer: &mut Bearer<J>,
-        actor: ActorName,
         work: &Work,
         cites: Option<u64>,
-    ) -> Result<(u64, Outcome), Turn>
+    ) -> Answer
         requires guest { (ds : List AnyDuty) × IsGuest J.world J.run.roster bearer.old.caller bearer.old.pass ds }
         requires room { HasRoom bearer.old.caller bearer.old.pass }
         requires here { bearer.old.now ≡ moment_noted bearer.old.pass.seen }
         requires early { bearer.old.now < 2 ^ 63 }
-        requires other { same_actor actor Clock ≡ false }
+        requires other { same_actor lock.now.actor Clock ≡ false }
         ensures same { IsSameBearer bearer.old bearer.new }
         ensures here { bearer.new.now ≡ moment_noted bearer.new.pass.seen }
-        ensures attempted { Attempted J.tasks J.world J.run.roster actor work.now cites bearer.old result bearer.new }
+        ensures attempted { Attempted J.tasks J.world J.run.roster lock.now.actor work.now cites bearer.old result bearer.new }
     {
         few_calls_wait();
         guests_look();
         guests_record();
         locks_keep_actors();
         moves_are_the_clocks();
-        let Some(lock) = self.lock_of(actor) else {
-            return Err(Turn::NotReady);
+        let asked = Asked {
+            caller: bearer.caller,
+            now: bearer.now,
+            work,
+            cites,
         };
-        let (caller, now) = (bearer.caller, bearer.now);
-        let pass = &mut bearer.pass;
-        match lock.act(rt, &self.journal, gate, pass, caller, now, work, cites) {
-            Answer::Done { stamp, outcome } => {
-                // who waits for the actor sees that it has had an entry more
-                self.marks.add(lock.number() as usize, may_give_text(work));
-                Ok((stamp, outcome))
-            }
-            Answer::NotReady { front: _ } => Err(Turn::NotReady),
-            Answer::Memory => Err(Turn::Memory),
+        let answer = lock.act(rt, &self.journal, gate, &mut bearer.pass, asked);
+        self.mark(lock.number(), work, &answer);
+        answer
+    }
+
+    // Who waits for the actor of this number sees that it has had an entry more, where it has.
+    fn mark(&self, number: u32, work: &Work, answer: &Answer) {
+        if let Answer::Done { .. } = answer {
+            self.marks.add(number as usize, may_give_text(work));
         }
     }
 
@@ -232,8 +253,8 @@ fn lacks_room<J: Naming + Placing>(
     ensures none { IsNone result → HasRoom bearer.entry.now.caller bearer.entry.now.pass
         × (13 ≤ duties.new.room) × (0 < touched.new.room) }
     ensures some { IfSome result (λ t. (now : ℕ) (a : Name) (work : AnyWork) (cites : Option ℕ)
-        → Turned J.tasks J.world bearer.entry.now.caller now a work cites bearer.entry.now.pass duties.old.list t
-        bearer.entry.now.pass duties.new.list) }
+        → Turned J.tasks J.world (deed_at a bearer.entry.now.caller now work cites) bearer.entry.now.pass
+        duties.old.list t bearer.entry.now.pass duties.new.list) }
 {
     if bearer.pass.room(bearer.caller) == 0 {
         return Some(Turn::Limit);

@@ -1,79 +1,37 @@
-use Rattle.std.proofs.Common.{length, refl, ap, sym, subst, ◌∙◌, arith, rules}
-use Rattle.net_base.specs.declared.actor.ActorName.{ActorName}
-use Rattle.guest_laws.specs.Guests.{IsGuest, GuestRecords}
-use Rattle.guest_laws.specs.Named.{answer_in, named_opening}
-use Rattle.guest_laws.specs.Works.{noted_net}
-use Rattle.journal.specs.declared.tokens.Sight.{Sight}
-use Rattle.locked.specs.Acts.{IsNotReady}
-use Rattle.net_locks.specs.Turns.{own_seen}
-use Rattle.net_locks.proofs.Turning.{has_number, owed_few, unready, unready_there}
+use Rattle.std.proofs.Common.{length, inl, ap, sym, ◌∙◌, arith}
+use Rattle.net_locks.proofs.Attempts.{attempted, keeps_moment}
+use Rattle.net_locks.proofs.Turning.{has_number}
 use Rattle.net_locks.proofs.turn.Locks+J+WorldActor+J.attempt.Goals as goal
 
-pub act-requires-clause-room : goal.act-requires-clause-room
-act-requires-clause-room g c =
+pub act-answer-requires-clause-timely : goal.act-answer-requires-clause-timely
+act-answer-requires-clause-timely g c = inl c.requires.other
+
+pub act-answer-requires-clause-room : goal.act-answer-requires-clause-room
+act-answer-requires-clause-room g c =
     let guest = c.requires.guest.1 in
     (guest.list, guest.held, omega (arith, ap length guest.all, c.requires.room))
 
-pub returns-in-Done-clause-here : goal.returns-in-Done-clause-here
-returns-in-Done-clause-here g c =
-    let b = c.args.bearer.now in
-    let d = subst (λ (a : ActorName). GuestRecords g.J.Placing.world g.J.Naming.run.roster a b.caller b.now c.args.work.now c.args.cites b.pass c.in-Done.stamp c.in-Done.outcome c.act.new.pass)
-    c.in-Some.ensures.some c.in-Done.ensures in
-    c.requires.here ∙ sym (d.moment_kept c.requires.other)
-
-pub returns-in-Done-clause-attempted : goal.returns-in-Done-clause-attempted
-returns-in-Done-clause-attempted g c ds guest turn =
+pub returns-clause-here : goal.returns-clause-here
+returns-clause-here g c =
     let w = g.J.Placing.world in
     let r = g.J.Naming.run.roster in
-    let a = c.args.actor in
-    let work = c.args.work.now in
     let b = c.args.bearer.now in
-    let p' = c.act.new.pass in
-    let d = subst (λ (n : ActorName). GuestRecords w r n b.caller b.now work c.args.cites b.pass c.in-Done.stamp c.in-Done.outcome p') c.in-Some.ensures.some c.in-Done.ensures in
-    let rec = c.guests_record.ensures w r a b.caller b.now work c.args.cites b.pass ds c.in-Done.stamp c.in-Done.outcome p' guest turn d in
-    record {
-      records = d;
-      recorded = rec;
-      in_time = c.moves_are_the_clocks.ensures g.J.Placing.tasks w (noted_net w d.past) a ((noted_net w d.past).actors a) b.now work rec.step c.requires.other rec.stepped;
-      few = owed_few g.J.Placing.tasks w r b.caller b.now a work c.args.cites b.pass p' ds guest c.in-Done.stamp c.in-Done.outcome d rec
-          (λ calls is. c.few_calls_wait.ensures w a d.past b.now work rec.step calls rec.stepped is);
-    }
+    let guest = c.requires.guest in
+    c.requires.here ∙ sym (keeps_moment w r c.args.lock.now.actor b.now c.args.work.now c.args.cites b.pass c.act-answer.new.pass b.caller c.requires.other
+    (has_number w r b.caller b.pass guest.0 guest.1) c.act-answer.result c.act-answer.ensures)
 
-pub returns-in-NotReady-clause-here : goal.returns-in-NotReady-clause-here
-returns-in-NotReady-clause-here g c =
-    let b = c.args.bearer.now in
-    c.requires.here ∙ sym (c.in-NotReady.ensures.look.moment_is (has_number g.J.Placing.world g.J.Naming.run.roster b.caller b.pass c.requires.guest.0 c.requires.guest.1))
-
-pub returns-in-NotReady-clause-attempted : goal.returns-in-NotReady-clause-attempted
-returns-in-NotReady-clause-attempted g c ds guest =
+pub returns-clause-attempted : goal.returns-clause-attempted
+returns-clause-attempted g c =
+    let ts = g.J.Placing.tasks in
     let w = g.J.Placing.world in
     let r = g.J.Naming.run.roster in
-    let a = c.args.actor in
+    let a = c.args.lock.now.actor in
     let work = c.args.work.now in
+    let cites = c.args.cites in
     let b = c.args.bearer.now in
-    let p' = c.act.new.pass in
-    let n = subst (λ (m : ActorName). IsNotReady (named_opening w) (answer_in w) r m b.now work b.pass c.in-NotReady.front p') c.in-Some.ensures.some c.in-NotReady.ensures in
-    let stays = c.guests_look.ensures w r b.caller b.pass ds c.in-NotReady.front p' guest n.look in
-    record {
-      guest = stays.guest;
-      turned = (unready w r b.caller b.pass ds guest b.now a work p' c.in-NotReady.front c.requires.room n stays (c.locks_keep_actors.ensures.ready w p'.seen a b.now work), refl);
-      alone = n.look.lists _ guest.list guest.held ∙ sym guest.all;
-    }
-
-pub returns-in-Memory-clause-attempted : goal.returns-in-Memory-clause-attempted
-returns-in-Memory-clause-attempted g c ds guest =
-    let b = c.args.bearer.now in
-    record {
-      guest = subst (λ (q : Sight). IsGuest g.J.Placing.world g.J.Naming.run.roster b.caller q ds) (sym c.in-Memory.ensures) guest;
-      turned = (c.requires.room, c.in-Memory.ensures, refl);
-      alone = ap (own_seen b.caller) c.in-Memory.ensures;
-    }
-
-pub returns-in_default-clause-attempted : goal.returns-in_default-clause-attempted
-returns-in_default-clause-attempted g c ds guest =
-    let b = c.args.bearer.now in
-    record {
-      guest = guest;
-      turned = (unready_there g.J.Placing.world b.caller b.now c.args.actor c.args.work.now b.pass c.requires.room (c.in_default.ensures.none (search rules)), refl);
-      alone = refl;
-    }
+    let p' = c.act-answer.new.pass in
+    attempted ts w r a work cites b (record { pass = p'; caller = b.caller; now = b.now }) c.requires.room
+    (λ ds stamp o guest turn d. c.guests_record.ensures w r a b.caller b.now work cites b.pass ds stamp o p' guest turn d)
+    (λ ds front guest look. c.guests_look.ensures w r b.caller b.pass ds front p' guest look) (c.locks_keep_actors.ensures.ready w p'.seen a b.now work)
+    (λ net s t is. c.moves_are_the_clocks.ensures ts w net a s b.now work t c.requires.other is)
+    (λ log t calls is told. c.few_calls_wait.ensures w a log b.now work t calls is told) c.act-answer.result c.act-answer.ensures

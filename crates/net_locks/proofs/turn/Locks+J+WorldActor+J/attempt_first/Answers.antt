@@ -18,18 +18,18 @@ attempt-requires-clause-other g c =
     let d = c.unwrap-first.result.now in
     let is : slice_get ds 0 ≡ Some d = sym c.first.ensures ∙ ap option_copied c.unwrap-first.ensures in
     let there = subst (λ (l : List Duty). In d l) (sym c.requires.guest.owed) (first_in ds d is) in
-    ap (λ (q : Duty). same_actor q.actor name.Clock) c.first-2.view_is ∙ c.no_duty_is_the_clocks.ensures w c.args.bearer.now.pass.seen c.args.bearer.now.caller d there
+    ap (λ (a : ActorName). same_actor a name.Clock) (c.requires.lock d is) ∙ c.no_duty_is_the_clocks.ensures w c.args.bearer.now.pass.seen c.args.bearer.now.caller d there
 
 pub returns-clause-attempted : goal.returns-clause-attempted
 returns-clause-attempted g c d is =
+    let ts = g.J.Placing.tasks in
     let w = g.J.Placing.world in
     let r = g.J.Naming.run.roster in
     let first : c.unwrap-first.result.now ≡ d = same_Some c.unwrap-first.result.now d (ap option_copied (sym c.unwrap-first.ensures) ∙ (c.first.ensures ∙ is)) in
     let work : c.work.result.now ≡ work_of_duty d = c.work.ensures ∙ ap work_of_duty first in
     let cites : c.first-2.inside.cites ≡ d.cites = ap (λ (q : Duty). q.cites) (c.first-2.view_is ∙ first) in
-    let actor : c.first-2.inside.actor ≡ d.actor = ap (λ (q : Duty). q.actor) (c.first-2.view_is ∙ first) in
     let b = c.args.bearer.now in
     let b' = c.attempt.new.bearer in
-    subst (λ (a : ActorName). Attempted g.J.Placing.tasks w r a (work_of_duty d) (Some d.cites) b c.attempt.result b') actor
-    (subst (λ (x : Work). Attempted g.J.Placing.tasks w r c.first-2.inside.actor x (Some d.cites) b c.attempt.result b') work
-    (subst (λ (n : ℕ). Attempted g.J.Placing.tasks w r c.first-2.inside.actor c.work.result.now (Some n) b c.attempt.result b') cites c.attempt.ensures.attempted))
+    subst (λ (a : ActorName). Attempted ts w r a (work_of_duty d) (Some d.cites) b c.attempt.result b') (c.requires.lock d is)
+    (subst (λ (x : Work). Attempted ts w r c.args.lock.now.actor x (Some d.cites) b c.attempt.result b') work
+    (subst (λ (n : ℕ). Attempted ts w r c.args.lock.now.actor c.work.result.now (Some n) b c.attempt.result b') cites c.attempt.ensures.attempted))
