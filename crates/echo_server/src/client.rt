@@ -73,10 +73,10 @@ impl EchoClient {
         ensures { spec.at_stage self.new result ≡ spec.echoed (record self.old { echoed = self.old.echoed + 1 }) }
     {
         self.echoed = self.echoed.saturating_add(1);
-        if self.is_well() {
-            Stage::Close
-        } else {
+        if self.echoed < self.messages.len() {
             Stage::Write
+        } else {
+            Stage::Close
         }
     }
 }

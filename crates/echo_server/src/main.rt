@@ -1,7 +1,7 @@
 //! An echo server and its clients over a network that loses packets, on one worker and on four.
 #![tactic(auto)]
 
-ghost use Rattle.std.specs.Prelude.{◌≡◌, ◌<◌, ◌≤◌, [], count_by, IfOk, IfSome};
+ghost use Rattle.std.specs.Prelude.{◌≡◌, ◌<◌, ◌≤◌, [], filter, length, IfOk, IfSome};
 ghost use Rattle.net_base.specs.World.{IsWorld};
 ghost use Rattle.agenda.specs.Given.{AreBegun};
 ghost use Rattle.agenda.specs.PrefixLaw.{KeepsPrefixes};
@@ -109,7 +109,7 @@ fn messages(alloc: Global) -> Result<Lines, AllocError> {
 
 // How many clients read what they wrote.
 fn well_among(tasks: &[Option<EchoTask>]) -> usize
-    ensures { result ≡ count_by is_well_client tasks.now }
+    ensures { result ≡ length (filter is_well_client tasks.now) }
 {
     tasks.iter().filter(|task| is_well(task)).count()
 }
