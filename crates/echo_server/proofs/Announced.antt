@@ -1,4 +1,4 @@
--- The stage behind an announce, which ends once that is through.
+-- The server behind an announce, which ends once that is through.
 use Rattle.std.proofs.Common.{◌≡◌, Bool, true, false, Option, is_none, unwrap_or, if◌then◌else◌, codes, refl, ap, sym, ◌∙◌, []}
 use Rattle.std.specs.Bool.{then_some}
 use Rattle.net_base.specs.declared.names.FileName.TheVariants as file
@@ -8,21 +8,21 @@ use Rattle.dial_lib.specs.declared.announce.Announce.{Announce}
 use Rattle.dial_lib.specs.declared.beside.Beside.{Beside}
 use Rattle.dial_lib.specs.Announce as announce
 use Rattle.dial_lib.specs.Beside as beside
-use Rattle.echo_server.specs.declared.server.Stage.{Stage}
-use Rattle.echo_server.specs.declared.server.Stage.TheVariants as stage
-use Rattle.echo_server.specs.Serving.{listening, echo_stage_after}
+use Rattle.echo_server.specs.declared.server.EchoServer.{EchoServer}
+use Rattle.echo_server.specs.declared.server.EchoServer.TheVariants as server
+use Rattle.echo_server.specs.Serving.{after, announced}
 
-one_of : (through : Bool) (next old : Stage) → unwrap_or (then_some through next) old ≡ if through then next else old
+one_of : (through : Bool) (next old : EchoServer) → unwrap_or (then_some through next) old ≡ if through then next else old
 one_of true next old = refl
 one_of false next old = refl
 
-module _ (r : Reply) (t told : Announce) (listen : Beside) (old : Stage) (is : old ≡ stage.Announce t) (after_it : told ≡ announce.after t r)
+module _ (r : Reply) (t told : Announce) (listen : Beside) (old : EchoServer) (is : old ≡ server.Announce t) (after_it : told ≡ announce.after t r)
     (listens : listen ≡ beside.begun file.Listen (codes "c") (codes "a")) (through : Bool) (ends : through ≡ is_none (announce.asks told (no_names []))) where
-  pub behind_announce : (behind : Option Stage) → behind ≡ then_some through (stage.Listen listen) → unwrap_or behind (stage.Announce told) ≡ echo_stage_after old r
-  behind_announce behind gives =
-      ap (λ (o : Option Stage). unwrap_or o (stage.Announce told)) gives
-      ∙ (one_of through (stage.Listen listen) (stage.Announce told)
-      ∙ (ap (λ (b : Bool). if b then stage.Listen listen else stage.Announce told) ends
-      ∙ (ap (λ (l : Beside). if is_none (announce.asks told (no_names [])) then stage.Listen l else stage.Announce told) listens
-      ∙ (ap (λ (a : Announce). if is_none (announce.asks a (no_names [])) then listening else stage.Announce a) after_it
-      ∙ ap (λ (s : Stage). echo_stage_after s r) (sym is)))))
+  pub behind_announce : (next : Option EchoServer) → next ≡ then_some through (server.Listen listen) → unwrap_or next (server.Announce told) ≡ after old r
+  behind_announce next gives =
+      ap (λ (o : Option EchoServer). unwrap_or o (server.Announce told)) gives
+      ∙ (one_of through (server.Listen listen) (server.Announce told)
+      ∙ (ap (λ (b : Bool). if b then server.Listen listen else server.Announce told) ends
+      ∙ (ap (λ (l : Beside). if is_none (announce.asks told (no_names [])) then server.Listen l else server.Announce told) listens
+      ∙ (ap announced after_it
+      ∙ ap (λ (s : EchoServer). after s r) (sym is)))))

@@ -12,6 +12,10 @@ use Rattle.echo_server.specs.declared.client.Stage.{Stage}
 use Rattle.echo_server.specs.declared.client.Stage.TheVariants as stage
 use Rattle.echo_server.specs.Serving.{closes_echo, reads_call, writes_back}
 
+-- a client of this address, with these messages, that has asked for nothing yet
+abbrev pub begun : List ℕ → List (List ℕ) → EchoClient
+begun address messages = record { stage = stage.Wait; dial = dial.begun (codes "d") address; messages = messages; echoed = 0 }
+
 -- what it sends next
 abbrev pub sent_next : EchoClient → Option (List ℕ)
 sent_next c = slice_get c.messages c.echoed

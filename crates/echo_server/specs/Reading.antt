@@ -1,5 +1,5 @@
 -- What the clients of a run have read.
-use Rattle.std.specs.Prelude.{◌≡◌, ℕ, true, List, Option, Some}
+use Rattle.std.specs.Prelude.{◌≡◌, ℕ, Bool, true, false, List, Option, Some}
 use Rattle.net_base.specs.declared.history.Entry.{Entry}
 use Rattle.net_base.specs.Next.{own_replies}
 use Rattle.agenda.specs.Given.{task_at}
@@ -9,6 +9,11 @@ use Rattle.echo_server.specs.declared.client.EchoClient.{EchoClient}
 use Rattle.echo_server.specs.declared.server.EchoServer.{EchoServer}
 use Rattle.echo_server.specs.Calling.{is_well}
 use Rattle.echo_server.specs.Echoes.{AreEchoesAmong, echo_texts}
+
+-- a client read what it wrote
+abbrev pub is_well_client : Option (EitherTask EchoServer EchoClient) → Bool
+is_well_client (Some (either.Other client)) = is_well client
+is_well_client _ = false
 
 -- each client that ended well has read each of its messages, in order, in the replies to its own entries
 abbrev pub HaveRead : List Entry → List (Option (EitherTask EchoServer EchoClient)) → Type 0

@@ -36,7 +36,8 @@ pub struct EchoClient {
 impl EchoClient {
     /// Calls this address, and sends these messages.
     pub fn new(alloc: Global, address: &[u8], messages: Lines) -> Result<EchoClient, AllocError>
-        ensures { IfOk result (λ c. echoes.KeepsEchoes c []) }
+        ensures begun { IfOk result (λ c. c ≡ spec.begun address.now messages) }
+        ensures keeps { IfOk result (λ c. echoes.KeepsEchoes c []) }
     {
         Ok(EchoClient {
             stage: Stage::Wait,
@@ -71,13 +72,11 @@ impl EchoClient {
         requires { self.old.echoed < length self.old.messages }
         ensures { spec.at_stage self.new result ≡ spec.echoed (record self.old { echoed = self.old.echoed + 1 }) }
     {
+        self.echoed = self.echoed.saturating_add(1);
         if self.echoed < self.messages.len() {
-            self.echoed += 1;
-        }
-        if self.is_well() {
-            Stage::Close
-        } else {
             Stage::Write
+        } else {
+            Stage::Close
         }
     }
 }
@@ -109,11 +108,8 @@ impl OwnTask for EchoClient {
             Stage::Wait => Stage::Dial,
             Stage::Dial => {
                 self.dial.told(alloc, reply)?;
-                if self.dial.is_through() {
-                    Stage::Write
-                } else {
-                    Stage::Dial
-                }
+                let through = self.dial.is_through();
+                through.then_some(Stage::Write).unwrap_or(Stage::Dial)
             }
             Stage::Write if matches!(reply, Reply::Count { .. }) => Stage::Read,
             Stage::Read if self.is_echo(&reply) => self.next_message(),

@@ -1,19 +1,19 @@
 //! An echo server and its clients over a network that loses packets, on one worker and on four.
 #![tactic(auto)]
 
-ghost use Rattle.std.specs.Prelude.{◌<◌, ◌≤◌, [], IfOk, IfSome};
+ghost use Rattle.std.specs.Prelude.{◌≡◌, ◌<◌, ◌≤◌, [], filter, length, IfOk, IfSome};
 ghost use Rattle.net_base.specs.World.{IsWorld};
 ghost use Rattle.agenda.specs.Given.{AreBegun};
 ghost use Rattle.agenda.specs.PrefixLaw.{KeepsPrefixes};
 ghost use Rattle.echo_server.specs.Echoes.{claimed};
-ghost use Rattle.echo_server.specs.Reading.{HaveRead};
+ghost use Rattle.echo_server.specs.Reading.{HaveRead, is_well_client};
 
 mod client;
 mod server;
 
 use agenda::{EitherTask, RunError, TaskRun, run_tasks};
 use client::EchoClient;
-use net_base::{Lines, Octets, World};
+use net_base::{Lines, World};
 use outside::{OpenGate, Source, StdSource, read_to_end};
 use server::EchoServer;
 use std::alloc::{AllocError, Global};
@@ -21,9 +21,6 @@ use std::process::ExitCode;
 use std::sync::Wait;
 use std::thread::Threads;
 use world_file::read_world;
-
-/// The longest world file, in bytes.
-const LONGEST: usize = 65_536;
 
 /// Where the server is found, and where it announces.
 const SERVICE: &[u8] = b"net!helix!echo";
@@ -54,11 +51,11 @@ fn main(rt: HostRuntime) -> ExitCode {
     ExitCode::SUCCESS
 }
 
-// None where there is no world to be read, or memory runs out.
+// None where there is no world in the first 65,536 bytes, or memory runs out.
 fn world_of<S: Source>(alloc: Global, source: &mut S) -> Option<World>
     ensures { IfSome result (λ w. IsWorld w) }
 {
-    let text = read_to_end(alloc, source, LONGEST).ok()?;
+    let text = read_to_end(alloc, source, 65_536).ok()?;
     read_world(alloc, text.as_slice()).ok()
 }
 
@@ -105,18 +102,21 @@ fn task_of(alloc: Global, place: usize) -> Result<EchoTask, AllocError>
 fn messages(alloc: Global) -> Result<Lines, AllocError> {
     let mut messages = Lines::new(alloc);
     for text in MESSAGES {
-        messages.push(Octets::from_slice(alloc, text)?)?;
+        messages.add(text)?;
     }
     Ok(messages)
 }
 
 // How many clients read what they wrote.
-fn well_among(tasks: &[Option<EchoTask>]) -> usize {
-    let mut well: usize = 0;
-    for task in tasks {
-        if let Some(EitherTask::Other(client)) = task {
-            well = well.saturating_add(usize::from(client.is_well()));
-        }
-    }
-    well
+fn well_among(tasks: &[Option<EchoTask>]) -> usize
+    ensures { result ≡ length (filter is_well_client tasks.now) }
+{
+    tasks.iter().filter(|task| is_well(task)).count()
+}
+
+// Whether a client read what it wrote.
+fn is_well(task: &Option<EchoTask>) -> bool
+    ensures { result ≡ is_well_client task.now }
+{
+    matches!(task, Some(EitherTask::Other(client)) if client.is_well())
 }
