@@ -32,15 +32,29 @@ with_all-answer-requires g t c κs within =
     c.args.grounds.standings.now c.requires.apart c.requires.lent c.lend.new.clock.visit c.lend.ensures.same c.lend.ensures.lent c.lend.ensures.others in
     let less : length c.in-Some.others.now + players_left c.args.groups.now < t = omega (arith, c.in-Some.ensures.cases.1, c.decreases) in (
       less,
-      within.0,
-      within.1.0,
-      within.1.1.0,
-      within.1.1.1,
-      c.requires.world,
-      c.requires.is,
-      ap (λ (v : Visit). caller_of w v.caller) c.lend.ensures.same ∙ (ap (λ (v : Visit). caller_of w v.caller) c.clock.view_is ∙ c.requires.clock),
-      apart,
-      lent,
+      (
+        within.0,
+        (
+          within.1.0,
+          (
+            within.1.1.0,
+            (
+              within.1.1.1,
+              (
+                c.requires.world,
+                (
+                  c.requires.is,
+                  (
+                    ap (λ (v : Visit). caller_of w v.caller) c.lend.ensures.same
+                        ∙ (ap (λ (v : Visit). caller_of w v.caller) c.clock.view_is ∙ c.requires.clock),
+                    (apart, lent),
+                  ),
+                ),
+              ),
+            ),
+          ),
+        ),
+      ),
     )
 
 pub take_back-requires-clause-away : goal.take_back-requires-clause-away
