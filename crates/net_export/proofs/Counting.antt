@@ -1,8 +1,8 @@
 -- The number of events that a script owes is the count by its entries.
-use Rattle.std.proofs.Common.{◌≡◌, ℕ, ◌+◌, ◌-◌, ◌<◌, ◌≤◌, ◌==◌, Bool, true, false, List, [], ◌∷◌, ◌++◌, length, drop, Option, Some, None, slice_get, if◌then◌else◌, refl, sym, ap, subst, ◌∙◌, length-append, arith}
+use Rattle.std.proofs.Common.{◌≡◌, ◌≢◌, ℕ, ◌+◌, ◌-◌, ◌<◌, ◌≤◌, ◌==◌, Bool, true, false, List, [], ◌∷◌, ◌++◌, length, drop, Option, Some, None, slice_get, if◌then◌else◌, refl, sym, ap, subst, ◌∙◌, length-append, arith}
 use Rattle.std.specs.Prelude.{IsSome}
 use Rattle.std.specs.Option.{option_map}
-use Rattle.std.proofs.lemmas.Bool.{eqb-true, false≢true}
+use Rattle.std.proofs.lemmas.Bool.{eqb-true, eq-eqb, ne_eqb, false≢true}
 use Rattle.std.proofs.lemmas.List.{drop_all, length-drop}
 use Rattle.std.proofs.lemmas.Option.{none-some, same_Some}
 use Rattle.net_base.specs.declared.history.Entry.{Entry}
@@ -33,9 +33,23 @@ count_push w c n [] x = refl
 count_push w c n (y ∷ h) x = count_push w c (counted w c n y) h x
 
 -- .. of the one at a stamp
-pub counted_next : (w : World) (c n : ℕ) (h : List Entry) (k : ℕ) (x : Entry) → slice_get h k ≡ Some x
+counted_next : (w : World) (c n : ℕ) (h : List Entry) (k : ℕ) (x : Entry) → slice_get h k ≡ Some x
     → count_after w c n (drop k h) ≡ count_after w c (if x.caller == c then (n - 1) + brought w x else n) (drop (k + 1) h)
 counted_next w c n h k x is = ap (count_after w c n) (next_one h k x is)
+
+-- .. where it is the caller's own
+pub counted_own : (w : World) (c n : ℕ) (h : List Entry) (k : ℕ) (x : Entry) → slice_get h k ≡ Some x → x.caller ≡ c
+    → count_after w c n (drop k h) ≡ count_after w c ((n - 1) + brought w x) (drop (k + 1) h)
+counted_own w c n h k x is own =
+    counted_next w c n h k x is
+    ∙ ap (λ (b : Bool). count_after w c (if b then (n - 1) + brought w x else n) (drop (k + 1) h)) (eq-eqb x.caller c own)
+
+-- .. or another's
+pub counted_other : (w : World) (c n : ℕ) (h : List Entry) (k : ℕ) (x : Entry) → slice_get h k ≡ Some x → x.caller ≢ c
+    → count_after w c n (drop k h) ≡ count_after w c n (drop (k + 1) h)
+counted_other w c n h k x is other =
+    counted_next w c n h k x is
+    ∙ ap (λ (b : Bool). count_after w c (if b then (n - 1) + brought w x else n) (drop (k + 1) h)) (ne_eqb x.caller c other)
 
 -- .. and behind the last
 pub counted_all : (w : World) (c n : ℕ) (h : List Entry) (k : ℕ) → length h ≤ k → count_after w c n (drop k h) ≡ n

@@ -1,5 +1,5 @@
 //! Whether a caller owes something after a history, by its entries alone.
-ghost use Rattle.std.specs.Prelude.{◌≡◌, ◌<◌, ◌≤◌, ◌+◌, ◌^◌, length, IfOk};
+ghost use Rattle.std.specs.Prelude.{◌≡◌, ◌<◌, ◌+◌, ◌^◌, length, IfOk};
 ghost use Rattle.duties.specs.WaysOf.{AreWaysOfWorld};
 ghost use Rattle.net_base.specs.declared.world.World.{World as AnyWorld};
 ghost use Rattle.net_base.specs.Calm.{owes};
@@ -31,7 +31,7 @@ pub fn owes_after<E: Entries>(
 }
 
 // How many events a script owes: an entry does the first of them, and brings its own.
-#[tactic(auto, using(crate::proofs::Counting::counted_next, crate::proofs::Counting::counted_all))]
+#[tactic(auto, using(crate::proofs::Counting::counted_all))]
 fn owed_count<E: Entries>(ways: &WorldWays, history: &E, caller: u32) -> u128
     ensures { (w : AnyWorld) → AreWaysOfWorld w ways.now → result ≡ spec.count_after w caller 0 (E.list history.now) }
 {
@@ -48,7 +48,7 @@ fn owed_count<E: Entries>(ways: &WorldWays, history: &E, caller: u32) -> u128
 // How many events an entry of a script owes: the put of what it emits, what follows its reply, and the release of what ended.
 fn brought(ways: &WorldWays, entry: &Entry) -> u128
     ensures counted { (w : AnyWorld) → AreWaysOfWorld w ways.now → result ≡ spec.brought w entry.now }
-    ensures few { result ≤ 2 ^ 64 + 510 }
+    ensures few { result < 2 ^ 63 + 510 }
 {
     puts(ways, entry) as u128 + follow_ups(entry) as u128 + releases(entry) as u128
 }
@@ -76,7 +76,8 @@ fn count_way(ways: &WorldWays, host: u32, ip: u32) -> u8
 }
 
 fn follow_ups(entry: &Entry) -> usize
-    ensures { result ≡ spec.follow_ups entry.now.actor entry.now.event entry.now.reply }
+    ensures counted { result ≡ spec.follow_ups entry.now.actor entry.now.event entry.now.reply }
+    ensures few { result < 2 ^ 63 }
 {
     match entry.actor {
         ActorName::Dir(_, _) => at_directory(&entry.event, &entry.reply),
@@ -86,7 +87,8 @@ fn follow_ups(entry: &Entry) -> usize
 }
 
 fn at_directory(event: &Event, reply: &Reply) -> usize
-    ensures { result ≡ spec.due_at_directory event.now reply.now }
+    ensures counted { result ≡ spec.due_at_directory event.now reply.now }
+    ensures few { result < 2 ^ 63 }
 {
     match (event, reply) {
         (Event::Reserve, Reply::Slot { .. }) => 1,
@@ -94,8 +96,8 @@ fn at_directory(event: &Event, reply: &Reply) -> usize
         (Event::Announce { .. }, Reply::Ok) => 1,
         (Event::Bind { .. }, Reply::Ok) => 1,
         (Event::Listen { .. }, Reply::Call { .. }) => 1,
-        (Event::Withdraw { .. }, Reply::Calls { calls }) => calls.len(),
-        (Event::Release { .. }, Reply::Calls { calls }) => calls.len(),
+        (Event::Withdraw { .. }, Reply::Calls { calls }) => calls.as_slice().len(),
+        (Event::Release { .. }, Reply::Calls { calls }) => calls.as_slice().len(),
         (Event::Arrive, Reply::To { .. }) => 1,
         (Event::Arrive, Reply::Born { .. }) => 1,
         _ => 0,

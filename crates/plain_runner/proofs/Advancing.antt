@@ -12,7 +12,7 @@ use Rattle.net_base.specs.declared.reply.Reply.{Reply}
 use Rattle.net_base.specs.declared.world.World.{World}
 use Rattle.net_base.specs.Actors.{Actor, IsPlain, actor_step, plain_step}
 use Rattle.net_base.specs.Callers.{Caller as AnyCaller, IsClock, caller_of, clock_number}
-use Rattle.net_base.specs.Calm.{most_entries, movable, owes, target}
+use Rattle.net_base.specs.Calm.{most_entries, movable, target}
 use Rattle.net_base.specs.Desk.{clock_reply}
 use Rattle.net_base.specs.Duties.{Duty}
 use Rattle.net_base.specs.Legal.{IsAsked, IsInTime, IsMove, cites_of}

@@ -13,6 +13,7 @@ use Rattle.net_base.specs.Duties.{Duty}
 use Rattle.net_base.specs.Net.{after, opening_net}
 use Rattle.net_base.specs.Next.{by, finished_by, is_unfinished, own_replies, zone_of}
 use Rattle.net_base.specs.Summary.{end_word}
+use Rattle.net_base.specs.Tasks.{nobody}
 use Rattle.net_base.specs.Versions.{Tuples}
 use Rattle.script_player.specs.Players.{IsAt, Playing, position_after}
 use Rattle.history_laws.proofs.Shared.{past_after}
@@ -59,7 +60,7 @@ could_free w r c k b may s at empty none is = by_owed ((after w r.history.entrie
 pub busy_so : (w : World) (r : Runner) (b : Bool) → b ≡ list_any (could_go w r.history.entries) (callers w) → b ≡ true → calm w (after w r.history.entries) ≡ false
 busy_so w r b is goes =
     let p = passed_range (could_go w r.history.entries) (caller_count w) 0 (sym is ∙ goes) in
-    is_busy w (after w r.history.entries) p.number (omega (arith, p.below)) p.passes
+    is_busy nobody w (after w r.history.entries) p.number (omega (arith, p.below)) p.passes
 
 pub idle_so : (w : World) (r : Runner) (b : Bool) → b ≡ list_any (could_go w r.history.entries) (callers w) → b ≡ false → NobodyCould w (after w r.history.entries)
 idle_so w r b is none = record { none = λ c lt. unpassed (could_go w r.history.entries) (caller_count w) c (sym is ∙ none) lt }

@@ -2,7 +2,6 @@
 use Rattle.std.proofs.Common.{◌≡◌, ℕ, ◌<◌, ◌≤◌, ◌==◌, ◌&&◌, ◌||◌, Bool, true, false, not, List, [], ◌∷◌, ◌++◌, length, take, codes, nat_lt, ◌⊎◌, inl, inr, refl, sym, ap, subst, ◌∙◌, arith, if◌then◌else◌}
 use Rattle.std.proofs.Math.Seq.{take-append_seam}
 use Rattle.std.proofs.lemmas.Bool.{false≢true, eq-eqb, eqb-true, eqb-false, lt-ltb, ne_eqb, and_from, or_parts, and_left, and_right}
-use Rattle.net_base.specs.declared.event.Event.TheVariants as event
 use Rattle.net_base.specs.declared.history.Entry.{Entry}
 use Rattle.net_base.specs.declared.world.World.{World}
 use Rattle.net_base.specs.Callers.{Caller, caller_of, caller_count, clock_number}
@@ -11,6 +10,7 @@ use Rattle.net_base.specs.Legal.{IsInTime, IsLegal, IsTimed, MayFollow}
 use Rattle.net_base.specs.Net.{Net, after, moment, moment_after, step_of}
 use Rattle.net_base.specs.Next.{by}
 use Rattle.net_base.specs.Summary.{end_word}
+use Rattle.net_base.specs.Tasks.{nobody}
 use Rattle.history_laws.proofs.Shared.{after_push, at_push, by_entries, timed_take}
 use Rattle.calm_laws.proofs.Shared.{Kind, OfScript, OfCourier, OfClock, clock_is, clock_waits, courier_is, is_calm, kind_of}
 use Rattle.net_base.proofs.Shared.{none_range, not_below, some_range, script_is}
@@ -75,7 +75,7 @@ some_limited w net c lt full could = some_range (at_limit w net) (caller_count w
         let owing : (owes net (clock_number w) || can_go_on w net (clock_number w)) ≡ true = subst
         (λ (k : ℕ). (owes net k || can_go_on w net k) ≡ true) at could in
         subst (λ (k : ℕ). could_record w net (caller_of w k) k ≡ true) (sym at) (clock_could w net
-        ∙ owes_still (owes net (clock_number w)) (can_go_on w net (clock_number w)) (clock_waits w net) owing)
+        ∙ owes_still (owes net (clock_number w)) (can_go_on w net (clock_number w)) (clock_waits nobody w net) owing)
       where
         owes_still : (a b : Bool) → b ≡ false → (a || b) ≡ true → (a || movable w net) ≡ true
         owes_still true b waits is = refl
@@ -103,7 +103,7 @@ none_limited w net busy none = none_range (at_limit w net) (caller_count w) 0 (�
     at c b could is none = ap (λ (o : Bool). (length (by net.past c) == most_entries) && o) (could ∙ sym is) ∙ none
 
     clock_at : could_record w net (caller_of w (clock_number w)) (clock_number w) ≡ (owes net (clock_number w) || can_go_on w net (clock_number w))
-    clock_at = clock_could w net ∙ ap (λ (b : Bool). owes net (clock_number w) || b) (and_left (calm w net) _ busy ∙ sym (clock_waits w net))
+    clock_at = clock_could w net ∙ ap (λ (b : Bool). owes net (clock_number w) || b) (and_left (calm w net) _ busy ∙ sym (clock_waits nobody w net))
 
     by_clock : (c : ℕ) (b : Bool) → (c == clock_number w) ≡ b → c < caller_count w → at_limit w net c ≡ false
     by_clock c true is lt =
@@ -127,7 +127,7 @@ busy_unfinished w net busy none = busy_word w net false busy (none_limited w net
 -- Where nobody could.
 
 pub idle_calm : (w : World) (net : Net) → NobodyCould w net → calm w net ≡ true
-idle_calm w net idle = is_calm w net idle.none
+idle_calm w net idle = is_calm nobody w net idle.none
 
 pub done_word : (w : World) (net : Net) → NobodyCould w net → unfinished w net ≡ false → codes "done" ≡ end_word w net
 done_word w net idle finished =

@@ -170,6 +170,7 @@ fn is_legal<R: Threads + Wait + Sync>(
         books,
         answered: _,
         end: _,
+        lacks_threads: _,
     } = run;
     let lent = books.get(0).is_some() && books.get(books.len()).is_none();
     let history = books.into_history(alloc)?;

@@ -8,4 +8,4 @@ abbrev pub invariant-loop-stamp : goal.invariant-loop-stamp
 invariant-loop-stamp g l =
     ((w : World) → AreWaysOfWorld w l.ways
     → count_after w l.caller l.owed (drop l.stamp (g.E.Entries.list l.history)) ≡ count_after w l.caller 0 (g.E.Entries.list l.history))
-    × (l.owed ≤ l.stamp * 18446744073709552126)
+    × (l.owed ≤ l.stamp * 9223372036854776317)
