@@ -41,9 +41,21 @@ pub record IsGuestTurn (w : World) (c : ℕ) (p : Sight) (ds : List Duty) (a : A
   pub asked : (now : ℕ) (o : Outcome) →
       IsAskedButOfScripts ds (caller_of w c) (next_recorded w (entries p.seen) c) (made a c now work cites o).entry
 
+-- what a caller asks for: that the actor does a work at a moment, for the stamp that it cites
+pub record Asking : Type 0 where
+  pub actor : ActorName
+  pub caller : ℕ
+  pub now : ℕ
+  pub work : Work
+  pub cites : Option ℕ
+
+abbrev pub asking : ActorName → ℕ → ℕ → Work → Option ℕ → Asking
+asking a c now work cites = record { actor = a; caller = c; now = now; work = work; cites = cites }
+
 -- one entry of the caller was recorded at the actor's lock
-abbrev pub GuestRecords : World → Roster → ActorName → ℕ → ℕ → Work → Option ℕ → Sight → ℕ → Outcome → Sight → Type 0
-GuestRecords w r a c now work cites p stamp o p' = IsDone (named_opening w) (answer_in w) r a c now work cites p stamp o p'
+abbrev pub GuestRecords : World → Roster → Asking → Sight → ℕ → Outcome → Sight → Type 0
+GuestRecords w r q p stamp o p' =
+    IsDone (named_opening w) (answer_in w) r q.actor q.caller q.now q.work q.cites p stamp o p'
 
 -- after the later pass the caller stands as it stood after the earlier one, and is a guest of the same duties
 pub record StaysGuest (w : World) (r : Roster) (c : ℕ) (p : Sight) (ds : List Duty) (p' : Sight) : Type 0 where
@@ -52,15 +64,17 @@ pub record StaysGuest (w : World) (r : Roster) (c : ℕ) (p : Sight) (ds : List 
 
 -- the entry was a step of its actor in the net of the past, and the caller is a guest still. Its first duty is done,
 -- and the duties of the entry are owed after the others
-pub record HasRecorded (w : World) (r : Roster) (a : ActorName) (c now : ℕ) (work : Work) (cites : Option ℕ)
-    (past : List Noted) (p : Sight) (ds : List Duty) (stamp : ℕ) (o : Outcome) (p' : Sight) : Type 0 where
+pub record HasRecorded (w : World) (r : Roster) (q : Asking) (past : List Noted) (p : Sight) (ds : List Duty) (stamp : ℕ)
+    (o : Outcome) (p' : Sight) : Type 0 where
   pub step : Step Actor
-  pub stepped : actor_step w a ((noted_net w past).actors a) now work ≡ Some step
+  pub stepped : actor_step w q.actor ((noted_net w past).actors q.actor) q.now q.work ≡ Some step
   pub outcome : o ≡ act_without_copy step.outcome
-  pub guest : IsGuest w r c p' (drop 1 ds ++ duties w (noted_net w past).actors a stamp work step)
-  pub nexts : (ts : Tasks) → IsAsked ds (caller_of w c) (next_by ts w (entries p.seen) c) (made a c now work cites o).entry →
-      AreNext ts w c p.seen → AreNext ts w c p'.seen
-  pub timely : (ts : Tasks) → IsInTimeBy ts (noted_net w past) w work.event → AreTimely ts w c p.seen → AreTimely ts w c p'.seen
+  pub guest : IsGuest w r q.caller p' (drop 1 ds ++ duties w (noted_net w past).actors q.actor stamp q.work step)
+  pub nexts : (ts : Tasks)
+      → IsAsked ds (caller_of w q.caller) (next_by ts w (entries p.seen) q.caller) (made q.actor q.caller q.now q.work q.cites o).entry
+      → AreNext ts w q.caller p.seen → AreNext ts w q.caller p'.seen
+  pub timely : (ts : Tasks) → IsInTimeBy ts (noted_net w past) w q.work.event → AreTimely ts w q.caller p.seen
+      → AreTimely ts w q.caller p'.seen
 
 -- the history of a journal of the world's callers and actors, each of whose callers made its entries as turns
 pub record IsOfGuests (w : World) (r : Roster) (log : List Noted) : Type 0 where

@@ -126,6 +126,13 @@ fn add_standings<J: Naming + Placing, T: WholeTask + Drop>(
     Ok(())
 }
 
+// What the clock decides by: the world, and how all callers stand.
+#[derive(Clone, Copy)]
+struct Grounds<'s> {
+    world: &'s World,
+    standings: &'s [Standing],
+}
+
 // What is known of a guest by itself.
 fn guest_keeps<J: Naming + Placing>(guest: &Guest<J>)
     ensures { IsGuest J.world J.run.roster guest.entry.now.caller guest.entry.now.sight guest.entry.now.owed }
@@ -160,8 +167,11 @@ impl<J: Naming + Placing> Net<J, WorldActor<J>> {
         let Ok(standings) = standings_of(alloc, players) else {
             return Advance::Memory;
         };
-        let groups = players.groups.as_mut_slice();
-        self.advance_groups(rt, gate, world, standings.as_slice(), groups)
+        let grounds = Grounds {
+            world,
+            standings: standings.as_slice(),
+        };
+        self.advance_groups(rt, gate, grounds, players.groups.as_mut_slice())
     }
 
     // Moves the clock on, where all callers stand so.
@@ -169,14 +179,13 @@ impl<J: Naming + Placing> Net<J, WorldActor<J>> {
         &self,
         rt: &R,
         gate: &G,
-        world: &World,
-        standings: &[Standing],
+        grounds: Grounds<'_>,
         groups: &mut [Group<J, T>],
     ) -> Advance
-        requires world { J.world ≡ world.now }
-        requires is { IsWorld world.now }
+        requires world { J.world ≡ grounds.world.now }
+        requires is { IsWorld grounds.world.now }
         requires dealt { IsDealt J.world J.run.roster.callers (all_seats groups.old) }
-        requires standings { AreStandings J.tasks J.world (visits (all_members groups.old)) standings.now }
+        requires standings { AreStandings J.tasks J.world (visits (all_members groups.old)) grounds.standings.now }
         ensures seats { all_seats groups.new ≡ all_seats groups.old }
         ensures kept { GroupsAreKept J.tasks J.world groups.old result groups.new }
         ensures moment { StayAtOnce result (visits (all_members groups.old)) (visits (all_members groups.new)) }
@@ -188,15 +197,8 @@ impl<J: Naming + Placing> Net<J, WorldActor<J>> {
             return Advance::Memory;
         };
         guest_keeps(&clock.guest);
-        let answer = self.with_all(
-            rt,
-            gate,
-            world,
-            standings,
-            &mut [],
-            groups,
-            &mut clock.guest,
-        );
+        let guest = &mut clock.guest;
+        let answer = self.with_all(rt, gate, grounds, &mut [], groups, guest);
         put_clock(groups, place, clock);
         answer
     }
@@ -208,18 +210,17 @@ impl<J: Naming + Placing> Net<J, WorldActor<J>> {
         &self,
         rt: &R,
         gate: &G,
-        world: &World,
-        standings: &[Standing],
+        grounds: Grounds<'_>,
         players: &'a mut [Player<J, T>],
         groups: &'a mut [Group<J, T>],
         clock: &mut Guest<J>,
     ) -> Advance
-        requires world { J.world ≡ world.now }
-        requires is { IsWorld world.now }
+        requires world { J.world ≡ grounds.world.now }
+        requires is { IsWorld grounds.world.now }
         requires clock { caller_of J.world clock.old.caller ≡ IsClock }
         requires apart { GroupsApart (clock.old.caller ∷ callers_of (players.old ++ other_players groups.old)) }
         requires lent { AreLent J.tasks J.world J.run.roster (visits (players.old ++ other_players groups.old))
-            clock.old.sight standings.now }
+            clock.old.sight grounds.standings.now }
         ensures others { (v : Visit)
             → NotIn v.caller (clock.old.caller ∷ callers_of (players.old ++ other_players groups.old))
             → IsWith J.world J.run.roster v clock.old.sight → IsWith J.world J.run.roster v clock.new.sight }
@@ -232,16 +233,16 @@ impl<J: Naming + Placing> Net<J, WorldActor<J>> {
             Some((first, others)) => {
                 let journal = self.locks.journal();
                 first.guest.bundle.lend(journal, &mut clock.bundle);
-                let answer = self.with_all(rt, gate, world, standings, others, groups, clock);
+                let answer = self.with_all(rt, gate, grounds, others, groups, clock);
                 first.guest.bundle.take_back(journal, &mut clock.bundle);
                 answer
             }
             None => match groups.split_first_mut() {
                 Some((group, rest)) => {
                     let players = group.players.as_mut_slice();
-                    self.with_all(rt, gate, world, standings, players, rest, clock)
+                    self.with_all(rt, gate, grounds, players, rest, clock)
                 }
-                None => self.decide(rt, gate, world, standings, clock),
+                None => self.decide(rt, gate, grounds.world, grounds.standings, clock),
             },
         }
     }

@@ -1,9 +1,8 @@
 //! Actors behind locks.
 ghost use Rattle.std.specs.Prelude.{◌≡◌, ℕ, ◌<◌, ◌^◌, List, length, false, is_some, MatchOption};
-ghost use Rattle.net_base.specs.declared.actor.ActorName.TheVariants.{Clock};
 ghost use Rattle.net_base.specs.declared.noted.Noted.{Noted};
-ghost use Rattle.net_base.specs.Stamped.{same_actor, moment_noted};
-ghost use Rattle.journal.specs.Tokens.{HoldsPass, HoldsAll, Looked};
+ghost use Rattle.net_base.specs.Stamped.{moment_noted};
+ghost use Rattle.journal.specs.Tokens.{HoldsPass, Looked};
 ghost use Rattle.locked.specs.Acts.{Acted, IsTimely, Stands, state_at};
 
 use crate::guarded::{Answer, Asked, Guarded, View};
@@ -54,65 +53,9 @@ impl<J: Naming, M: Machine> Locked<J, M> {
         self.number
     }
 
-    /// One event at the actor by the caller. Two calls of the gate are made where it is recorded, inside the lock before
-    /// the record and after the lock.
+    /// One event at the actor, which isn't the clock, or by a pass that holds every caller's number. Two calls of the gate are
+    /// made where it is recorded, inside the lock before the record and after the lock.
     pub fn act<R: Wait, G: Gate>(
-        &self,
-        rt: &R,
-        journal: &Journal<J>,
-        gate: &G,
-        pass: &mut Pass<J>,
-        caller: u32,
-        now: u64,
-        work: &Work,
-        cites: Option<u64>,
-    ) -> Answer
-        requires room { (es : List (ℕ × Noted)) × HoldsPass pass.old caller es × (length es < 131072) }
-        requires moment { now ≡ moment_noted pass.old.seen }
-        requires now { now < 2 ^ 63 }
-        requires actor { same_actor self.now.actor Clock ≡ false }
-        ensures { Acted M.begin M.answer J.run.roster self.now.actor caller now work.now cites
-            pass.old result pass.new }
-    {
-        let asked = Asked {
-            caller,
-            now,
-            work,
-            cites,
-        };
-        self.act_timely(rt, journal, gate, pass, asked)
-    }
-
-    /// One event at the clock, by a pass that holds every caller's number.
-    pub fn act_clock<R: Wait, G: Gate>(
-        &self,
-        rt: &R,
-        journal: &Journal<J>,
-        gate: &G,
-        pass: &mut Pass<J>,
-        caller: u32,
-        now: u64,
-        work: &Work,
-        cites: Option<u64>,
-    ) -> Answer
-        requires room { (es : List (ℕ × Noted)) × HoldsPass pass.old caller es × (length es < 131072) }
-        requires moment { now ≡ moment_noted pass.old.seen }
-        requires now { now < 2 ^ 63 }
-        requires all { HoldsAll J.run.roster pass.old }
-        ensures { Acted M.begin M.answer J.run.roster self.now.actor caller now work.now cites
-            pass.old result pass.new }
-    {
-        let asked = Asked {
-            caller,
-            now,
-            work,
-            cites,
-        };
-        self.act_timely(rt, journal, gate, pass, asked)
-    }
-
-    // One event at the actor, which isn't the clock, or by a pass that holds every caller's number.
-    fn act_timely<R: Wait, G: Gate>(
         &self,
         rt: &R,
         journal: &Journal<J>,
@@ -136,7 +79,7 @@ impl<J: Naming, M: Machine> Locked<J, M> {
         answer
     }
 
-    // What `act_timely` does within the lock, with the copy that the entry keeps.
+    // What `act` does within the lock, with the copy that the entry keeps.
     fn act_locked<R: Wait, G: Gate>(
         &self,
         rt: &R,

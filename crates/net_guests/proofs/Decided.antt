@@ -160,15 +160,15 @@ module _ {J : Type 0} (ts : Tasks) (w : World) (r : Roster) (b h : Bearer J) (ds
         (sym (caller ∙ ap (λ (x : Bearer J). x.caller) same))
         (subst (λ (m : ℕ). LeavesGuest ts w r (visit b.caller b.now b.pass ds names) answer (visit b.caller m b'.pass ds' names)) (sym at) leaves)
 
-    pub unmoved : b'.now ≡ h.now → MayGo ts w r h.caller h.now h.pass ds None b'.pass ds'
+    pub unmoved : b'.now ≡ h.now → MayGo ts w r h ds None b' ds'
         → LeavesGuest ts w r (visit b.caller b.now b.pass ds names) advance.Memory (visit b'.caller b'.now b'.pass ds' names)
     unmoved now go =
-        let still = subst (λ (x : Bearer J). MayGo ts w r x.caller x.now x.pass ds None b'.pass ds') same go in
+        let still = subst (λ (x : Bearer J). MayGo ts w r x ds None b' ds') same go in
         by_caller advance.Memory b.now (now ∙ ap (λ (x : Bearer J). x.now) same)
         (leaves_none ts w r b.caller b.now b.pass b.pass ds names clock refl b'.pass ds' still.0 still.1)
 
-    pub gone : (m : ℕ) → b'.now ≡ m → MayMove ts w b.caller b.pass → MayGo ts w r h.caller h.now h.pass ds (Some m) b'.pass ds'
+    pub gone : (m : ℕ) → b'.now ≡ m → MayMove ts w b.caller b.pass → MayGo ts w r h ds (Some m) b' ds'
         → LeavesGuest ts w r (visit b.caller b.now b.pass ds names) (advance.Moved m) (visit b'.caller b'.now b'.pass ds' names)
     gone m now may go =
-        let moved = subst (λ (x : Bearer J). MayGo ts w r x.caller x.now x.pass ds (Some m) b'.pass ds') same go in
+        let moved = subst (λ (x : Bearer J). MayGo ts w r x ds (Some m) b' ds') same go in
         by_caller (advance.Moved m) m now (leaves_gone ts w r b.caller b.now b.pass b.pass ds names clock refl b'.pass ds' m may moved.0 moved.1)

@@ -25,8 +25,9 @@ use Rattle.journal.specs.Tokens.{HoldsAll}
 use Rattle.locked.specs.Acts.{made}
 use Rattle.duties.specs.declared.due.Due.{Due}
 use Rattle.duties.specs.Ticking.{MoveOwes, dues_of, ticks_of}
-use Rattle.guest_laws.specs.Guests.{HasRecorded, IsGuest, GuestRecords, StaysGuest}
+use Rattle.guest_laws.specs.Guests.{HasRecorded, IsGuest, GuestRecords, StaysGuest, asking}
 use Rattle.guest_laws.specs.Works.{entries, next_noted, noted_after, noted_net, step_by}
+use Rattle.net_locks.specs.declared.visitor.Bearer.{Bearer}
 use Rattle.net_locks.specs.Moving.{LeavesMoved, MayLeave, MovesTo}
 use Rattle.net_locks.specs.Turns.{HasRoom, StaysOwn, bare}
 use Rattle.net_locks.proofs.Covered.{covers_move}
@@ -42,8 +43,8 @@ at_other k x other n [] = ap (λ (b : Bool). if b then (n, x) ∷ [] else []) ot
 at_other k x other n (y ∷ log) = ap (λ (l : List (ℕ × Noted)). if matches k y then (n, y) ∷ l else l) (at_other k x other (n + 1) log)
 
 module _ (ts : Tasks) (w : World) (r : Roster) (c now m : ℕ) (p p' : Sight) (ds : List Duty) (g : IsGuest w r c p ds) (stamp : ℕ) (o : Outcome)
-    (d : GuestRecords w r name.Clock c now (bare (event.Move m)) None p stamp o p')
-    (rec : HasRecorded w r name.Clock c now (bare (event.Move m)) None d.past p ds stamp o p') (numbers : HoldsAll r p) (free : ds ≡ []) where
+    (d : GuestRecords w r (asking name.Clock c now (bare (event.Move m)) None) p stamp o p')
+    (rec : HasRecorded w r (asking name.Clock c now (bare (event.Move m)) None) d.past p ds stamp o p') (numbers : HoldsAll r p) (free : ds ≡ []) where
   whole : d.past ≡ p.seen
   whole = d.whole numbers
 
@@ -135,12 +136,14 @@ module _ (ts : Tasks) (w : World) (r : Roster) (c now m : ℕ) (p p' : Sight) (d
       }
 
 -- After what came before it, which left the pass and the duties as they were.
-module _ (ts : Tasks) (w : World) (r : Roster) (c now m : ℕ) (p q p' : Sight) (ds es ds' : List Duty) (same : q ≡ p) (still : es ≡ ds) where
-  pub unmoved_so : (b : Bool) → MayLeave ts w r c now m q es b p' ds' → b ≡ false → (p' ≡ p) × (ds' ≡ ds)
+module _ {J : Type 0} (ts : Tasks) (w : World) (r : Roster) (m : ℕ) (old new : Bearer J) (q : Sight) (ds es ds' : List Duty) (same : q ≡ old.pass) (still : es ≡ ds) where
+  pub unmoved_so : (b : Bool) → MayLeave ts w r m (record old { pass = q }) es b new ds' → b ≡ false → (new.pass ≡ old.pass) × (ds' ≡ ds)
   unmoved_so true left is = absurd (true≢false is)
   unmoved_so false left is = (left.0 ∙ same, left.1 ∙ still)
 
-  pub moved_so : (b : Bool) → MayLeave ts w r c now m q es b p' ds' → b ≡ true → LeavesMoved ts w r c now m p ds p' ds'
+  pub moved_so : (b : Bool) → MayLeave ts w r m (record old { pass = q }) es b new ds' → b ≡ true
+      → LeavesMoved ts w r old.caller old.now m old.pass ds new.pass ds'
   moved_so true left is =
-      subst (λ (l : List Duty). LeavesMoved ts w r c now m p l p' ds') still (subst (λ (s : Sight). LeavesMoved ts w r c now m s es p' ds') same left)
+      subst (λ (l : List Duty). LeavesMoved ts w r old.caller old.now m old.pass l new.pass ds') still
+      (subst (λ (s : Sight). LeavesMoved ts w r old.caller old.now m s es new.pass ds') same left)
   moved_so false left is = absurd (false≢true is)

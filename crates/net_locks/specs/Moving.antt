@@ -16,10 +16,11 @@ use Rattle.calm_laws.specs.Could.{could}
 use Rattle.journal.specs.declared.law.Roster.{Roster}
 use Rattle.journal.specs.declared.tokens.Sight.{Sight}
 use Rattle.due_moments.specs.Marks.{Covers, Marks}
-use Rattle.guest_laws.specs.Guests.{IsGuest}
+use Rattle.guest_laws.specs.Guests.{IsGuest, asking}
 use Rattle.guest_laws.specs.Works.{noted_net}
 use Rattle.net_locks.specs.declared.clock.Advance.{Advance}
 use Rattle.net_locks.specs.declared.clock.Advance.TheVariants as advance
+use Rattle.net_locks.specs.declared.visitor.Bearer.{Bearer}
 use Rattle.net_locks.specs.Turns.{HasRoom, RecordedTurn, StaysOwn, bare, own_seen}
 
 -- the least caller that owes a duty or whose next event is ready
@@ -53,7 +54,7 @@ Halts ts w c p (Some answer) = KeepsMoving ts w (noted_net w p.seen) answer
 pub record MovesTo (ts : Tasks) (w : World) (c now m : ℕ) (p : Sight) (ds : List Duty) (p' : Sight) (ds' : List Duty) : Type 0 where
   pub stamp : ℕ
   pub reply : Reply
-  pub turn : RecordedTurn ts w c now name.Clock (bare (event.Move m)) None p ds stamp reply p' ds'
+  pub turn : RecordedTurn ts w (asking name.Clock c now (bare (event.Move m)) None) p ds stamp reply p' ds'
   pub whole : turn.past ≡ p.seen
 
 -- what the entry leaves of the clock, which owed nothing, and of the others by its pass
@@ -66,12 +67,12 @@ pub record LeavesMoved (ts : Tasks) (w : World) (r : Roster) (c now m : ℕ) (p 
   pub others : (k : ℕ) (es : List Duty) → IsGuest w r k p es → (k == c) ≡ false → IsGuest w r k p' es × StaysOwn w k p p'
 
 -- by whether it was recorded
-abbrev pub MayLeave : Tasks → World → Roster → ℕ → ℕ → ℕ → Sight → List Duty → Bool → Sight → List Duty → Type 0
-MayLeave ts w r c now m p ds true p' ds' = LeavesMoved ts w r c now m p ds p' ds'
-MayLeave ts w r c now m p ds false p' ds' = (p' ≡ p) × (ds' ≡ ds)
+abbrev pub MayLeave : {J : Type 0} → Tasks → World → Roster → ℕ → Bearer J → List Duty → Bool → Bearer J → List Duty → Type 0
+MayLeave ts w r m old ds true new ds' = LeavesMoved ts w r old.caller old.now m old.pass ds new.pass ds'
+MayLeave ts w r m old ds false new ds' = (new.pass ≡ old.pass) × (ds' ≡ ds)
 
 -- by the moment to which it moved, if it did
-abbrev pub MayGo : Tasks → World → Roster → ℕ → ℕ → Sight → List Duty → Option ℕ → Sight → List Duty → Type 0
-MayGo ts w r c now p ds None p' ds' = (p' ≡ p) × (ds' ≡ ds)
-MayGo ts w r c now p ds (Some m) p' ds' =
-    LeavesMoved ts w r c now m p ds p' ds' × (m ≡ target_by ts w (noted_net w p.seen)) × (m ≤ w.end)
+abbrev pub MayGo : {J : Type 0} → Tasks → World → Roster → Bearer J → List Duty → Option ℕ → Bearer J → List Duty → Type 0
+MayGo ts w r old ds None new ds' = (new.pass ≡ old.pass) × (ds' ≡ ds)
+MayGo ts w r old ds (Some m) new ds' =
+    LeavesMoved ts w r old.caller old.now m old.pass ds new.pass ds' × (m ≡ target_by ts w (noted_net w old.pass.seen)) × (m ≤ w.end)

@@ -19,6 +19,7 @@ use Rattle.net_base.specs.Stamped.{at}
 use Rattle.net_base.specs.Tasks.{Tasks}
 use Rattle.journal.specs.declared.tokens.Sight.{Sight}
 use Rattle.locked.specs.Acts.{made, act_without_copy}
+use Rattle.guest_laws.specs.Guests.{Asking}
 use Rattle.guest_laws.specs.Works.{entries, noted_net}
 use Rattle.guest_laws.specs.Own.{AreNext, AreTimely, OwnStandsStill}
 use Rattle.net_locks.specs.declared.turn.Turn.{Turn}
@@ -35,22 +36,22 @@ abbrev pub IsFull : ℕ → Sight → Type 0
 IsFull c p = length (own_seen c p) ≡ 131072
 
 -- one entry of the caller was recorded: its actor's step in the net of the past, and its first duty is done
-pub record RecordedTurn (ts : Tasks) (w : World) (c now : ℕ) (a : ActorName) (work : Work) (cites : Option ℕ) (p : Sight)
-    (ds : List Duty) (stamp : ℕ) (answer : Reply) (p' : Sight) (ds' : List Duty) : Type 0 where
-  pub room : HasRoom c p
+pub record RecordedTurn (ts : Tasks) (w : World) (q : Asking) (p : Sight) (ds : List Duty) (stamp : ℕ) (answer : Reply)
+    (p' : Sight) (ds' : List Duty) : Type 0 where
+  pub room : HasRoom q.caller p
   pub past : List Noted
   pub stamp_is : length past ≡ stamp
   pub before : IsPrefix p.seen past
-  pub alone : at (number.Caller c) past ≡ own_seen c p
+  pub alone : at (number.Caller q.caller) past ≡ own_seen q.caller p
   pub step : Step Actor
-  pub stepped : actor_step w a ((noted_net w past).actors a) now work ≡ Some step
+  pub stepped : actor_step w q.actor ((noted_net w past).actors q.actor) q.now q.work ≡ Some step
   pub reply : answer ≡ step.outcome.reply
-  pub seen : p'.seen ≡ past ++ made a c now work cites (act_without_copy step.outcome) ∷ []
-  pub owed : ds' ≡ drop 1 ds ++ duties w (noted_net w past).actors a stamp work step
-  pub nexts : IsAsked ds (caller_of w c) (next_by ts w (entries p.seen) c)
-      (made a c now work cites (act_without_copy step.outcome)).entry
-      → AreNext ts w c p.seen → AreNext ts w c p'.seen
-  pub timely : AreTimely ts w c p.seen → AreTimely ts w c p'.seen
+  pub seen : p'.seen ≡ past ++ made q.actor q.caller q.now q.work q.cites (act_without_copy step.outcome) ∷ []
+  pub owed : ds' ≡ drop 1 ds ++ duties w (noted_net w past).actors q.actor stamp q.work step
+  pub nexts : IsAsked ds (caller_of w q.caller) (next_by ts w (entries p.seen) q.caller)
+      (made q.actor q.caller q.now q.work q.cites (act_without_copy step.outcome)).entry
+      → AreNext ts w q.caller p.seen → AreNext ts w q.caller p'.seen
+  pub timely : AreTimely ts w q.caller p.seen → AreTimely ts w q.caller p'.seen
 
 -- more was seen, but no entry of the caller
 pub record StaysOwn (w : World) (c : ℕ) (p p' : Sight) : Type 0 where
@@ -64,15 +65,13 @@ pub record Unready (w : World) (c now : ℕ) (a : ActorName) (work : Work) (p : 
   pub stays : StaysOwn w c p p'
   pub unready : actor_step w a ((noted_net w p'.seen).actors a) now work ≡ None
 
--- what a turn with this work at this actor did, by its answer
-abbrev pub Turned : Tasks → World → ℕ → ℕ → ActorName → Work → Option ℕ → Sight → List Duty → Turn → Sight → List Duty
-    → Type 0
-Turned ts w c now a work cites p ds (turn.Recorded stamp answer) p' ds' =
-    RecordedTurn ts w c now a work cites p ds stamp answer p' ds'
-Turned ts w c now a work cites p ds turn.NotReady p' ds' = Unready w c now a work p p' × (ds' ≡ ds)
-Turned ts w c now a work cites p ds turn.Owes p' ds' = ⊥
-Turned ts w c now a work cites p ds turn.Limit p' ds' = IsFull c p × (p' ≡ p) × (ds' ≡ ds)
-Turned ts w c now a work cites p ds turn.Memory p' ds' = HasRoom c p × (p' ≡ p) × (ds' ≡ ds)
+-- what the turn in which the caller asked for it did, by its answer
+abbrev pub Turned : Tasks → World → Asking → Sight → List Duty → Turn → Sight → List Duty → Type 0
+Turned ts w q p ds (turn.Recorded stamp answer) p' ds' = RecordedTurn ts w q p ds stamp answer p' ds'
+Turned ts w q p ds turn.NotReady p' ds' = Unready w q.caller q.now q.actor q.work p p' × (ds' ≡ ds)
+Turned ts w q p ds turn.Owes p' ds' = ⊥
+Turned ts w q p ds turn.Limit p' ds' = IsFull q.caller p × (p' ≡ p) × (ds' ≡ ds)
+Turned ts w q p ds turn.Memory p' ds' = HasRoom q.caller p × (p' ≡ p) × (ds' ≡ ds)
 
 -- with nothing given
 abbrev pub bare : Event → Work

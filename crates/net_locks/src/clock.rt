@@ -36,7 +36,7 @@ use guest_laws::{
     guests_record, guests_stay_by_others, locks_keep_actors, nets_of_works_grow, turns_are_these,
 };
 use journal::{Naming, Pass};
-use locked::Answer;
+use locked::{Answer, Asked};
 use net_base::{ActorName, Event, With, Work, World};
 use outside::Gate;
 use std::sync::Wait;
@@ -228,8 +228,8 @@ impl<J: Naming + Placing> Locks<J, WorldActor<J>> {
         ensures complete { IsVisitor J.world J.run.roster visitor.new }
         ensures caller { visitor.new.bearer.caller ≡ visitor.old.bearer.caller }
         ensures now { visitor.new.bearer.now ≡ unwrap_or result visitor.old.bearer.now }
-        ensures go { MayGo J.tasks J.world J.run.roster visitor.old.bearer.caller visitor.old.bearer.now
-            visitor.old.bearer.pass visitor.old.duties.list result visitor.new.bearer.pass visitor.new.duties.list }
+        ensures go { MayGo J.tasks J.world J.run.roster visitor.old.bearer visitor.old.duties.list result
+            visitor.new.bearer visitor.new.duties.list }
     {
         let Some(moment) = self.reach(rt, gate, world, standings, visitor) else {
             return None;
@@ -256,8 +256,8 @@ impl<J: Naming + Placing> Locks<J, WorldActor<J>> {
         ensures same { IsSameBearer visitor.old.bearer visitor.new.bearer }
         ensures touched { visitor.new.touched ≡ visitor.old.touched }
         ensures known { IsKnown J.world visitor.new.bearer.pass.seen visitor.new.calendar }
-        ensures go { MayGo J.tasks J.world J.run.roster visitor.old.bearer.caller visitor.old.bearer.now
-            visitor.old.bearer.pass visitor.old.duties.list result visitor.new.bearer.pass visitor.new.duties.list }
+        ensures go { MayGo J.tasks J.world J.run.roster visitor.old.bearer visitor.old.duties.list result
+            visitor.new.bearer visitor.new.duties.list }
     {
         conversations_are_these();
         nets_of_works_grow();
@@ -301,8 +301,8 @@ impl<J: Naming + Placing> Locks<J, WorldActor<J>> {
         requires reserved { length dues.now ≤ duties.old.room }
         requires in_time { IsInTimeBy J.tasks (noted_net J.world bearer.old.pass.seen) J.world (event.Move moment) }
         ensures same { IsSameBearer bearer.old bearer.new }
-        ensures leaves { MayLeave J.tasks J.world J.run.roster bearer.old.caller bearer.old.now moment bearer.old.pass
-            duties.old.list result bearer.new.pass duties.new.list }
+        ensures leaves { MayLeave J.tasks J.world J.run.roster moment bearer.old duties.old.list result bearer.new
+            duties.new.list }
     {
         a_move_owes_its_ticks();
         guests_record();
@@ -316,9 +316,13 @@ impl<J: Naming + Placing> Locks<J, WorldActor<J>> {
             event: Event::Move { moment },
             with: With::Nothing,
         };
-        let (caller, now) = (bearer.caller, bearer.now);
-        let pass = &mut bearer.pass;
-        match lock.act_clock(rt, &self.journal, gate, pass, caller, now, &work, None) {
+        let asked = Asked {
+            caller: bearer.caller,
+            now: bearer.now,
+            work: &work,
+            cites: None,
+        };
+        match lock.act(rt, &self.journal, gate, &mut bearer.pass, asked) {
             Answer::Done { stamp, outcome: _ } => {
                 duties.owe_ticks(stamp, moment, dues);
                 true

@@ -8,7 +8,7 @@ ghost use Rattle.net_base.specs.Duties.{Duty as AnyDuty};
 ghost use Rattle.net_base.specs.Stamped.{moment_noted, same_actor};
 ghost use Rattle.duties.specs.Owing.{Owes, most_owed};
 ghost use Rattle.duties.specs.Queue.{work_of_duty};
-ghost use Rattle.guest_laws.specs.Guests.{IsGuest, IsGuestTurn};
+ghost use Rattle.guest_laws.specs.Guests.{IsGuest, IsGuestTurn, asking};
 ghost use Rattle.due_moments.specs.Marks.{Covers};
 ghost use Rattle.net_locks.specs.Turns.{HasRoom, Turned, bare};
 ghost use Rattle.net_locks.specs.Visitors.{Attempted, IsSameBearer, IsVisitor, Visited};
@@ -26,7 +26,7 @@ use guest_laws::{
     no_duty_is_the_clocks, turns_are_these,
 };
 use journal::Naming;
-use locked::Answer;
+use locked::{Answer, Asked};
 use net_base::{ActorName, Body, Event, IlKind, Outcome, Reply, With, Work};
 use outside::Gate;
 use std::sync::Wait;
@@ -168,9 +168,13 @@ impl<J: Naming + Placing> Locks<J, WorldActor<J>> {
         let Some(lock) = self.lock_of(actor) else {
             return Err(Turn::NotReady);
         };
-        let (caller, now) = (bearer.caller, bearer.now);
-        let pass = &mut bearer.pass;
-        match lock.act(rt, &self.journal, gate, pass, caller, now, work, cites) {
+        let asked = Asked {
+            caller: bearer.caller,
+            now: bearer.now,
+            work,
+            cites,
+        };
+        match lock.act(rt, &self.journal, gate, &mut bearer.pass, asked) {
             Answer::Done { stamp, outcome } => {
                 // who waits for the actor sees that it has had an entry more
                 self.marks.add(lock.number() as usize, may_give_text(work));
@@ -232,7 +236,7 @@ fn lacks_room<J: Naming + Placing>(
     ensures none { IsNone result → HasRoom bearer.entry.now.caller bearer.entry.now.pass
         × (13 ≤ duties.new.room) × (0 < touched.new.room) }
     ensures some { IfSome result (λ t. (now : ℕ) (a : Name) (work : AnyWork) (cites : Option ℕ)
-        → Turned J.tasks J.world bearer.entry.now.caller now a work cites bearer.entry.now.pass duties.old.list t
+        → Turned J.tasks J.world (asking a bearer.entry.now.caller now work cites) bearer.entry.now.pass duties.old.list t
         bearer.entry.now.pass duties.new.list) }
 {
     if bearer.pass.room(bearer.caller) == 0 {

@@ -27,6 +27,7 @@ use Rattle.duties.specs.Showing.{shown_entry, shows}
 use Rattle.net_actors.specs.Together.{AreActors, Numbered, StepsTogether, StepsIn}
 use Rattle.script_task.specs.Fitting.{fits}
 use Rattle.plain_runner.specs.declared.caller.Caller.{Caller}
+use Rattle.plain_runner.specs.declared.recording.Coming.{Coming}
 use Rattle.plain_runner.specs.declared.turn.Turn.{Turn}
 use Rattle.plain_runner.specs.Callers.{WentOn, IsCallerKept, IsEntryOf}
 use Rattle.plain_runner.specs.Recording.{ComesNext, DuesOf, OwesAll, Records}
@@ -61,12 +62,12 @@ pub record IsStepped (w : World) (h : List Entry) (c : ℕ) (t : Turn) (o : Outc
   pub step : step_of w (after w h) x ≡ Some (record { state = s; outcome = o })
   pub work : work_of (after w h) x ≡ t.work
 
-stepped : (w : World) (h : List Entry) (c : ℕ) (t : Turn) (k : Caller) (net : Numbered) (ways : List HostWays) (stamp now : ℕ) (o : Outcome) (s : Actor)
+stepped : (w : World) (h : List Entry) (coming : Coming) (t : Turn) (k : Caller) (net : Numbered) (ways : List HostWays) (o : Outcome) (s : Actor)
     (x : Entry)
-    → ComesNext w h c t k net ways stamp now → x.caller ≡ c → x.actor ≡ t.actor → x.event ≡ t.work.event
-    → actor_step w t.actor ((after w h).actors t.actor) now t.work ≡ Some (record { state = s; outcome = o })
-    → IsStepped w h c t o s x
-stepped w h c t k net ways stamp now o s x comes caller actor event step =
+    → ComesNext w h coming t k net ways → x.caller ≡ coming.caller → x.actor ≡ t.actor → x.event ≡ t.work.event
+    → actor_step w t.actor ((after w h).actors t.actor) coming.now t.work ≡ Some (record { state = s; outcome = o })
+    → IsStepped w h coming.caller t o s x
+stepped w h coming t k net ways o s x comes caller actor event step =
     let work : work_of (after w h) x ≡ t.work =
     ap (λ (e : Event). record { event = e; with = with_of ((after w h).owed x.caller) }) event
     ∙ ap (λ (d : ℕ). record { event = t.work.event; with = with_of ((after w h).owed d) }) caller
@@ -88,15 +89,15 @@ RepliesFit = (w : World) (h : List Entry) (a : ActorName) (now : ℕ) (work : Wo
     → actor_step w a ((after w h).actors a) now work ≡ Some t → fits work.event t.outcome.reply ≡ true
 
 module _ {Z : Type 0} (grows : Grows) (pasts : HavePasts) (replies : RepliesFit)
-    (c : ℕ) (t : Turn) (old new : Caller) (net net_new : Numbered) (ways : List HostWays) (stamp now : ℕ) (d : Option (Vec Due Z)) (o : Outcome)
+    (coming : Coming) (t : Turn) (old new : Caller) (net net_new : Numbered) (ways : List HostWays) (d : Option (Vec Due Z)) (o : Outcome)
     (owed_new : Queue) (x : Entry)
-    (steps : StepsTogether net net_new t.actor now t.work o)
+    (steps : StepsTogether net net_new t.actor coming.now t.work o)
     (dues : (w : World) (states : ActorName → Actor) → AreActors w net states → DuesOf w states t.actor t.work.event d)
-    (owes_all : OwesAll ways t.actor stamp t.work (without_copy o) d old.owed owed_new)
+    (owes_all : OwesAll ways t.actor coming.stamp t.work (without_copy o) d old.owed owed_new)
     (goes : WentOn (record old { owed = owed_new }) new t.cites o.reply)
-    (entry_is : x ≡ shown_entry t.actor c now t.cites (shows t.work.event (without_copy o)))
+    (entry_is : x ≡ shown_entry t.actor coming.caller coming.now t.cites (shows t.work.event (without_copy o)))
   where
-    caller_so : x.caller ≡ c
+    caller_so : x.caller ≡ coming.caller
     caller_so = ap (λ (y : Entry). y.caller) entry_is
 
     actor_so : x.actor ≡ t.actor
@@ -106,20 +107,20 @@ module _ {Z : Type 0} (grows : Grows) (pasts : HavePasts) (replies : RepliesFit)
     event_so = ap (λ (y : Entry). y.event) entry_is
 
     -- the step in a world
-    stepped_in : (w : World) (h : List Entry) → ComesNext w h c t old net ways stamp now → StepsIn w (after w h).actors net_new t.actor now t.work o
-    stepped_in w h comes = steps w (after w h).actors comes.are (ready_has w h c t comes.ready)
+    stepped_in : (w : World) (h : List Entry) → ComesNext w h coming t old net ways → StepsIn w (after w h).actors net_new t.actor coming.now t.work o
+    stepped_in w h comes = steps w (after w h).actors comes.are (ready_has w h coming.caller t comes.ready)
 
-    step_so : (w : World) (h : List Entry) (comes : ComesNext w h c t old net ways stamp now) → IsStepped w h c t o (stepped_in w h comes).state x
-    step_so w h comes = stepped w h c t old net ways stamp now o (stepped_in w h comes).state x comes caller_so actor_so event_so (stepped_in w h comes).step
+    step_so : (w : World) (h : List Entry) (comes : ComesNext w h coming t old net ways) → IsStepped w h coming.caller t o (stepped_in w h comes).state x
+    step_so w h comes = stepped w h coming t old net ways o (stepped_in w h comes).state x comes caller_so actor_so event_so (stepped_in w h comes).step
 
-    after_so : (w : World) (h : List Entry) (comes : ComesNext w h c t old net ways stamp now)
+    after_so : (w : World) (h : List Entry) (comes : ComesNext w h coming t old net ways)
         → after w (h ++ x ∷ []) ≡ net_after w (after w h) x (Some (record { state = (stepped_in w h comes).state; outcome = o }))
     after_so w h comes = grows w h x ∙ ap (net_after w (after w h) x) (step_so w h comes).step
 
-    outcome_so : (w : World) (h : List Entry) → ComesNext w h c t old net ways stamp now → outcome_in w (after w h) x ≡ Some o
+    outcome_so : (w : World) (h : List Entry) → ComesNext w h coming t old net ways → outcome_in w (after w h) x ≡ Some o
     outcome_so w h comes = ap (option_map (λ (s : Step Actor). s.outcome)) (step_so w h comes).step
 
-    follows_so : (w : World) (h : List Entry) → ComesNext w h c t old net ways stamp now → MayFollow w h x
+    follows_so : (w : World) (h : List Entry) → ComesNext w h coming t old net ways → MayFollow w h x
     follows_so w h comes =
         record {
           answers = subst (λ (p : Option Outcome). Shows p x) (sym (outcome_so w h comes)) (ap shown_by entry_is);
@@ -128,64 +129,64 @@ module _ {Z : Type 0} (grows : Grows) (pasts : HavePasts) (replies : RepliesFit)
           is_asked = subst (λ (e : ℕ). IsAsked (owed w h e) (caller_of w e) (next_recorded w h e) x) (sym caller_so) (comes.ready.turn.asked x actor_so event_so);
           is_ready = subst (λ (p : Option Outcome). IsSome p) (sym (outcome_so w h comes)) refl;
           is_known = (
-            subst (λ (a : ActorName). has_actor w a ≡ true) (sym actor_so) (ready_has w h c t comes.ready),
+            subst (λ (a : ActorName). has_actor w a ≡ true) (sym actor_so) (ready_has w h coming.caller t comes.ready),
             subst (λ (e : ℕ). e < caller_count w) (sym caller_so) comes.ready.known,
           );
           has_room = subst (λ (e : ℕ). length (by h e) < most_entries) (sym caller_so) comes.ready.room;
         }
 
-    is_entry : (w : World) (h : List Entry) → ComesNext w h c t old net ways stamp now → IsEntryOf w h c t.cites o.reply x
+    is_entry : (w : World) (h : List Entry) → ComesNext w h coming t old net ways → IsEntryOf w h coming.caller t.cites o.reply x
     is_entry w h comes =
         record {
           caller_is = caller_so;
           cites_is = ap (λ (y : Entry). y.cites) entry_is;
           reply_is = ap (λ (y : Entry). y.reply) entry_is;
-          fitting = ap (λ (e : Event). fits e o.reply) event_so ∙ replies w h t.actor now t.work _ (stepped_in w h comes).step;
-          came_next = λ none. came_by (caller_of w c) (next_recorded w h c) (owed w h c) x (sym comes.ready.turn.cited ∙ none)
+          fitting = ap (λ (e : Event). fits e o.reply) event_so ∙ replies w h t.actor coming.now t.work _ (stepped_in w h comes).step;
+          came_next = λ none. came_by (caller_of w coming.caller) (next_recorded w h coming.caller) (owed w h coming.caller) x (sym comes.ready.turn.cited ∙ none)
               (comes.ready.turn.asked x actor_so event_so);
         }
 
     -- what it owes then
-    new_duties : (w : World) (h : List Entry) (comes : ComesNext w h c t old net ways stamp now)
-        → duties w (after w h).actors t.actor stamp t.work (record { state = (stepped_in w h comes).state; outcome = o })
+    new_duties : (w : World) (h : List Entry) (comes : ComesNext w h coming t old net ways)
+        → duties w (after w h).actors t.actor coming.stamp t.work (record { state = (stepped_in w h comes).state; outcome = o })
         ≡ duties w (after w h).actors x.actor (length (after w h).past) (work_of (after w h) x)
         (record { state = (stepped_in w h comes).state; outcome = o })
     new_duties w h comes =
         let s : Step Actor = record { state = (stepped_in w h comes).state; outcome = o } in
-        ap (λ (a : ActorName). duties w (after w h).actors a stamp t.work s) (sym actor_so)
+        ap (λ (a : ActorName). duties w (after w h).actors a coming.stamp t.work s) (sym actor_so)
         ∙ ap (λ (n : ℕ). duties w (after w h).actors x.actor n t.work s) (comes.stamp_is ∙ ap length (sym (pasts w h)))
         ∙ ap (λ (work : Work). duties w (after w h).actors x.actor (length (after w h).past) work s) (sym (step_so w h comes).work)
 
-    owes_so : (w : World) (h : List Entry) → ComesNext w h c t old net ways stamp now → new.owed.list ≡ owed w (h ++ x ∷ []) c
+    owes_so : (w : World) (h : List Entry) → ComesNext w h coming t old net ways → new.owed.list ≡ owed w (h ++ x ∷ []) coming.caller
     owes_so w h comes =
         let s : Step Actor = record { state = (stepped_in w h comes).state; outcome = o } in
         let gives : GivesStep w t.actor t.work (without_copy o) s =
-        record { before = (after w h).actors t.actor; now = now; gives = (stepped_in w h comes).step; outcome = refl } in
-        let adds : owed_new.list ≡ old.owed.list ++ duties w (after w h).actors t.actor stamp t.work s =
+        record { before = (after w h).actors t.actor; now = coming.now; gives = (stepped_in w h comes).step; outcome = refl } in
+        let adds : owed_new.list ≡ old.owed.list ++ duties w (after w h).actors t.actor coming.stamp t.work s =
         owes_all w (after w h).actors s comes.ways_are (dues w (after w h).actors comes.are) gives in
         ap (λ (q : Queue). q.list) goes.owed_stays
         ∙ adds
-        ∙ ap (λ (ds : List Duty). ds ++ duties w (after w h).actors t.actor stamp t.work s) comes.turning.owes
-        ∙ ap (λ (ds : List Duty). drop 1 (owed w h c) ++ ds) (new_duties w h comes)
-        ∙ sym (own_owed (after w h).owed x.caller c (duties w (after w h).actors x.actor (length (after w h).past) (work_of (after w h) x) s) caller_so)
-        ∙ sym (ap (λ (n : Net). n.owed c) (after_so w h comes))
+        ∙ ap (λ (ds : List Duty). ds ++ duties w (after w h).actors t.actor coming.stamp t.work s) comes.turning.owes
+        ∙ ap (λ (ds : List Duty). drop 1 (owed w h coming.caller) ++ ds) (new_duties w h comes)
+        ∙ sym (own_owed (after w h).owed x.caller coming.caller (duties w (after w h).actors x.actor (length (after w h).past) (work_of (after w h) x) s) caller_so)
+        ∙ sym (ap (λ (n : Net). n.owed coming.caller) (after_so w h comes))
 
-    kept_so : (w : World) (h : List Entry) → ComesNext w h c t old net ways stamp now → IsCallerKept w (h ++ x ∷ []) c new
+    kept_so : (w : World) (h : List Entry) → ComesNext w h coming t old net ways → IsCallerKept w (h ++ x ∷ []) coming.caller new
     kept_so w h comes =
         let turns = comes.turning.turns in
         record {
-          stands = goes.goes w h c x (record { role_is = turns.role_is; next_is = turns.next_is; own = turns.own }) (is_entry w h comes);
+          stands = goes.goes w h coming.caller x (record { role_is = turns.role_is; next_is = turns.next_is; own = turns.own }) (is_entry w h comes);
           owes = owes_so w h comes;
-          entries_is = goes.entries_is ∙ ap (λ (n : ℕ). n + 1) comes.turning.entries_is ∙ sym (one_entry_more h x c caller_so);
+          entries_is = goes.entries_is ∙ ap (λ (n : ℕ). n + 1) comes.turning.entries_is ∙ sym (one_entry_more h x coming.caller caller_so);
         }
 
-    are_so : (w : World) (h : List Entry) → ComesNext w h c t old net ways stamp now → AreActors w net_new (after w (h ++ x ∷ [])).actors
+    are_so : (w : World) (h : List Entry) → ComesNext w h coming t old net ways → AreActors w net_new (after w (h ++ x ∷ [])).actors
     are_so w h comes =
         subst (λ (n : Net). AreActors w net_new n.actors) (sym (after_so w h comes))
         (subst (λ (a : ActorName). AreActors w net_new (actors_after (after w h).actors a (stepped_in w h comes).state)) (sym actor_so)
         (stepped_in w h comes).are)
 
-    pub records_so : Records c t old new net net_new ways stamp now x
+    pub records_so : Records coming t old new net net_new ways x
     records_so = λ w h comes.
         record {
           follows = follows_so w h comes;

@@ -63,7 +63,7 @@ caller_stays w h c k x other is = record {
 -- The run.
 
 pub come : (w : World) (r : Runner) (c : ℕ) (t : Turn) (k : Caller) → IsBefore w r c t → slice_get r.callers.items c ≡ Some k
-    → ComesNext w r.history.entries c t k r.net r.ways r.count r.moment
+    → ComesNext w r.history.entries (record { caller = c; stamp = r.count; now = r.moment }) t k r.net r.ways
 come w r c t k b at = record {
   history = b.history;
   turning = b.turning k at;

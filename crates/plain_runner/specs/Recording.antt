@@ -22,6 +22,7 @@ use Rattle.net_actors.specs.Together.{AreActors, Numbered}
 use Rattle.plain_runner.specs.Callers.{IsCallerKept, IsTurning}
 use Rattle.plain_runner.specs.Turns.{IsReadyTurn}
 use Rattle.plain_runner.specs.declared.caller.Caller.{Caller}
+use Rattle.plain_runner.specs.declared.recording.Coming.{Coming}
 use Rattle.plain_runner.specs.declared.turn.Turn.{Turn}
 
 -- a history of a world, legal and timed
@@ -31,23 +32,21 @@ pub record IsHistory (w : World) (h : List Entry) : Type 0 where
   pub timed : IsTimed w h
 
 -- the turn of a caller comes after this history, and what is kept is of it
-pub record ComesNext
-    (w : World) (h : List Entry) (c : ℕ) (t : Turn) (k : Caller) (net : Numbered) (ways : List HostWays) (stamp now : ℕ)
+pub record ComesNext (w : World) (h : List Entry) (coming : Coming) (t : Turn) (k : Caller) (net : Numbered) (ways : List HostWays)
     : Type 0 where
   pub history : IsHistory w h
-  pub turning : IsTurning w h c t.cites k
-  pub ready : IsReadyTurn w h c t
+  pub turning : IsTurning w h coming.caller t.cites k
+  pub ready : IsReadyTurn w h coming.caller t
   pub are : AreActors w net (after w h).actors
   pub ways_are : AreWaysOfWorld w ways
-  pub stamp_is : stamp ≡ length h
-  pub now_is : now ≡ moment w h
+  pub stamp_is : coming.stamp ≡ length h
+  pub now_is : coming.now ≡ moment w h
 
 -- so of some world and history
-pub record CanRecord (c : ℕ) (t : Turn) (k : Caller) (net : Numbered) (ways : List HostWays) (stamp now : ℕ)
-    : Type 0 where
+pub record CanRecord (coming : Coming) (t : Turn) (k : Caller) (net : Numbered) (ways : List HostWays) : Type 0 where
   pub world : World
   pub past : List Entry
-  pub comes : ComesNext world past c t k net ways stamp now
+  pub comes : ComesNext world past coming t k net ways
 
 -- the entry of the turn, and what is kept after it
 pub record Recorded (w : World) (h : List Entry) (c : ℕ) (t : Turn) (k : Caller) (net : Numbered) (x : Entry)
@@ -59,9 +58,10 @@ pub record Recorded (w : World) (h : List Entry) (c : ℕ) (t : Turn) (k : Calle
   pub kept : IsCallerKept w (h ++ x ∷ []) c k
   pub are : AreActors w net (after w (h ++ x ∷ [])).actors
 
-abbrev pub Records : ℕ → Turn → Caller → Caller → Numbered → Numbered → List HostWays → ℕ → ℕ → Entry → Type 0
-Records c t old new net after ways stamp now x =
-    (w : World) (h : List Entry) → ComesNext w h c t old net ways stamp now → Recorded w h c t new after x
+-- in whatever world and after whatever history it came, what was recorded is this
+abbrev pub Records : Coming → Turn → Caller → Caller → Numbered → Numbered → List HostWays → Entry → Type 0
+Records coming t old new net after ways x =
+    (w : World) (h : List Entry) → ComesNext w h coming t old net ways → Recorded w h coming.caller t new after x
 
 -- What a turn owes.
 

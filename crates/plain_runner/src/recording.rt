@@ -20,30 +20,37 @@ use net_base::{ActorName, Entry, Event, Outcome, Work};
 use script_task::replies_fit;
 use std::alloc::{AllocError, Global};
 
-/// Records the turn of a caller, which is ready, with this stamp and at this moment.
+/// Whose entry comes next, at which stamp and at which moment, in ms.
+#[derive(Clone, Copy)]
+pub struct Coming {
+    pub caller: u32,
+    pub stamp: u64,
+    pub now: u64,
+}
+
+/// Records the turn of a caller, which is ready, as the entry that comes next.
 pub fn record(
     alloc: Global,
     caller: &mut Caller<'_>,
-    number: u32,
+    coming: Coming,
     turn: Turn,
     net: &mut Actors,
     ways: &WorldWays,
-    stamp: u64,
-    now: u64,
 ) -> Result<Entry, AllocError>
-    requires { CanRecord number turn caller.old net.old ways.now stamp now }
-    ensures { IfOk result (Records number turn caller.old caller.new net.old net.new ways.now stamp now) }
+    requires { CanRecord coming turn caller.old net.old ways.now }
+    ensures { IfOk result (Records coming turn caller.old caller.new net.old net.new ways.now) }
 {
     histories_grow();
     histories_are_short();
     replies_fit();
     let dues = dues_of_move(alloc, net, &turn)?;
     let Turn { actor, work, cites } = turn;
-    let mut outcome = net.step(actor, now, &work)?;
+    let mut outcome = net.step(actor, coming.now, &work)?;
     let reply = outcome.copy.take().unwrap();
-    let shown = owe(ways, actor, stamp, work, outcome, dues, &mut caller.owed)?;
+    let owed = &mut caller.owed;
+    let shown = owe(ways, actor, coming.stamp, work, outcome, dues, owed)?;
     caller.recorded(cites, reply)?;
-    Ok(entry_of(actor, number, now, cites, shown))
+    Ok(entry_of(actor, coming.caller, coming.now, cites, shown))
 }
 
 // When the conversations are due, where the turn is a move of the clock.

@@ -13,7 +13,7 @@ ghost use Rattle.plain_runner.specs.Turns.{may_turn};
 use crate::caller::Caller;
 use crate::ghost_history::GhostHistory;
 use crate::law::histories_are_short;
-use crate::recording::record;
+use crate::recording::{Coming, record};
 use crate::turn::Turn;
 use duties::WorldWays;
 use ndb_versions::IndexedVersions;
@@ -90,16 +90,13 @@ impl<'a> Runner<'a> {
         ensures { IfOk result (Recording self.old self.new caller turn) }
     {
         histories_are_short();
-        let entry = record(
-            self.alloc,
-            &mut self.callers[caller],
-            caller as u32,
-            turn,
-            &mut self.net,
-            &self.ways,
-            self.count,
-            self.moment,
-        )?;
+        let coming = Coming {
+            caller: caller as u32,
+            stamp: self.count,
+            now: self.moment,
+        };
+        let taken = &mut self.callers[caller];
+        let entry = record(self.alloc, taken, coming, turn, &mut self.net, &self.ways)?;
         self.moment = moment_after(self.moment, &entry.event);
         self.count += 1;
         self.history = self.history.with(&entry);

@@ -51,6 +51,19 @@ fn heard(answer: Answer) -> Told {
     told
 }
 
+// What a caller asks for at moment 0, and cites nothing for.
+fn asked_by(caller: u32, work: &Work) -> Asked<'_>
+    ensures caller { result.caller ≡ caller }
+    ensures now { result.now ≡ 0 }
+{
+    Asked {
+        caller,
+        now: 0,
+        work,
+        cites: None,
+    }
+}
+
 // Acts at a desk at moment 0, by a caller that has made at most so many entries.
 fn act_once<J: Naming, R: Wait, G: Gate>(
     rt: &R,
@@ -58,18 +71,18 @@ fn act_once<J: Naming, R: Wait, G: Gate>(
     gate: &G,
     desk: &Locked<J, Counter>,
     mut pass: Pass<J>,
-    caller: u32,
     made: u32,
-    work: &Work,
+    asked: Asked<'_>,
 ) -> (Told, Pass<J>)
-    requires held { (es : List (ℕ × Noted)) × HoldsPass pass caller es × (length es ≤ made) }
+    requires held { (es : List (ℕ × Noted)) × HoldsPass pass asked.caller es × (length es ≤ made) }
     requires few { made < 100 }
     requires moment { moment_noted pass.seen ≡ 0 }
+    requires now { asked.now ≡ 0 }
     requires actor { desk.now.actor ≡ DeskName 0 }
-    ensures held { (es : List (ℕ × Noted)) × HoldsPass result.1 caller es × (length es ≤ made + 1) }
+    ensures held { (es : List (ℕ × Noted)) × HoldsPass result.1 asked.entry.caller es × (length es ≤ made + 1) }
     ensures moment { moment_noted result.1.seen ≡ 0 }
 {
-    let answer = desk.act(rt, journal, gate, &mut pass, caller, 0, work, None);
+    let answer = desk.act(rt, journal, gate, &mut pass, asked);
     (heard(answer), pass)
 }
 
@@ -87,7 +100,8 @@ fn act_first<J: Naming, R: Wait>(
     requires actor { desk.now.actor ≡ DeskName 0 }
     ensures { (es : List (ℕ × Noted)) × HoldsPass result.1 caller es × (length es ≤ 1) }
 {
-    act_once(rt, journal, &OpenGate, desk, pass, caller, 0, work)
+    let asked = asked_by(caller, work);
+    act_once(rt, journal, &OpenGate, desk, pass, 0, asked)
 }
 
 fn take() -> Work {
@@ -206,15 +220,16 @@ fn watched<J: Naming, R: Wait + Abort>(
     let desk = Locked::new(Counter { count: 0 }, first);
     let clock = Locked::new(Counter { count: 0 }, second);
     let (waits, takes, late, work) = (await_count(1), take(), await_count(3), moves());
-    let (told, pass) = act_once(rt, &journal, &gate, &desk, pass, 0, 0, &waits);
+    let (told, pass) = act_once(rt, &journal, &gate, &desk, pass, 0, asked_by(0, &waits));
     assert!(rt; told == Told::NotReady(0));
     assert!(rt; gate.calls.load(Ordering::SeqCst) == 0);
-    let (told, pass) = act_once(rt, &journal, &gate, &desk, pass, 0, 1, &takes);
+    let (told, pass) = act_once(rt, &journal, &gate, &desk, pass, 1, asked_by(0, &takes));
     assert!(rt; told == Told::Counted(0, 1));
     assert!(rt; gate.calls.load(Ordering::SeqCst) == 1021);
-    let (told, mut pass) = act_once(rt, &journal, &gate, &desk, pass, 0, 2, &waits);
+    let (told, mut pass) = act_once(rt, &journal, &gate, &desk, pass, 2, asked_by(0, &waits));
     assert!(rt; told == Told::Counted(1, 2));
-    let told = heard(clock.act_clock(rt, &journal, &gate, &mut pass, 0, 0, &work, None));
+    let moved = clock.act(rt, &journal, &gate, &mut pass, asked_by(0, &work));
+    let told = heard(moved);
     assert!(rt; told == Told::Counted(2, 1));
     assert!(rt; gate.calls.load(Ordering::SeqCst) == 102111223243);
     let seen = desk.view(rt, &journal, &mut pass, 7, Some(&late));

@@ -1,4 +1,4 @@
-use Rattle.std.proofs.Common.{◌≡◌, ℕ, ◌<◌, List, [], ◌∷◌, ◌++◌, filter, inl, refl, ap, sym, subst, arith, ◌∙◌}
+use Rattle.std.proofs.Common.{◌≡◌, ℕ, ◌<◌, List, [], ◌∷◌, ◌++◌, filter, inl, inr, refl, ap, sym, subst, arith, ◌∙◌}
 use Rattle.net_base.specs.declared.actor.ActorName.{ActorName}
 use Rattle.net_base.specs.declared.actor.ActorName.TheVariants as name
 use Rattle.net_base.specs.declared.noted.Noted.{Noted}
@@ -38,7 +38,7 @@ act_once-told-requires-3-clause-actor g c =
     let items = c.in-Some-Some.ensures.items ∙ ap (λ (bs : List Volume). bs ++ c.in-Some-Some.second ∷ []) c.in-Some-Some.ensures'.items in
     c.new-desk.ensures.actor ∙ first_blank 0 (name.Desk 0) name.Clock c.pop-2.new.self.items c.in-Some-Some.first c.in-Some-Some.second (subst (λ (bs : List Volume). AreBlank 0 (name.Desk 0 ∷ name.Clock ∷ []) bs) items blank)
 
-pub act_clock-requires-clause-all : goal.act_clock-requires-clause-all
-act_clock-requires-clause-all g c k lt =
+pub act-moved-requires-clause-timely : goal.act-moved-requires-clause-timely
+act-moved-requires-clause-timely g c =
     let h = c.act_once-told-3.ensures.held in
-    below_one (λ q. (es : List (ℕ × Noted)) × HoldsPass c.act_once-told-3.result.1 q es) (h.0, h.1) k (subst (λ (n : ℕ). k < n) c.requires.callers lt)
+    inr (λ k lt. below_one (λ q. (es : List (ℕ × Noted)) × HoldsPass c.act_once-told-3.result.1 q es) (h.0, h.1) k (subst (λ (n : ℕ). k < n) c.requires.callers lt))

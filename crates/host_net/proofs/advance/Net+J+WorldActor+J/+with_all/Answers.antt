@@ -25,11 +25,11 @@ with_all-answer-requires g t c κs within =
     let apart = next_apart g.J.Placing.tasks w r c.first-inside.inside.0.1.0 c.first-inside.inside.0.1.1.0
     c.first-inside.inside.0.1.1.1.0 c.first-inside.inside.0.1.1.1.1.1.0 me.visit clock.visit
     c.args.clock.now c.in-Some.first.now c.in-Some.others.now c.args.players.now c.args.groups.now one c.in-Some.ensures.cases.0 c.clock.view_is
-    c.args.standings.now c.requires.apart c.requires.lent c.lend.new.clock.visit c.lend.ensures.same c.lend.ensures.lent c.lend.ensures.others in
+    c.args.grounds.standings.now c.requires.apart c.requires.lent c.lend.new.clock.visit c.lend.ensures.same c.lend.ensures.lent c.lend.ensures.others in
     let lent = next_lent g.J.Placing.tasks w r c.first-inside.inside.0.1.0 c.first-inside.inside.0.1.1.0
     c.first-inside.inside.0.1.1.1.0 c.first-inside.inside.0.1.1.1.1.1.0 me.visit clock.visit
     c.args.clock.now c.in-Some.first.now c.in-Some.others.now c.args.players.now c.args.groups.now one c.in-Some.ensures.cases.0 c.clock.view_is
-    c.args.standings.now c.requires.apart c.requires.lent c.lend.new.clock.visit c.lend.ensures.same c.lend.ensures.lent c.lend.ensures.others in
+    c.args.grounds.standings.now c.requires.apart c.requires.lent c.lend.new.clock.visit c.lend.ensures.same c.lend.ensures.lent c.lend.ensures.others in
     let less : length c.in-Some.others.now + players_left c.args.groups.now < t = omega (arith, c.in-Some.ensures.cases.1, c.decreases) in (
       less,
       (
@@ -71,7 +71,7 @@ take_back-requires-clause-away g t c =
       still_with g.J.Placing.tasks w r c.first-inside.inside.0.1.0 c.first-inside.inside.0.1.1.0
           c.first-inside.inside.0.1.1.1.0 c.first-inside.inside.0.1.1.1.1.1.0 me.visit clock.visit
           c.args.clock.now c.in-Some.first.now c.in-Some.others.now c.args.players.now c.args.groups.now one c.in-Some.ensures.cases.0 c.clock.view_is
-          c.args.standings.now c.requires.apart c.requires.lent c.lend.new.clock.visit c.lend.ensures.same c.lend.ensures.lent c.lend.ensures.others
+          c.args.grounds.standings.now c.requires.apart c.requires.lent c.lend.new.clock.visit c.lend.ensures.same c.lend.ensures.lent c.lend.ensures.others
           had.visit c.with_all-answer.new.clock c.clock-in-Some.view_is c.with_all-answer.result c.with_all-answer.ensures.others
           c.with_all-answer.ensures.clock,
     )
@@ -89,7 +89,7 @@ take_back-requires-clause-other g t c =
     (other g.J.Placing.tasks w r c.first-inside.inside.0.1.0 c.first-inside.inside.0.1.1.0
     c.first-inside.inside.0.1.1.1.0 c.first-inside.inside.0.1.1.1.1.1.0 me.visit clock.visit
     c.args.clock.now c.in-Some.first.now c.in-Some.others.now c.args.players.now c.args.groups.now one c.in-Some.ensures.cases.0 c.clock.view_is
-    c.args.standings.now c.requires.apart c.requires.lent c.lend.new.clock.visit c.lend.ensures.same c.lend.ensures.lent c.lend.ensures.others
+    c.args.grounds.standings.now c.requires.apart c.requires.lent c.lend.new.clock.visit c.lend.ensures.same c.lend.ensures.lent c.lend.ensures.others
     had.visit c.with_all-answer.new.clock c.clock-in-Some.view_is c.with_all-answer.result c.with_all-answer.ensures.others
     c.with_all-answer.ensures.clock)
 
@@ -105,7 +105,7 @@ invariant_of-first g t c =
     let still = still_with g.J.Placing.tasks w r c.first-inside.inside.0.1.0 c.first-inside.inside.0.1.1.0
     c.first-inside.inside.0.1.1.1.0 c.first-inside.inside.0.1.1.1.1.1.0 me.visit clock.visit
     c.args.clock.now c.in-Some.first.now c.in-Some.others.now c.args.players.now c.args.groups.now one c.in-Some.ensures.cases.0 c.clock.view_is
-    c.args.standings.now c.requires.apart c.requires.lent c.lend.new.clock.visit c.lend.ensures.same c.lend.ensures.lent c.lend.ensures.others
+    c.args.grounds.standings.now c.requires.apart c.requires.lent c.lend.new.clock.visit c.lend.ensures.same c.lend.ensures.lent c.lend.ensures.others
     had.visit c.with_all-answer.new.clock c.clock-in-Some.view_is c.with_all-answer.result c.with_all-answer.ensures.others
     c.with_all-answer.ensures.clock in
     let back = c.take_back.ensures.with_itself me.visit c.lend.ensures.away still in
@@ -119,7 +119,7 @@ invariant_of-first g t c =
     let caller = mine_caller g.J.Placing.tasks w r c.first-inside.inside.0.1.0 c.first-inside.inside.0.1.1.0
     c.first-inside.inside.0.1.1.1.0 c.first-inside.inside.0.1.1.1.1.1.0 me.visit clock.visit
     c.args.clock.now c.in-Some.first.now c.in-Some.others.now c.args.players.now c.args.groups.now one c.in-Some.ensures.cases.0 c.clock.view_is
-    c.args.standings.now c.requires.apart c.requires.lent c.lend.new.clock.visit c.lend.ensures.same c.lend.ensures.lent c.lend.ensures.others
+    c.args.grounds.standings.now c.requires.apart c.requires.lent c.lend.new.clock.visit c.lend.ensures.same c.lend.ensures.lent c.lend.ensures.others
     had.visit c.with_all-answer.new.clock c.clock-in-Some.view_is c.with_all-answer.result c.with_all-answer.ensures.others
     c.with_all-answer.ensures.clock
     c.lend.new.self.visit c.take_back.new.self.visit c.take_back.new.clock.visit c.lend.ensures.away.visit_is c.take_back.ensures.back back
@@ -127,7 +127,7 @@ invariant_of-first g t c =
     let names = mine_names g.J.Placing.tasks w r c.first-inside.inside.0.1.0 c.first-inside.inside.0.1.1.0
     c.first-inside.inside.0.1.1.1.0 c.first-inside.inside.0.1.1.1.1.1.0 me.visit clock.visit
     c.args.clock.now c.in-Some.first.now c.in-Some.others.now c.args.players.now c.args.groups.now one c.in-Some.ensures.cases.0 c.clock.view_is
-    c.args.standings.now c.requires.apart c.requires.lent c.lend.new.clock.visit c.lend.ensures.same c.lend.ensures.lent c.lend.ensures.others
+    c.args.grounds.standings.now c.requires.apart c.requires.lent c.lend.new.clock.visit c.lend.ensures.same c.lend.ensures.lent c.lend.ensures.others
     had.visit c.with_all-answer.new.clock c.clock-in-Some.view_is c.with_all-answer.result c.with_all-answer.ensures.others
     c.with_all-answer.ensures.clock
     c.lend.new.self.visit c.take_back.new.self.visit c.take_back.new.clock.visit c.lend.ensures.away.visit_is c.take_back.ensures.back back
@@ -146,8 +146,8 @@ decide-requires-clause-all g t c =
     let none : c.args.players.now ++ other_players c.args.groups.now ≡ [] =
     ap (λ (l : List (Playing g.row.T.Denot)). l ++ other_players c.args.groups.now) (nil_from_length c.args.players.now c.in-None.ensures.cases)
     ∙ ap other_players (nil_from_length c.args.groups.now c.in-None-split_first_mut.ensures.cases) in
-    all_stand g.J.Placing.tasks w r c.args.clock.now.sight c.args.standings.now
-    (subst (λ (l : List (Playing g.row.T.Denot)). AreLent g.J.Placing.tasks w r (visits l) c.args.clock.now.sight c.args.standings.now) none c.requires.lent)
+    all_stand g.J.Placing.tasks w r c.args.clock.now.sight c.args.grounds.standings.now
+    (subst (λ (l : List (Playing g.row.T.Denot)). AreLent g.J.Placing.tasks w r (visits l) c.args.clock.now.sight c.args.grounds.standings.now) none c.requires.lent)
 
 pub returns-in-Some-clause-others : goal.returns-in-Some-clause-others
 returns-in-Some-clause-others g t c =
@@ -161,14 +161,14 @@ returns-in-Some-clause-others g t c =
     let still = still_with g.J.Placing.tasks w r c.first-inside.inside.0.1.0 c.first-inside.inside.0.1.1.0
     c.first-inside.inside.0.1.1.1.0 c.first-inside.inside.0.1.1.1.1.1.0 me.visit clock.visit
     c.args.clock.now c.in-Some.first.now c.in-Some.others.now c.args.players.now c.args.groups.now one c.in-Some.ensures.cases.0 c.clock.view_is
-    c.args.standings.now c.requires.apart c.requires.lent c.lend.new.clock.visit c.lend.ensures.same c.lend.ensures.lent c.lend.ensures.others
+    c.args.grounds.standings.now c.requires.apart c.requires.lent c.lend.new.clock.visit c.lend.ensures.same c.lend.ensures.lent c.lend.ensures.others
     had.visit c.with_all-answer.new.clock c.clock-in-Some.view_is c.with_all-answer.result c.with_all-answer.ensures.others
     c.with_all-answer.ensures.clock in
     let back = c.take_back.ensures.with_itself me.visit c.lend.ensures.away still in
     others_stay_here g.J.Placing.tasks w r c.first-inside.inside.0.1.0 c.first-inside.inside.0.1.1.0
     c.first-inside.inside.0.1.1.1.0 c.first-inside.inside.0.1.1.1.1.1.0 me.visit clock.visit
     c.args.clock.now c.in-Some.first.now c.in-Some.others.now c.args.players.now c.args.groups.now one c.in-Some.ensures.cases.0 c.clock.view_is
-    c.args.standings.now c.requires.apart c.requires.lent c.lend.new.clock.visit c.lend.ensures.same c.lend.ensures.lent c.lend.ensures.others
+    c.args.grounds.standings.now c.requires.apart c.requires.lent c.lend.new.clock.visit c.lend.ensures.same c.lend.ensures.lent c.lend.ensures.others
     had.visit c.with_all-answer.new.clock c.clock-in-Some.view_is c.with_all-answer.result c.with_all-answer.ensures.others
     c.with_all-answer.ensures.clock
     c.lend.new.self.visit c.take_back.new.self.visit c.take_back.new.clock.visit c.lend.ensures.away.visit_is c.take_back.ensures.back back
@@ -186,14 +186,14 @@ returns-in-Some-clause-clock g t c =
     let still = still_with g.J.Placing.tasks w r c.first-inside.inside.0.1.0 c.first-inside.inside.0.1.1.0
     c.first-inside.inside.0.1.1.1.0 c.first-inside.inside.0.1.1.1.1.1.0 me.visit clock.visit
     c.args.clock.now c.in-Some.first.now c.in-Some.others.now c.args.players.now c.args.groups.now one c.in-Some.ensures.cases.0 c.clock.view_is
-    c.args.standings.now c.requires.apart c.requires.lent c.lend.new.clock.visit c.lend.ensures.same c.lend.ensures.lent c.lend.ensures.others
+    c.args.grounds.standings.now c.requires.apart c.requires.lent c.lend.new.clock.visit c.lend.ensures.same c.lend.ensures.lent c.lend.ensures.others
     had.visit c.with_all-answer.new.clock c.clock-in-Some.view_is c.with_all-answer.result c.with_all-answer.ensures.others
     c.with_all-answer.ensures.clock in
     let back = c.take_back.ensures.with_itself me.visit c.lend.ensures.away still in
     advances_here g.J.Placing.tasks w r c.first-inside.inside.0.1.0 c.first-inside.inside.0.1.1.0
     c.first-inside.inside.0.1.1.1.0 c.first-inside.inside.0.1.1.1.1.1.0 me.visit clock.visit
     c.args.clock.now c.in-Some.first.now c.in-Some.others.now c.args.players.now c.args.groups.now one c.in-Some.ensures.cases.0 c.clock.view_is
-    c.args.standings.now c.requires.apart c.requires.lent c.lend.new.clock.visit c.lend.ensures.same c.lend.ensures.lent c.lend.ensures.others
+    c.args.grounds.standings.now c.requires.apart c.requires.lent c.lend.new.clock.visit c.lend.ensures.same c.lend.ensures.lent c.lend.ensures.others
     had.visit c.with_all-answer.new.clock c.clock-in-Some.view_is c.with_all-answer.result c.with_all-answer.ensures.others
     c.with_all-answer.ensures.clock
     c.lend.new.self.visit c.take_back.new.self.visit c.take_back.new.clock.visit c.lend.ensures.away.visit_is c.take_back.ensures.back back
@@ -211,14 +211,14 @@ returns-in-Some-clause-players g t c =
     let still = still_with g.J.Placing.tasks w r c.first-inside.inside.0.1.0 c.first-inside.inside.0.1.1.0
     c.first-inside.inside.0.1.1.1.0 c.first-inside.inside.0.1.1.1.1.1.0 me.visit clock.visit
     c.args.clock.now c.in-Some.first.now c.in-Some.others.now c.args.players.now c.args.groups.now one c.in-Some.ensures.cases.0 c.clock.view_is
-    c.args.standings.now c.requires.apart c.requires.lent c.lend.new.clock.visit c.lend.ensures.same c.lend.ensures.lent c.lend.ensures.others
+    c.args.grounds.standings.now c.requires.apart c.requires.lent c.lend.new.clock.visit c.lend.ensures.same c.lend.ensures.lent c.lend.ensures.others
     had.visit c.with_all-answer.new.clock c.clock-in-Some.view_is c.with_all-answer.result c.with_all-answer.ensures.others
     c.with_all-answer.ensures.clock in
     let back = c.take_back.ensures.with_itself me.visit c.lend.ensures.away still in
     are_back g.J.Placing.tasks w r c.first-inside.inside.0.1.0 c.first-inside.inside.0.1.1.0
     c.first-inside.inside.0.1.1.1.0 c.first-inside.inside.0.1.1.1.1.1.0 me.visit clock.visit
     c.args.clock.now c.in-Some.first.now c.in-Some.others.now c.args.players.now c.args.groups.now one c.in-Some.ensures.cases.0 c.clock.view_is
-    c.args.standings.now c.requires.apart c.requires.lent c.lend.new.clock.visit c.lend.ensures.same c.lend.ensures.lent c.lend.ensures.others
+    c.args.grounds.standings.now c.requires.apart c.requires.lent c.lend.new.clock.visit c.lend.ensures.same c.lend.ensures.lent c.lend.ensures.others
     had.visit c.with_all-answer.new.clock c.clock-in-Some.view_is c.with_all-answer.result c.with_all-answer.ensures.others
     c.with_all-answer.ensures.clock
     c.lend.new.self.visit c.take_back.new.self.visit c.take_back.new.clock.visit c.lend.ensures.away.visit_is c.take_back.ensures.back back

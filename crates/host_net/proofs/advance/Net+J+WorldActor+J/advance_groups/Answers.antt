@@ -45,7 +45,7 @@ with_all-answer-requires-clause-lent g c =
     let taken =
     subst (λ (x : Playing g.row.T.Denot). IsTaken c.args.groups.now x c.in-Some.place c.take_clock.new.groups) (sym c.clock.view_is) c.in-Some.ensures.some in
     let mine = itself w r c.clock.inside.guest c.clock.inside.guest.sight refl c.guest_keeps.ensures in
-    all_lent_first g.J.Placing.tasks w r c.args.groups.now c.take_clock.new.groups c.in-Some.place p taken c.requires.dealt c.args.standings.now c.requires.standings mine
+    all_lent_first g.J.Placing.tasks w r c.args.groups.now c.take_clock.new.groups c.in-Some.place p taken c.requires.dealt c.args.grounds.standings.now c.requires.standings mine
 
 pub put_clock-requires : goal.put_clock-requires
 put_clock-requires g c =

@@ -74,7 +74,7 @@ returns-clause-leaves g c =
     let m = c.in-Some-moved.moment in
     let clock = ap (λ (b : Carried). caller_of w b.visit.caller) c.self.view_is ∙ c.requires.clock in
     let may = subst (λ (o : Option Advance). Halts g.J.Placing.tasks w v.bearer.caller v.bearer.pass o) c.in_default.is c.halt-halt.ensures.halts in
-    let went = subst (λ (o : Option ℕ). MayGo g.J.Placing.tasks w r h.caller h.now h.pass v.duties.list o v'.bearer.pass v'.duties.list) c.in-Some-moved.is c.try_move-moved.ensures.go in
+    let went = subst (λ (o : Option ℕ). MayGo g.J.Placing.tasks w r h v.duties.list o v'.bearer v'.duties.list) c.in-Some-moved.is c.try_move-moved.ensures.go in
     let now : v'.bearer.now ≡ m = c.try_move-moved.ensures.now ∙ ap (λ (o : Option ℕ). unwrap_or o h.now) c.in-Some-moved.is in
     subst (λ (b : Carried). LeavesGuest g.J.Placing.tasks w r b.visit (advance.Moved m) (visit_of v' names)) c.self.view_is
     (gone g.J.Placing.tasks w r v.bearer h v.duties.list names clock c.halt-halt.ensures.same v'.bearer v'.duties.list c.try_move-moved.ensures.caller m now may went)

@@ -73,14 +73,14 @@ returns-then-is_err-clause-known g c =
 
 pub returns-then-not-record_move-clause-go : goal.returns-then-not-record_move-clause-go
 returns-then-not-record_move-clause-go g c =
-    unmoved_so g.J.Placing.tasks g.J.Placing.world g.J.Naming.run.roster c.args.visitor.now.bearer.caller c.args.visitor.now.bearer.now c.least_due-moment.result c.args.visitor.now.bearer.pass c.catch_up.new.pass c.record_move.new.bearer.pass
+    unmoved_so g.J.Placing.tasks g.J.Placing.world g.J.Naming.run.roster c.least_due-moment.result c.args.visitor.now.bearer c.record_move.new.bearer c.catch_up.new.pass
     c.args.visitor.now.duties.list c.reserve.new.self.list c.record_move.new.duties.list c.catch_up.ensures.same c.reserve.ensures.list c.record_move.result
     c.record_move.ensures.leaves c.if-not-record_move.true
 
 pub returns-then-not-record_move-clause-known : goal.returns-then-not-record_move-clause-known
 returns-then-not-record_move-clause-known g c =
-    let still = unmoved_so g.J.Placing.tasks g.J.Placing.world g.J.Naming.run.roster c.args.visitor.now.bearer.caller c.args.visitor.now.bearer.now c.least_due-moment.result c.args.visitor.now.bearer.pass c.catch_up.new.pass
-    c.record_move.new.bearer.pass c.args.visitor.now.duties.list c.reserve.new.self.list c.record_move.new.duties.list c.catch_up.ensures.same c.reserve.ensures.list
+    let still = unmoved_so g.J.Placing.tasks g.J.Placing.world g.J.Naming.run.roster c.least_due-moment.result c.args.visitor.now.bearer c.record_move.new.bearer
+    c.catch_up.new.pass c.args.visitor.now.duties.list c.reserve.new.self.list c.record_move.new.duties.list c.catch_up.ensures.same c.reserve.ensures.list
     c.record_move.result c.record_move.ensures.leaves c.if-not-record_move.true in
     subst (λ (q : Sight). IsKnown g.J.Placing.world q.seen c.catch_up.new.calendar) (sym still.0) c.catch_up.ensures.known
 
@@ -92,7 +92,7 @@ returns-clause-go g c =
     (c.conversations_are_these.ensures.only w) (c.targets_are_least.ensures g.J.Placing.tasks w (noted_net w p.seen)) c.as_slice-dues.result.now c.least_awaited-awaited.result
     c.least_due-moment.result (c.as_slice-dues.ensures ∙ c.catch_up.ensures.dues c.if-not-catch_up.false)
     (c.least_awaited-awaited.ensures ∙ ap (λ (v : World). least v.end (standing_moments c.args.standings.now)) (sym c.requires.world)) c.least_due-moment.ensures in (
-      moved_so g.J.Placing.tasks w g.J.Naming.run.roster c.args.visitor.now.bearer.caller c.args.visitor.now.bearer.now c.least_due-moment.result p c.catch_up.new.pass c.record_move.new.bearer.pass c.args.visitor.now.duties.list
+      moved_so g.J.Placing.tasks w g.J.Naming.run.roster c.least_due-moment.result c.args.visitor.now.bearer c.record_move.new.bearer c.catch_up.new.pass c.args.visitor.now.duties.list
           c.reserve.new.self.list c.record_move.new.duties.list c.catch_up.ensures.same c.reserve.ensures.list c.record_move.result c.record_move.ensures.leaves c.if-not-record_move.false,
       t.0,
       t.1,
@@ -103,7 +103,7 @@ returns-clause-known g c =
     let w = g.J.Placing.world in
     let p = c.args.visitor.now.bearer.pass in
     let m = c.least_due-moment.result in
-    let moved = moved_so g.J.Placing.tasks w g.J.Naming.run.roster c.args.visitor.now.bearer.caller c.args.visitor.now.bearer.now m p c.catch_up.new.pass c.record_move.new.bearer.pass c.args.visitor.now.duties.list
+    let moved = moved_so g.J.Placing.tasks w g.J.Naming.run.roster m c.args.visitor.now.bearer c.record_move.new.bearer c.catch_up.new.pass c.args.visitor.now.duties.list
     c.reserve.new.self.list c.record_move.new.duties.list c.catch_up.ensures.same c.reserve.ensures.list c.record_move.result c.record_move.ensures.leaves c.if-not-record_move.false in
     known_on w p.seen c.record_move.new.bearer.pass.seen c.catch_up.new.calendar
     (recorded_grows g.J.Placing.tasks w c.args.visitor.now.bearer.caller c.args.visitor.now.bearer.now name.Clock (bare (event.Move m)) _ p c.record_move.new.bearer.pass c.args.visitor.now.duties.list c.record_move.new.duties.list

@@ -19,7 +19,7 @@ returns-in_default-clause-complete g c =
     let is = c.requires.complete in
     let b = c.reach.ensures.same in
     let still : (v'.bearer.pass ≡ v.bearer.pass) × (v'.duties.list ≡ v.duties.list) =
-    subst (λ (o : Option ℕ). MayGo g.J.Placing.tasks w r v.bearer.caller v.bearer.now v.bearer.pass v.duties.list o v'.bearer.pass v'.duties.list) c.in_default.is c.reach.ensures.go in
+    subst (λ (o : Option ℕ). MayGo g.J.Placing.tasks w r v.bearer v.duties.list o v'.bearer v'.duties.list) c.in_default.is c.reach.ensures.go in
     record {
       guest = subst (λ (n : ℕ). IsGuest w r n v'.bearer.pass v'.duties.list) (sym b.caller)
           (subst (λ (l : List Duty). IsGuest w r v.bearer.caller v'.bearer.pass l) (sym still.1)
@@ -41,7 +41,7 @@ returns-clause-complete g c =
     let is = c.requires.complete in
     let m = c.in-Some.moment in
     let b = c.reach.ensures.same in
-    let gone = subst (λ (o : Option ℕ). MayGo g.J.Placing.tasks w r v.bearer.caller v.bearer.now v.bearer.pass v.duties.list o v'.bearer.pass v'.duties.list) c.in-Some.is c.reach.ensures.go in
+    let gone = subst (λ (o : Option ℕ). MayGo g.J.Placing.tasks w r v.bearer v.duties.list o v'.bearer v'.duties.list) c.in-Some.is c.reach.ensures.go in
     record {
       guest = subst (λ (n : ℕ). IsGuest w r n v'.bearer.pass v'.duties.list) (sym b.caller) gone.0.guest;
       here = gone.0.here;

@@ -1,6 +1,8 @@
-use Rattle.std.proofs.Common.{length, refl, ap, sym, subst, ◌∙◌, arith, rules}
+use Rattle.std.proofs.Common.{length, inl, refl, ap, sym, subst, ◌∙◌, arith, rules}
 use Rattle.net_base.specs.declared.actor.ActorName.{ActorName}
-use Rattle.guest_laws.specs.Guests.{IsGuest, GuestRecords}
+use Rattle.net_base.specs.declared.actor.ActorName.TheVariants as name
+use Rattle.net_base.specs.Stamped.{same_actor}
+use Rattle.guest_laws.specs.Guests.{IsGuest, GuestRecords, asking}
 use Rattle.guest_laws.specs.Named.{answer_in, named_opening}
 use Rattle.guest_laws.specs.Works.{noted_net}
 use Rattle.journal.specs.declared.tokens.Sight.{Sight}
@@ -8,6 +10,9 @@ use Rattle.locked.specs.Acts.{IsNotReady}
 use Rattle.net_locks.specs.Turns.{own_seen}
 use Rattle.net_locks.proofs.Turning.{has_number, owed_few, unready, unready_there}
 use Rattle.net_locks.proofs.turn.Locks+J+WorldActor+J.attempt.Goals as goal
+
+pub act-requires-clause-timely : goal.act-requires-clause-timely
+act-requires-clause-timely g c = inl (ap (λ (a : ActorName). same_actor a name.Clock) c.in-Some.ensures.some ∙ c.requires.other)
 
 pub act-requires-clause-room : goal.act-requires-clause-room
 act-requires-clause-room g c =
@@ -17,7 +22,7 @@ act-requires-clause-room g c =
 pub returns-in-Done-clause-here : goal.returns-in-Done-clause-here
 returns-in-Done-clause-here g c =
     let b = c.args.bearer.now in
-    let d = subst (λ (a : ActorName). GuestRecords g.J.Placing.world g.J.Naming.run.roster a b.caller b.now c.args.work.now c.args.cites b.pass c.in-Done.stamp c.in-Done.outcome c.act.new.pass)
+    let d = subst (λ (a : ActorName). GuestRecords g.J.Placing.world g.J.Naming.run.roster (asking a b.caller b.now c.args.work.now c.args.cites) b.pass c.in-Done.stamp c.in-Done.outcome c.act.new.pass)
     c.in-Some.ensures.some c.in-Done.ensures in
     c.requires.here ∙ sym (d.moment_kept c.requires.other)
 
@@ -29,7 +34,7 @@ returns-in-Done-clause-attempted g c ds guest turn =
     let work = c.args.work.now in
     let b = c.args.bearer.now in
     let p' = c.act.new.pass in
-    let d = subst (λ (n : ActorName). GuestRecords w r n b.caller b.now work c.args.cites b.pass c.in-Done.stamp c.in-Done.outcome p') c.in-Some.ensures.some c.in-Done.ensures in
+    let d = subst (λ (n : ActorName). GuestRecords w r (asking n b.caller b.now work c.args.cites) b.pass c.in-Done.stamp c.in-Done.outcome p') c.in-Some.ensures.some c.in-Done.ensures in
     let rec = c.guests_record.ensures w r a b.caller b.now work c.args.cites b.pass ds c.in-Done.stamp c.in-Done.outcome p' guest turn d in
     record {
       records = d;
