@@ -64,14 +64,15 @@ pub record StaysGuest (w : World) (r : Roster) (c : ℕ) (p : Sight) (ds : List 
 
 -- the entry was a step of its actor in the net of the past, and the caller is a guest still. Its first duty is done,
 -- and the duties of the entry are owed after the others
-pub record HasRecorded (w : World) (r : Roster) (q : Asking) (past : List Noted) (p : Sight) (ds : List Duty) (stamp : ℕ)
-    (o : Outcome) (p' : Sight) : Type 0 where
+pub record HasRecorded (w : World) (r : Roster) (q : Asking) (past : List Noted) (p : Sight) (ds : List Duty)
+    (stamp : ℕ) (o : Outcome) (p' : Sight) : Type 0 where
   pub step : Step Actor
   pub stepped : actor_step w q.actor ((noted_net w past).actors q.actor) q.now q.work ≡ Some step
   pub outcome : o ≡ act_without_copy step.outcome
   pub guest : IsGuest w r q.caller p' (drop 1 ds ++ duties w (noted_net w past).actors q.actor stamp q.work step)
   pub nexts : (ts : Tasks)
-      → IsAsked ds (caller_of w q.caller) (next_by ts w (entries p.seen) q.caller) (made q.actor q.caller q.now q.work q.cites o).entry
+      → IsAsked ds (caller_of w q.caller) (next_by ts w (entries p.seen) q.caller)
+      (made q.actor q.caller q.now q.work q.cites o).entry
       → AreNext ts w q.caller p.seen → AreNext ts w q.caller p'.seen
   pub timely : (ts : Tasks) → IsInTimeBy ts (noted_net w past) w q.work.event → AreTimely ts w q.caller p.seen
       → AreTimely ts w q.caller p'.seen

@@ -115,7 +115,8 @@ fn add_standings<J: Naming + Placing, T: WholeTask + Drop>(
     group: &Group<J, T>,
     standings: &mut Vec<Standing>,
 ) -> Result<(), AllocError>
-    ensures { OnOk result (AddsToGroups J.tasks J.world (visits (members group.now)) standings.old.items standings.new.items) }
+    ensures { OnOk result (AddsToGroups J.tasks J.world (visits (members group.now))
+        standings.old.items standings.new.items) }
 {
     for player in &group.players {
         standings.push(standing_of(alloc, player)?)?;
@@ -189,7 +190,8 @@ impl<J: Naming + Placing> Net<J, WorldActor<J>> {
         ensures seats { all_seats groups.new ≡ all_seats groups.old }
         ensures kept { GroupsAreKept J.tasks J.world groups.old result groups.new }
         ensures moment { StayAtOnce result (visits (all_members groups.old)) (visits (all_members groups.new)) }
-        ensures answer { Advanced J.tasks J.world (visits (all_members groups.old)) result (visits (all_members groups.new)) }
+        ensures answer { Advanced J.tasks J.world (visits (all_members groups.old)) result
+            (visits (all_members groups.new)) }
     {
         histories_are_their_callers();
         histories_of_guests_are_legal();

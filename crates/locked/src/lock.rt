@@ -135,9 +135,11 @@ impl<J: Naming, M: Machine> Locked<J, M> {
     ) -> View
         ensures front { Looked J.run.roster pass.old result.front pass.new }
         ensures ready { MatchOption work.entry (result.ready ≡ false)
-            (λ w. result.ready ≡ is_some (M.answer (state_at M.begin M.answer self.now.actor pass.new.seen) now w.now)) }
+            (λ w. result.ready
+            ≡ is_some (M.answer (state_at M.begin M.answer self.now.actor pass.new.seen) now w.now)) }
         ensures due { result.due ≡ M.due_of (state_at M.begin M.answer self.now.actor pass.new.seen) }
-        ensures generation { result.generation ≡ M.generation_of (state_at M.begin M.answer self.now.actor pass.new.seen) }
+        ensures generation { result.generation
+            ≡ M.generation_of (state_at M.begin M.answer self.now.actor pass.new.seen) }
     {
         // The first round ends it, since the lock has this actor.
         for _ in rt.forever() {

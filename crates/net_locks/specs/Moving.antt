@@ -51,28 +51,34 @@ Halts ts w c p None = MayMove ts w c p
 Halts ts w c p (Some answer) = KeepsMoving ts w (noted_net w p.seen) answer
 
 -- the clock's move to this moment was recorded, after all that had been seen
-pub record MovesTo (ts : Tasks) (w : World) (c now m : ℕ) (p : Sight) (ds : List Duty) (p' : Sight) (ds' : List Duty) : Type 0 where
+pub record MovesTo (ts : Tasks) (w : World) (c now m : ℕ) (p : Sight) (ds : List Duty) (p' : Sight) (ds' : List Duty)
+    : Type 0 where
   pub stamp : ℕ
   pub reply : Reply
   pub turn : RecordedTurn ts w (asking name.Clock c now (bare (event.Move m)) None) p ds stamp reply p' ds'
   pub whole : turn.past ≡ p.seen
 
 -- what the entry leaves of the clock, which owed nothing, and of the others by its pass
-pub record LeavesMoved (ts : Tasks) (w : World) (r : Roster) (c now m : ℕ) (p : Sight) (ds : List Duty) (p' : Sight) (ds' : List Duty) : Type 0 where
+pub record LeavesMoved (ts : Tasks) (w : World) (r : Roster) (c now m : ℕ) (p : Sight) (ds : List Duty)
+    (p' : Sight) (ds' : List Duty) : Type 0 where
   pub guest : IsGuest w r c p' ds'
   pub entry : MovesTo ts w c now m p ds p' ds'
   pub free : ds ≡ []
   pub here : m ≡ moment_noted p'.seen
   pub covers : (t : Marks) → Covers (own_seen c p) t → Covers (own_seen c p') t
-  pub others : (k : ℕ) (es : List Duty) → IsGuest w r k p es → (k == c) ≡ false → IsGuest w r k p' es × StaysOwn w k p p'
+  pub others : (k : ℕ) (es : List Duty) → IsGuest w r k p es → (k == c) ≡ false
+      → IsGuest w r k p' es × StaysOwn w k p p'
 
 -- by whether it was recorded
-abbrev pub MayLeave : {J : Type 0} → Tasks → World → Roster → ℕ → Bearer J → List Duty → Bool → Bearer J → List Duty → Type 0
+abbrev pub MayLeave : {J : Type 0} → Tasks → World → Roster → ℕ → Bearer J → List Duty → Bool → Bearer J → List Duty
+    → Type 0
 MayLeave ts w r m old ds true new ds' = LeavesMoved ts w r old.caller old.now m old.pass ds new.pass ds'
 MayLeave ts w r m old ds false new ds' = (new.pass ≡ old.pass) × (ds' ≡ ds)
 
 -- by the moment to which it moved, if it did
-abbrev pub MayGo : {J : Type 0} → Tasks → World → Roster → Bearer J → List Duty → Option ℕ → Bearer J → List Duty → Type 0
+abbrev pub MayGo : {J : Type 0} → Tasks → World → Roster → Bearer J → List Duty → Option ℕ → Bearer J → List Duty
+    → Type 0
 MayGo ts w r old ds None new ds' = (new.pass ≡ old.pass) × (ds' ≡ ds)
 MayGo ts w r old ds (Some m) new ds' =
-    LeavesMoved ts w r old.caller old.now m old.pass ds new.pass ds' × (m ≡ target_by ts w (noted_net w old.pass.seen)) × (m ≤ w.end)
+    LeavesMoved ts w r old.caller old.now m old.pass ds new.pass ds'
+    × (m ≡ target_by ts w (noted_net w old.pass.seen)) × (m ≤ w.end)

@@ -43,7 +43,8 @@ pub record IsSameBearer {J : Type 0} (old new : Bearer J) : Type 0 where
 -- what a turn of the visitor with this work at this actor did, by its answer
 abbrev pub Visited : {J : Type 0} → Tasks → World → ActorName → Work → Option ℕ → Visitor J → Turn → Visitor J → Type 0
 Visited ts w a work cites old t new =
-    Turned ts w (asking a old.bearer.caller old.bearer.now work cites) old.bearer.pass old.duties.list t new.bearer.pass new.duties.list
+    Turned ts w (asking a old.bearer.caller old.bearer.now work cites) old.bearer.pass old.duties.list t
+    new.bearer.pass new.duties.list
 
 -- One try to record a work.
 

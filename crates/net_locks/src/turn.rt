@@ -236,8 +236,8 @@ fn lacks_room<J: Naming + Placing>(
     ensures none { IsNone result → HasRoom bearer.entry.now.caller bearer.entry.now.pass
         × (13 ≤ duties.new.room) × (0 < touched.new.room) }
     ensures some { IfSome result (λ t. (now : ℕ) (a : Name) (work : AnyWork) (cites : Option ℕ)
-        → Turned J.tasks J.world (asking a bearer.entry.now.caller now work cites) bearer.entry.now.pass duties.old.list t
-        bearer.entry.now.pass duties.new.list) }
+        → Turned J.tasks J.world (asking a bearer.entry.now.caller now work cites) bearer.entry.now.pass
+        duties.old.list t bearer.entry.now.pass duties.new.list) }
 {
     if bearer.pass.room(bearer.caller) == 0 {
         return Some(Turn::Limit);

@@ -32,8 +32,8 @@ pub record IsHistory (w : World) (h : List Entry) : Type 0 where
   pub timed : IsTimed w h
 
 -- the turn of a caller comes after this history, and what is kept is of it
-pub record ComesNext (w : World) (h : List Entry) (coming : Coming) (t : Turn) (k : Caller) (net : Numbered) (ways : List HostWays)
-    : Type 0 where
+pub record ComesNext (w : World) (h : List Entry) (coming : Coming) (t : Turn) (k : Caller) (net : Numbered)
+    (ways : List HostWays) : Type 0 where
   pub history : IsHistory w h
   pub turning : IsTurning w h coming.caller t.cites k
   pub ready : IsReadyTurn w h coming.caller t

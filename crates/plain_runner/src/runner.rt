@@ -117,7 +117,8 @@ impl<'a> Runner<'a> {
     /// Whether a caller has as many entries as it may have.
     pub fn is_full(&self, caller: usize) -> bool
         requires { caller < length self.now.callers.items }
-        ensures { (w : AnyWorld) → Tracks w self.now → result ≡ (length (by self.now.history.entries caller) == most_entries) }
+        ensures { (w : AnyWorld) → Tracks w self.now
+            → result ≡ (length (by self.now.history.entries caller) == most_entries) }
     {
         self.callers[caller].entries == MOST_ENTRIES
     }
