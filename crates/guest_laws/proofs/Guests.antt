@@ -29,7 +29,7 @@ use Rattle.locked.specs.Acts.{made, state_at, act_without_copy}
 use Rattle.guest_laws.specs.Named.{Named, named, named_step, named_opening, answer_in}
 use Rattle.guest_laws.specs.Works.{noted_net, owed_in, entries}
 use Rattle.guest_laws.specs.Own.{AreNext, AreTimely, AreTurns, IsAskedButOfScripts, IsNextOf, IsTurnOf, OwnStandsStill}
-use Rattle.guest_laws.specs.Guests.{IsGuest, IsGuestTurn, GuestRecords, StaysGuest, HasRecorded, asking}
+use Rattle.guest_laws.specs.Guests.{IsGuest, IsGuestTurn, GuestRecords, StaysGuest, HasRecorded, deed_at}
 use Rattle.guest_laws.proofs.Nets.{past_is}
 use Rattle.guest_laws.proofs.Apart.{LaterStands, stands_still, owed_push, gains}
 use Rattle.net_base.proofs.Shared.{number_itself, in_front, in_back}
@@ -74,7 +74,7 @@ module _ (still : LaterStands) (w : World) (r : Roster) (c : ℕ) (p p' : Sight)
 module _ (still : LaterStands)
     (state_is : (w : World) (log : List Noted) (a : ActorName) → state_at (named_opening w) (answer_in w) a log ≡ named a ((noted_net w log).actors a))
     (w : World) (r : Roster) (c : ℕ) (p p' : Sight) (ds : List Duty) (a : ActorName) (now : ℕ) (work : Work) (cites : Option ℕ) (stamp : ℕ) (o : Outcome)
-    (g : IsGuest w r c p ds) (t : IsGuestTurn w c p ds a work cites) (d : GuestRecords w r (asking a c now work cites) p stamp o p') where
+    (g : IsGuest w r c p ds) (t : IsGuestTurn w c p ds a work cites) (d : GuestRecords w r (deed_at a c now work cites) p stamp o p') where
   abbrev the : Noted
   the = made a c now work cites o
 
@@ -137,7 +137,7 @@ module _ (still : LaterStands)
       ∙ (ap (λ (n : ℕ). drop 1 (owed_in w d.past c) ++ duties w (noted_net w d.past).actors a n work stepped.0) count
       ∙ ap (λ (q : List Duty). drop 1 q ++ duties w (noted_net w d.past).actors a stamp work stepped.0) owes)
 
-  pub has_recorded : HasRecorded w r (asking a c now work cites) d.past p ds stamp o p'
+  pub has_recorded : HasRecorded w r (deed_at a c now work cites) d.past p ds stamp o p'
   has_recorded = record {
     step = stepped.0;
     stepped = stepped.1;

@@ -15,7 +15,7 @@ use Rattle.journal.specs.declared.tokens.Sight.{Sight}
 use Rattle.journal.specs.Rule.{Held, gain, same_number}
 use Rattle.journal.proofs.Shared.{at-snoc, in-gain, prefix_snoc, prefix_trans}
 use Rattle.locked.specs.Acts.{made}
-use Rattle.guest_laws.specs.Guests.{IsGuest, GuestRecords, StaysGuest, HandsOver, asking}
+use Rattle.guest_laws.specs.Guests.{IsGuest, GuestRecords, StaysGuest, HandsOver, deed_at}
 use Rattle.guest_laws.proofs.Apart.{LaterStands}
 use Rattle.guest_laws.proofs.Guests.{stays}
 use Rattle.net_base.proofs.Shared.{number_itself, in_front, in_back, in_filter}
@@ -50,7 +50,7 @@ module _ (still : LaterStands) (w : World) (r : Roster) (c : ℕ) (p q p' q' : S
 -- another caller's entry
 pub stays_by : LaterStands
     → (w : World) (r : Roster) (c : ℕ) (p p' : Sight) (a : ActorName) (now : ℕ) (work : Work) (cites : Option ℕ) (stamp : ℕ) (o : Outcome)
-    → GuestRecords w r (asking a c now work cites) p stamp o p' → (e : ℕ) (ds : List Duty) → (c == e) ≡ false → IsGuest w r e p ds → StaysGuest w r e p ds p'
+    → GuestRecords w r (deed_at a c now work cites) p stamp o p' → (e : ℕ) (ds : List Duty) → (c == e) ≡ false → IsGuest w r e p ds → StaysGuest w r e p ds p'
 stays_by still w r c p p' a now work cites stamp o d e ds other g =
     let the : Noted = made a c now work cites o in
     let held : In (number.Caller e, g.list) p'.held =

@@ -41,19 +41,19 @@ pub record IsGuestTurn (w : World) (c : ℕ) (p : Sight) (ds : List Duty) (a : A
   pub asked : (now : ℕ) (o : Outcome) →
       IsAskedButOfScripts ds (caller_of w c) (next_recorded w (entries p.seen) c) (made a c now work cites o).entry
 
--- what a caller asks for: that the actor does a work at a moment, for the stamp that it cites
-pub record Asking : Type 0 where
+-- a deed of a caller: that an actor does a work at a moment, for the stamp that it cites
+pub record Deed : Type 0 where
   pub actor : ActorName
   pub caller : ℕ
   pub now : ℕ
   pub work : Work
   pub cites : Option ℕ
 
-abbrev pub asking : ActorName → ℕ → ℕ → Work → Option ℕ → Asking
-asking a c now work cites = record { actor = a; caller = c; now = now; work = work; cites = cites }
+abbrev pub deed_at : ActorName → ℕ → ℕ → Work → Option ℕ → Deed
+deed_at a c now work cites = record { actor = a; caller = c; now = now; work = work; cites = cites }
 
 -- one entry of the caller was recorded at the actor's lock
-abbrev pub GuestRecords : World → Roster → Asking → Sight → ℕ → Outcome → Sight → Type 0
+abbrev pub GuestRecords : World → Roster → Deed → Sight → ℕ → Outcome → Sight → Type 0
 GuestRecords w r q p stamp o p' =
     IsDone (named_opening w) (answer_in w) r q.actor q.caller q.now q.work q.cites p stamp o p'
 
@@ -64,7 +64,7 @@ pub record StaysGuest (w : World) (r : Roster) (c : ℕ) (p : Sight) (ds : List 
 
 -- the entry was a step of its actor in the net of the past, and the caller is a guest still. Its first duty is done,
 -- and the duties of the entry are owed after the others
-pub record HasRecorded (w : World) (r : Roster) (q : Asking) (past : List Noted) (p : Sight) (ds : List Duty)
+pub record HasRecorded (w : World) (r : Roster) (q : Deed) (past : List Noted) (p : Sight) (ds : List Duty)
     (stamp : ℕ) (o : Outcome) (p' : Sight) : Type 0 where
   pub step : Step Actor
   pub stepped : actor_step w q.actor ((noted_net w past).actors q.actor) q.now q.work ≡ Some step

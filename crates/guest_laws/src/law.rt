@@ -30,7 +30,7 @@ ghost use Rattle.locked.specs.Acts.{state_at};
 ghost use Rattle.guest_laws.specs.Works.{noted_net, next_noted, entries, owed_in};
 ghost use Rattle.guest_laws.specs.Own.{AreNext, AreTimely, DoScriptsGoOn, OwnGains, IsLegalButScripts, OwnStandsStill};
 ghost use Rattle.guest_laws.specs.Named.{answer_in, named_due, named_generation, named, named_opening};
-ghost use Rattle.guest_laws.specs.Guests.{HandsOver, HasRecorded, IsGuest, IsOfGuests, IsGuestTurn, GuestRecords, StaysGuest, asking};
+ghost use Rattle.guest_laws.specs.Guests.{HandsOver, HasRecorded, IsGuest, IsOfGuests, IsGuestTurn, GuestRecords, StaysGuest, deed_at};
 
 use history_laws::{callers_are_apart, histories_grow, same_actors_are_equal};
 
@@ -118,8 +118,8 @@ pub fn guests_begin()
 pub fn guests_record()
     ensures { (w : World) (r : Roster) (a : ActorName) (c now : ℕ) (work : Work) (cites : Option ℕ) (p : Sight)
         (ds : List Duty) (stamp : ℕ) (o : Outcome) (p' : Sight) → IsGuest w r c p ds → IsGuestTurn w c p ds a work cites
-        → (d : GuestRecords w r (asking a c now work cites) p stamp o p')
-        → HasRecorded w r (asking a c now work cites) d.past p ds stamp o p' }
+        → (d : GuestRecords w r (deed_at a c now work cites) p stamp o p')
+        → HasRecorded w r (deed_at a c now work cites) d.past p ds stamp o p' }
 {
     callers_are_apart();
     locks_keep_actors();
@@ -137,7 +137,7 @@ pub fn guests_look()
 pub fn guests_stay_by_others()
     ensures { (w : World) (r : Roster) (a : ActorName) (c e now : ℕ) (work : Work) (cites : Option ℕ) (p : Sight)
         (ds : List Duty) (stamp : ℕ) (o : Outcome) (p' : Sight) → IsGuest w r e p ds → (c == e) ≡ false
-        → GuestRecords w r (asking a c now work cites) p stamp o p' → StaysGuest w r e p ds p' }
+        → GuestRecords w r (deed_at a c now work cites) p stamp o p' → StaysGuest w r e p ds p' }
 {
     callers_are_apart();
 }

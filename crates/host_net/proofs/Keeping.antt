@@ -27,7 +27,7 @@ use Rattle.locked.specs.Acts.{made, act_without_copy}
 use Rattle.guest_laws.specs.Own.{AreNext, AreTimely, OwnStandsStill}
 use Rattle.guest_laws.specs.Works.{entries, noted_net}
 use Rattle.host_net.specs.declared.player.Role.{Role}
-use Rattle.guest_laws.specs.Guests.{asking}
+use Rattle.guest_laws.specs.Guests.{deed_at}
 use Rattle.net_locks.specs.declared.turn.Turn.{Turn}
 use Rattle.net_locks.specs.declared.turn.Turn.TheVariants as turn
 use Rattle.host_net.specs.Playing.{GoesOn, HasMore, VisitHasRole, IsVisitPlayed, IsPlayer, IsUnmoved, IsUnready, Playing, PlaysOn, played_by}
@@ -46,7 +46,7 @@ module _ (ts : Tasks) (w : World) (a : ActorName) (work : Work) (cites : Option 
       (made a old.caller old.now work cites o).entry
 
   abbrev RecordsIt : ℕ → Reply → Type 0
-  RecordsIt stamp r = RecordedTurn ts w (asking a old.caller old.now work cites) old.sight old.owed stamp r new.sight new.owed
+  RecordsIt stamp r = RecordedTurn ts w (deed_at a old.caller old.now work cites) old.sight old.owed stamp r new.sight new.owed
 
   by_stands : OwnStandsStill w old.caller old.sight.seen new.sight.seen → IsVisitPlayed ts w old → IsVisitPlayed ts w new
   by_stands stands is =

@@ -11,7 +11,7 @@ use Rattle.net_base.specs.declared.reply.Reply.{Reply}
 use Rattle.script_task.specs.Holdings.{Holdings}
 use Rattle.script_task.specs.Effects.{effect_of, opened_file, settles_effect}
 use Rattle.net_base.specs.Requests.{planned, settled}
-use Rattle.guest_laws.specs.Guests.{asking}
+use Rattle.guest_laws.specs.Guests.{deed_at}
 use Rattle.net_locks.specs.declared.turn.Turn.{Turn}
 use Rattle.net_locks.specs.declared.turn.Turn.TheVariants as turn
 use mathlib.Core.List.{IsPrefix}
@@ -46,7 +46,7 @@ hosted_on w r v v' host caller home is = record { visit = is; home = λ s at. ho
 
 -- the turn of a request that was planned
 pub operated : (ts : Tasks) (w : World) (h : ℕ) (q : Request) (c now : ℕ) (p p' : Sight) (ds ds' : List Duty) (names names' : Names) (ask : Ask) (t : Turn) → ds ≡ []
-    → planned h names q ≡ Some ask → Turned ts w (asking ask.actor c now (bare ask.event) None) p ds t p' ds' → names' ≡ names_after names q t
+    → planned h names q ≡ Some ask → Turned ts w (deed_at ask.actor c now (bare ask.event) None) p ds t p' ds' → names' ≡ names_after names q t
     → Operated ts w h q (visit c now p ds names) t (visit c now p' ds' names')
 operated ts w h q c now p p' ds ds' names names' ask (turn.Recorded stamp answer) free asks takes called =
     record { free = free; ask = ask; asks = asks; takes = takes; names = called }

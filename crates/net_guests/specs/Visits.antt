@@ -24,7 +24,7 @@ use Rattle.script_task.specs.Effects.{opened_file, settles_effect}
 use Rattle.net_base.specs.Requests.{planned, settled}
 use Rattle.net_base.specs.Tasks.{Tasks}
 use Rattle.guest_laws.specs.Own.{AreNext, AreTimely, IsLegalButScripts}
-use Rattle.guest_laws.specs.Guests.{IsGuest, asking}
+use Rattle.guest_laws.specs.Guests.{IsGuest, deed_at}
 use Rattle.due_moments.specs.Marks.{Marks}
 use Rattle.net_locks.specs.declared.calendar.Calendar.{Calendar}
 use Rattle.net_locks.specs.declared.turn.Turn.{Turn}
@@ -70,7 +70,7 @@ IsComplete w r b = IsHosted w r b.visit.caller b.visit.now b.visit.sight b.visit
 -- a guest's turn with this work at this actor
 abbrev pub TakesPasses : Tasks → World → ActorName → Work → Option ℕ → Visit → Turn → Visit → Type 0
 TakesPasses ts w a work cites old answer new =
-    Turned ts w (asking a old.caller old.now work cites) old.sight old.owed answer new.sight new.owed
+    Turned ts w (deed_at a old.caller old.now work cites) old.sight old.owed answer new.sight new.owed
 
 -- the names after a turn with a request
 abbrev pub names_after : Names → Request → Turn → Names

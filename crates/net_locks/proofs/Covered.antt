@@ -19,7 +19,7 @@ use Rattle.journal.specs.declared.tokens.Sight.{Sight}
 use Rattle.locked.specs.Acts.{made, act_without_copy}
 use Rattle.due_moments.proofs.Shared.{covers_other}
 use Rattle.due_moments.specs.Marks.{Covers, Marks}
-use Rattle.guest_laws.specs.Guests.{IsGuest, GuestRecords, asking}
+use Rattle.guest_laws.specs.Guests.{IsGuest, GuestRecords, deed_at}
 use Rattle.net_locks.specs.declared.turn.Turn.{Turn}
 use Rattle.net_locks.specs.declared.turn.Turn.TheVariants as turn
 use Rattle.net_locks.specs.Turns.{RecordedTurn, Turned, own_seen}
@@ -52,7 +52,7 @@ own_more past x stamp at_stamp es alone =
 
 -- one that was noted
 pub covers_noted : (w : World) (r : Roster) (c now : ℕ) (a : ActorName) (work : Work) (cites : Option ℕ) (p p' : Sight) (ds : List Duty) → IsGuest w r c p ds
-    → (stamp : ℕ) (o : Outcome) → GuestRecords w r (asking a c now work cites) p stamp o p' → (noted_at : ActorName) → noted_at ≡ a → (m m' : Marks)
+    → (stamp : ℕ) (o : Outcome) → GuestRecords w r (deed_at a c now work cites) p stamp o p' → (noted_at : ActorName) → noted_at ≡ a → (m m' : Marks)
     → ((es : List (ℕ × Noted)) (x : Noted) → Covers es m → x.entry.actor ≡ noted_at → Covers (es ++ (stamp, x) ∷ []) m')
     → Covers (own_seen c p) m → Covers (own_seen c p') m'
 covers_noted w r c now a work cites p p' ds g stamp o d noted_at is m m' notes covers =
@@ -63,7 +63,7 @@ covers_noted w r c now a work cites p p' ds g stamp o d noted_at is m m' notes c
 
 -- a move of the clock
 pub covers_move : (ts : Tasks) (w : World) (c now : ℕ) (work : Work) (cites : Option ℕ) (p p' : Sight) (ds ds' : List Duty) (stamp : ℕ) (answer : Reply) (m : Marks)
-    → RecordedTurn ts w (asking name.Clock c now work cites) p ds stamp answer p' ds' → Covers (own_seen c p) m → Covers (own_seen c p') m
+    → RecordedTurn ts w (deed_at name.Clock c now work cites) p ds stamp answer p' ds' → Covers (own_seen c p) m → Covers (own_seen c p') m
 covers_move ts w c now work cites p p' ds ds' stamp answer m rec covers =
     let x = made name.Clock c now work cites (act_without_copy rec.step.outcome) in
     let grown : own_seen c p' ≡ own_seen c p ++ (stamp, x) ∷ [] = ap (at (number.Caller c)) rec.seen ∙ own_more rec.past x stamp rec.stamp_is (own_seen c p) rec.alone in
@@ -75,7 +75,7 @@ grown_by : (p p' : Sight) (past : List Noted) (x : Noted) → IsPrefix p.seen pa
 grown_by p p' past x before seen = prefix_trans p.seen past p'.seen before (x ∷ [], sym seen)
 
 pub recorded_grows : (ts : Tasks) (w : World) (c now : ℕ) (a : ActorName) (work : Work) (cites : Option ℕ) (p p' : Sight) (ds ds' : List Duty) (stamp : ℕ) (answer : Reply)
-    → RecordedTurn ts w (asking a c now work cites) p ds stamp answer p' ds' → IsPrefix p.seen p'.seen
+    → RecordedTurn ts w (deed_at a c now work cites) p ds stamp answer p' ds' → IsPrefix p.seen p'.seen
 recorded_grows ts w c now a work cites p p' ds ds' stamp answer rec =
     grown_by p p' rec.past (made a c now work cites (act_without_copy rec.step.outcome)) rec.before rec.seen
 
@@ -83,7 +83,7 @@ pub same_grows : (p p' : Sight) → p' ≡ p → IsPrefix p.seen p'.seen
 same_grows p p' same = subst (λ (q : Sight). IsPrefix p.seen q.seen) (sym same) ([], append-nil p.seen)
 
 pub turned_grows : (ts : Tasks) (w : World) (c now : ℕ) (a : ActorName) (work : Work) (cites : Option ℕ) (p p' : Sight) (ds ds' : List Duty) (t : Turn)
-    → Turned ts w (asking a c now work cites) p ds t p' ds' → IsPrefix p.seen p'.seen
+    → Turned ts w (deed_at a c now work cites) p ds t p' ds' → IsPrefix p.seen p'.seen
 turned_grows ts w c now a work cites p p' ds ds' (turn.Recorded stamp answer) turned = recorded_grows ts w c now a work cites p p' ds ds' stamp answer turned
 turned_grows ts w c now a work cites p p' ds ds' turn.NotReady turned = turned.0.stays.before
 turned_grows ts w c now a work cites p p' ds ds' turn.Owes turned = absurd turned

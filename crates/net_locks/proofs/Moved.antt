@@ -25,7 +25,7 @@ use Rattle.journal.specs.Tokens.{HoldsAll}
 use Rattle.locked.specs.Acts.{made}
 use Rattle.duties.specs.declared.due.Due.{Due}
 use Rattle.duties.specs.Ticking.{MoveOwes, dues_of, ticks_of}
-use Rattle.guest_laws.specs.Guests.{HasRecorded, IsGuest, GuestRecords, StaysGuest, asking}
+use Rattle.guest_laws.specs.Guests.{HasRecorded, IsGuest, GuestRecords, StaysGuest, deed_at}
 use Rattle.guest_laws.specs.Works.{entries, next_noted, noted_after, noted_net, step_by}
 use Rattle.net_locks.specs.declared.visitor.Bearer.{Bearer}
 use Rattle.net_locks.specs.Moving.{LeavesMoved, MayLeave, MovesTo}
@@ -43,8 +43,8 @@ at_other k x other n [] = ap (λ (b : Bool). if b then (n, x) ∷ [] else []) ot
 at_other k x other n (y ∷ log) = ap (λ (l : List (ℕ × Noted)). if matches k y then (n, y) ∷ l else l) (at_other k x other (n + 1) log)
 
 module _ (ts : Tasks) (w : World) (r : Roster) (c now m : ℕ) (p p' : Sight) (ds : List Duty) (g : IsGuest w r c p ds) (stamp : ℕ) (o : Outcome)
-    (d : GuestRecords w r (asking name.Clock c now (bare (event.Move m)) None) p stamp o p')
-    (rec : HasRecorded w r (asking name.Clock c now (bare (event.Move m)) None) d.past p ds stamp o p') (numbers : HoldsAll r p) (free : ds ≡ []) where
+    (d : GuestRecords w r (deed_at name.Clock c now (bare (event.Move m)) None) p stamp o p')
+    (rec : HasRecorded w r (deed_at name.Clock c now (bare (event.Move m)) None) d.past p ds stamp o p') (numbers : HoldsAll r p) (free : ds ≡ []) where
   whole : d.past ≡ p.seen
   whole = d.whole numbers
 

@@ -30,7 +30,7 @@ use Rattle.ip_route.specs.Kept.{HostWays}
 use Rattle.duties.specs.Owing.{Owes, if_any, most_following, most_owed}
 use Rattle.duties.specs.Queue.{Queue}
 use Rattle.duties.specs.WaysOf.{AreWaysOfWorld}
-use Rattle.guest_laws.specs.Guests.{HasRecorded, IsGuest, GuestRecords, StaysGuest, asking}
+use Rattle.guest_laws.specs.Guests.{HasRecorded, IsGuest, GuestRecords, StaysGuest, deed_at}
 use Rattle.guest_laws.specs.Named.{answer_in, named_opening}
 use Rattle.guest_laws.specs.Works.{entries, noted_net}
 use Rattle.net_locks.specs.Turns.{HasRoom, IsFull, RecordedTurn, StaysOwn, Unready}
@@ -71,8 +71,8 @@ no_move (name.Conv h p n) e other is = is
 no_move (name.Medium m) e other is = is
 
 module _ (ts : Tasks) (w : World) (r : Roster) (c now : ℕ) (a : ActorName) (work : Work) (cites : Option ℕ) (p p' : Sight) (ds : List Duty)
-    (g : IsGuest w r c p ds) (stamp : ℕ) (o : Outcome) (d : GuestRecords w r (asking a c now work cites) p stamp o p')
-    (rec : HasRecorded w r (asking a c now work cites) d.past p ds stamp o p') where
+    (g : IsGuest w r c p ds) (stamp : ℕ) (o : Outcome) (d : GuestRecords w r (deed_at a c now work cites) p stamp o p')
+    (rec : HasRecorded w r (deed_at a c now work cites) d.past p ds stamp o p') where
   pub new_duties : List Duty
   new_duties = spec.duties w (noted_net w d.past).actors a stamp work rec.step
 
@@ -89,7 +89,7 @@ module _ (ts : Tasks) (w : World) (r : Roster) (c now : ℕ) (a : ActorName) (wo
 
   pub recorded : HasRoom c p → IsInTimeBy ts (noted_net w d.past) w work.event → (ds' : List Duty)
       → ds' ≡ drop 1 ds ++ spec.duties w (noted_net w d.past).actors a stamp work rec.step → (answer : Reply) → answer ≡ o.reply
-      → RecordedTurn ts w (asking a c now work cites) p ds stamp answer p' ds'
+      → RecordedTurn ts w (deed_at a c now work cites) p ds stamp answer p' ds'
   recorded room intime ds' owed answer is =
       record {
         room = room;

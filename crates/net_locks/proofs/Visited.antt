@@ -19,7 +19,7 @@ use Rattle.due_moments.specs.Marks.{Covers, Marks}
 use Rattle.duties.specs.Owing.{Owes}
 use Rattle.duties.specs.Queue.{Queue}
 use Rattle.duties.specs.WaysOf.{AreWaysOfWorld}
-use Rattle.guest_laws.specs.Guests.{IsGuest, asking}
+use Rattle.guest_laws.specs.Guests.{IsGuest, deed_at}
 use Rattle.guest_laws.specs.Works.{noted_net}
 use Rattle.net_locks.specs.declared.calendar.Calendar.{Calendar}
 use Rattle.net_locks.specs.declared.turn.Turn.{Turn}
@@ -80,7 +80,7 @@ module _ {J : Type 0} (ts : Tasks) (w : World) (r : Roster) (a : ActorName) (wor
   module _ (t : Turn) (m : Misses ts w r a work cites v.bearer v.duties.list t b') (q : Queue) (list : q.list ≡ v.duties.list) where
     pub missed_turn : (k : Marks) → Visited ts w a work cites v t (visitor b' q k v.calendar)
     missed_turn k =
-        subst (λ (l : List Duty). Turned ts w (asking a v.bearer.caller v.bearer.now work cites) v.bearer.pass v.duties.list t b'.pass l) (sym list) m.turned
+        subst (λ (l : List Duty). Turned ts w (deed_at a v.bearer.caller v.bearer.now work cites) v.bearer.pass v.duties.list t b'.pass l) (sym list) m.turned
 
     pub missed_visitor : StaysKnown w → (k : Marks) → Covers (own_seen v.bearer.caller v.bearer.pass) k → IsVisitor w r (visitor b' q k v.calendar)
     missed_visitor stays k covers =

@@ -16,7 +16,7 @@ use Rattle.calm_laws.specs.Could.{could}
 use Rattle.journal.specs.declared.law.Roster.{Roster}
 use Rattle.journal.specs.declared.tokens.Sight.{Sight}
 use Rattle.due_moments.specs.Marks.{Covers, Marks}
-use Rattle.guest_laws.specs.Guests.{IsGuest, asking}
+use Rattle.guest_laws.specs.Guests.{IsGuest, deed_at}
 use Rattle.guest_laws.specs.Works.{noted_net}
 use Rattle.net_locks.specs.declared.clock.Advance.{Advance}
 use Rattle.net_locks.specs.declared.clock.Advance.TheVariants as advance
@@ -55,7 +55,7 @@ pub record MovesTo (ts : Tasks) (w : World) (c now m : ℕ) (p : Sight) (ds : Li
     : Type 0 where
   pub stamp : ℕ
   pub reply : Reply
-  pub turn : RecordedTurn ts w (asking name.Clock c now (bare (event.Move m)) None) p ds stamp reply p' ds'
+  pub turn : RecordedTurn ts w (deed_at name.Clock c now (bare (event.Move m)) None) p ds stamp reply p' ds'
   pub whole : turn.past ≡ p.seen
 
 -- what the entry leaves of the clock, which owed nothing, and of the others by its pass

@@ -19,7 +19,7 @@ use Rattle.net_base.specs.Stamped.{at}
 use Rattle.net_base.specs.Tasks.{Tasks}
 use Rattle.journal.specs.declared.tokens.Sight.{Sight}
 use Rattle.locked.specs.Acts.{made, act_without_copy}
-use Rattle.guest_laws.specs.Guests.{Asking}
+use Rattle.guest_laws.specs.Guests.{Deed}
 use Rattle.guest_laws.specs.Works.{entries, noted_net}
 use Rattle.guest_laws.specs.Own.{AreNext, AreTimely, OwnStandsStill}
 use Rattle.net_locks.specs.declared.turn.Turn.{Turn}
@@ -36,7 +36,7 @@ abbrev pub IsFull : ℕ → Sight → Type 0
 IsFull c p = length (own_seen c p) ≡ 131072
 
 -- one entry of the caller was recorded: its actor's step in the net of the past, and its first duty is done
-pub record RecordedTurn (ts : Tasks) (w : World) (q : Asking) (p : Sight) (ds : List Duty) (stamp : ℕ) (answer : Reply)
+pub record RecordedTurn (ts : Tasks) (w : World) (q : Deed) (p : Sight) (ds : List Duty) (stamp : ℕ) (answer : Reply)
     (p' : Sight) (ds' : List Duty) : Type 0 where
   pub room : HasRoom q.caller p
   pub past : List Noted
@@ -65,8 +65,8 @@ pub record Unready (w : World) (c now : ℕ) (a : ActorName) (work : Work) (p : 
   pub stays : StaysOwn w c p p'
   pub unready : actor_step w a ((noted_net w p'.seen).actors a) now work ≡ None
 
--- what the turn in which the caller asked for it did, by its answer
-abbrev pub Turned : Tasks → World → Asking → Sight → List Duty → Turn → Sight → List Duty → Type 0
+-- what a turn of the caller for this deed did, by its answer
+abbrev pub Turned : Tasks → World → Deed → Sight → List Duty → Turn → Sight → List Duty → Type 0
 Turned ts w q p ds (turn.Recorded stamp answer) p' ds' = RecordedTurn ts w q p ds stamp answer p' ds'
 Turned ts w q p ds turn.NotReady p' ds' = Unready w q.caller q.now q.actor q.work p p' × (ds' ≡ ds)
 Turned ts w q p ds turn.Owes p' ds' = ⊥

@@ -14,7 +14,7 @@ use Rattle.journal.specs.declared.law.Roster.{Roster}
 use Rattle.journal.specs.declared.tokens.Sight.{Sight}
 use Rattle.due_moments.specs.Marks.{Covers, Marks}
 use Rattle.duties.specs.Owing.{most_owed}
-use Rattle.guest_laws.specs.Guests.{HasRecorded, IsGuest, IsGuestTurn, GuestRecords, asking}
+use Rattle.guest_laws.specs.Guests.{HasRecorded, IsGuest, IsGuestTurn, GuestRecords, deed_at}
 use Rattle.guest_laws.specs.Works.{noted_net}
 use Rattle.net_locks.specs.declared.calendar.Calendar.{Calendar}
 use Rattle.net_locks.specs.declared.turn.Turn.{Turn}
@@ -43,7 +43,7 @@ pub record IsSameBearer {J : Type 0} (old new : Bearer J) : Type 0 where
 -- what a turn of the visitor with this work at this actor did, by its answer
 abbrev pub Visited : {J : Type 0} → Tasks → World → ActorName → Work → Option ℕ → Visitor J → Turn → Visitor J → Type 0
 Visited ts w a work cites old t new =
-    Turned ts w (asking a old.bearer.caller old.bearer.now work cites) old.bearer.pass old.duties.list t
+    Turned ts w (deed_at a old.bearer.caller old.bearer.now work cites) old.bearer.pass old.duties.list t
     new.bearer.pass new.duties.list
 
 -- One try to record a work.
@@ -51,8 +51,8 @@ Visited ts w a work cites old t new =
 -- the entry of this stamp was recorded as a turn of the caller that owed these
 pub record Does {J : Type 0} (ts : Tasks) (w : World) (r : Roster) (a : ActorName) (work : Work) (cites : Option ℕ) (old : Bearer J)
     (ds : List Duty) (stamp : ℕ) (o : Outcome) (new : Bearer J) : Type 0 where
-  pub records : GuestRecords w r (asking a old.caller old.now work cites) old.pass stamp o new.pass
-  pub recorded : HasRecorded w r (asking a old.caller old.now work cites) records.past old.pass ds stamp o new.pass
+  pub records : GuestRecords w r (deed_at a old.caller old.now work cites) old.pass stamp o new.pass
+  pub recorded : HasRecorded w r (deed_at a old.caller old.now work cites) records.past old.pass ds stamp o new.pass
   pub in_time : IsInTimeBy ts (noted_net w records.past) w work.event
   pub few : most_owed o ≤ 13
 
@@ -60,7 +60,7 @@ pub record Does {J : Type 0} (ts : Tasks) (w : World) (r : Roster) (a : ActorNam
 pub record Misses {J : Type 0} (ts : Tasks) (w : World) (r : Roster) (a : ActorName) (work : Work) (cites : Option ℕ) (old : Bearer J)
     (ds : List Duty) (t : Turn) (new : Bearer J) : Type 0 where
   pub guest : IsGuest w r old.caller new.pass ds
-  pub turned : Turned ts w (asking a old.caller old.now work cites) old.pass ds t new.pass ds
+  pub turned : Turned ts w (deed_at a old.caller old.now work cites) old.pass ds t new.pass ds
   pub alone : own_seen old.caller new.pass ≡ own_seen old.caller old.pass
 
 -- by whether it was recorded, as a turn of the caller whatever it owes

@@ -8,7 +8,7 @@ ghost use Rattle.net_base.specs.Duties.{Duty as AnyDuty};
 ghost use Rattle.net_base.specs.Stamped.{moment_noted, same_actor};
 ghost use Rattle.duties.specs.Owing.{Owes, most_owed};
 ghost use Rattle.duties.specs.Queue.{work_of_duty};
-ghost use Rattle.guest_laws.specs.Guests.{IsGuest, IsGuestTurn, asking};
+ghost use Rattle.guest_laws.specs.Guests.{IsGuest, IsGuestTurn, deed_at};
 ghost use Rattle.due_moments.specs.Marks.{Covers};
 ghost use Rattle.net_locks.specs.Turns.{HasRoom, Turned, bare};
 ghost use Rattle.net_locks.specs.Visitors.{Attempted, IsSameBearer, IsVisitor, Visited};
@@ -236,7 +236,7 @@ fn lacks_room<J: Naming + Placing>(
     ensures none { IsNone result → HasRoom bearer.entry.now.caller bearer.entry.now.pass
         × (13 ≤ duties.new.room) × (0 < touched.new.room) }
     ensures some { IfSome result (λ t. (now : ℕ) (a : Name) (work : AnyWork) (cites : Option ℕ)
-        → Turned J.tasks J.world (asking a bearer.entry.now.caller now work cites) bearer.entry.now.pass
+        → Turned J.tasks J.world (deed_at a bearer.entry.now.caller now work cites) bearer.entry.now.pass
         duties.old.list t bearer.entry.now.pass duties.new.list) }
 {
     if bearer.pass.room(bearer.caller) == 0 {

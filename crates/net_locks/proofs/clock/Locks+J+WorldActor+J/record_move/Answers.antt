@@ -3,7 +3,7 @@ use Rattle.net_base.specs.declared.actor.ActorName.{ActorName}
 use Rattle.net_base.specs.declared.actor.ActorName.TheVariants as name
 use Rattle.net_base.specs.declared.event.Event.TheVariants as event
 use Rattle.net_base.specs.Duties.{Duty}
-use Rattle.guest_laws.specs.Guests.{IsGuestTurn, GuestRecords, asking}
+use Rattle.guest_laws.specs.Guests.{IsGuestTurn, GuestRecords, deed_at}
 use Rattle.net_locks.specs.Turns.{bare}
 use Rattle.net_locks.proofs.Moved.{leaves_moved}
 use Rattle.net_locks.proofs.Sighted.{looked_same}
@@ -24,7 +24,7 @@ returns-in-Done-clause-leaves g c =
     let p = c.args.bearer.now.pass in
     let p' = c.act.new.pass in
     let ds = c.args.duties.now.list in
-    let d = subst (λ (a : ActorName). GuestRecords w r (asking a k c.args.bearer.now.now (bare (event.Move m)) None) p c.in-Done.stamp c.in-Done.outcome p') c.in-Some.ensures.some c.in-Done.ensures in
+    let d = subst (λ (a : ActorName). GuestRecords w r (deed_at a k c.args.bearer.now.now (bare (event.Move m)) None) p c.in-Done.stamp c.in-Done.outcome p') c.in-Some.ensures.some c.in-Done.ensures in
     let turn = subst (λ (l : List Duty). IsGuestTurn w k p l name.Clock (bare (event.Move m)) None) (sym c.requires.free) (c.turns_are_these.ensures.clock w k p m c.requires.clock) in
     let rec = c.guests_record.ensures w r name.Clock k c.args.bearer.now.now (bare (event.Move m)) None p ds c.in-Done.stamp c.in-Done.outcome p' c.requires.guest turn d in
     leaves_moved g.J.Placing.tasks w r k c.args.bearer.now.now m p p' ds c.requires.guest c.in-Done.stamp c.in-Done.outcome d rec c.requires.numbers c.requires.free c.a_move_owes_its_ticks.ensures

@@ -2,7 +2,7 @@ use Rattle.std.proofs.Common.{length, inl, refl, ap, sym, subst, ◌∙◌, arit
 use Rattle.net_base.specs.declared.actor.ActorName.{ActorName}
 use Rattle.net_base.specs.declared.actor.ActorName.TheVariants as name
 use Rattle.net_base.specs.Stamped.{same_actor}
-use Rattle.guest_laws.specs.Guests.{IsGuest, GuestRecords, asking}
+use Rattle.guest_laws.specs.Guests.{IsGuest, GuestRecords, deed_at}
 use Rattle.guest_laws.specs.Named.{answer_in, named_opening}
 use Rattle.guest_laws.specs.Works.{noted_net}
 use Rattle.journal.specs.declared.tokens.Sight.{Sight}
@@ -22,7 +22,7 @@ act-requires-clause-room g c =
 pub returns-in-Done-clause-here : goal.returns-in-Done-clause-here
 returns-in-Done-clause-here g c =
     let b = c.args.bearer.now in
-    let d = subst (λ (a : ActorName). GuestRecords g.J.Placing.world g.J.Naming.run.roster (asking a b.caller b.now c.args.work.now c.args.cites) b.pass c.in-Done.stamp c.in-Done.outcome c.act.new.pass)
+    let d = subst (λ (a : ActorName). GuestRecords g.J.Placing.world g.J.Naming.run.roster (deed_at a b.caller b.now c.args.work.now c.args.cites) b.pass c.in-Done.stamp c.in-Done.outcome c.act.new.pass)
     c.in-Some.ensures.some c.in-Done.ensures in
     c.requires.here ∙ sym (d.moment_kept c.requires.other)
 
@@ -34,7 +34,7 @@ returns-in-Done-clause-attempted g c ds guest turn =
     let work = c.args.work.now in
     let b = c.args.bearer.now in
     let p' = c.act.new.pass in
-    let d = subst (λ (n : ActorName). GuestRecords w r (asking n b.caller b.now work c.args.cites) b.pass c.in-Done.stamp c.in-Done.outcome p') c.in-Some.ensures.some c.in-Done.ensures in
+    let d = subst (λ (n : ActorName). GuestRecords w r (deed_at n b.caller b.now work c.args.cites) b.pass c.in-Done.stamp c.in-Done.outcome p') c.in-Some.ensures.some c.in-Done.ensures in
     let rec = c.guests_record.ensures w r a b.caller b.now work c.args.cites b.pass ds c.in-Done.stamp c.in-Done.outcome p' guest turn d in
     record {
       records = d;
