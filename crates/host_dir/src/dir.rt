@@ -13,7 +13,7 @@ ghost use Rattle.net_base.specs.Routes.{way};
 ghost use Rattle.host_dir.specs.Found.{slot_at, taker_at};
 ghost use Rattle.host_dir.specs.Kept.{GivesDir, IsDirOf, LeavesDir, StaysDir, StepMayWant, StepsDir, Wants};
 ghost use Rattle.host_dir.specs.Ready.{is_row_ready, takes_packet};
-ghost use Rattle.host_dir.specs.Taking.{TakesSlot, chosen_port, may_take};
+ghost use Rattle.host_dir.specs.Taking.{TakesSlot, chosen_port};
 
 use crate::answer::{Answer, outcome};
 use crate::names::names_of;
@@ -353,8 +353,8 @@ impl Dir {
     /// A slot is bound to a port.
     fn bind(&mut self, n: u32, generation: u64, port: u16) -> Result<Outcome, AllocError>
         requires { n < length self.old.dir.slots }
-        ensures ok { IfOk result (λ o. LeavesDir self.new o (spec.in_slot n generation self.old.dir (spec.slot_binds n port
-            self.old.dir))) }
+        ensures ok { IfOk result (λ o. LeavesDir self.new o (spec.in_slot n generation self.old.dir (
+            spec.slot_binds n port self.old.dir))) }
         ensures stays { StaysDir self.old self.new }
         ensures err { OnErr result (self.new ≡ self.old) }
         ensures memory { OnErr result (StepMayWant (spec.in_slot n generation self.old.dir (spec.slot_binds n port
@@ -515,11 +515,11 @@ impl Dir {
     /// Whether the pair is new and isn't its own mirror, the packet may bear, and there is room at the listener.
     fn may_take(&self, pair: Pair, packet: &Packet, listener: u32) -> bool
         requires { listener < length self.now.dir.slots }
-        ensures { result ≡ may_take pair packet.now (slot_at self.now.dir.slots listener) self.now.dir }
+        ensures { result ≡ spec.may_take pair packet.now (slot_at self.now.dir.slots listener) self.now.dir }
     {
         self.slots.number_of(pair).is_none()
             && pair != mirror(pair)
-            && may_bear(&packet.body)
+            && is_first_packet(&packet.body)
             && self.slots.at(listener).calls().len() < MOST_CALLS
     }
 
@@ -572,7 +572,7 @@ fn limit_of(proto: Proto, mtu: u32) -> u32
 }
 
 /// Whether the packet with this body may bear a conversation: a datagram of UDP, or a sync of IL with ack 0.
-fn may_bear(body: &Body) -> bool
+fn is_first_packet(body: &Body) -> bool
     ensures { result ≡ spec.is_first_packet body.now }
 {
     match body {
@@ -602,7 +602,8 @@ fn refusal(alloc: Global, message: &IlMsg, packet: &Packet) -> Packet
 
 /// What becomes of a packet without a taker: a sync is refused, and all else is dropped.
 fn refused_or_dropped(alloc: Global, packet: &Packet) -> Outcome
-    ensures { (d : AnyDir) → spec.refused_or_dropped packet.now.body packet.now d ≡ record { state = d; outcome = result } }
+    ensures { (d : AnyDir) → spec.refused_or_dropped packet.now.body packet.now d
+        ≡ record { state = d; outcome = result } }
 {
     match &packet.body {
         Body::Il(message) if message.kind == IlKind::Sync => {
