@@ -1,5 +1,5 @@
 -- The messages of a client that came back: it read them, in order.
-use Rattle.std.proofs.Common.{◌≡◌, ◌⊎◌, inl, inr, ℕ, ◌+◌, zero, suc, Bool, true, false, List, [], ◌∷◌, ◌++◌, append_assoc, take, Option, Some, None, slice_get, refl, sym, ap, subst, ◌∙◌, arith, cond}
+use Rattle.std.proofs.Common.{◌≡◌, ◌⊎◌, inl, inr, ℕ, ◌+◌, zero, suc, Bool, true, false, List, [], ◌∷◌, ◌++◌, append_assoc, take, Option, Some, None, slice_get, codes, refl, sym, ap, subst, ◌∙◌, arith, cond}
 use Rattle.std.proofs.lemmas.Bool.{true≢false}
 use Rattle.std.proofs.lemmas.List.{append-nil}
 use Rattle.std.proofs.lemmas.Option.{same_Some, none-some}
@@ -29,9 +29,13 @@ AreEchoesAmong [] ys = Unit {0}
 AreEchoesAmong (x ∷ xs) [] = ⊥
 AreEchoesAmong (x ∷ xs) (y ∷ ys) = ((x ≡ y) × AreEchoesAmong xs ys) ⊎ AreEchoesAmong (x ∷ xs) ys
 
--- each message that came back was read, in order
+-- what each client sends
+abbrev pub sent : List (List ℕ)
+sent = codes "hello" ∷ codes "a second message" ∷ codes "and good bye" ∷ []
+
+-- it sends these, and those that came back were read, in order
 abbrev pub KeepsEchoes : EchoClient → List Reply → Type 0
-KeepsEchoes c rs = AreEchoesAmong (take c.echoed c.messages) (echo_texts rs)
+KeepsEchoes c rs = (c.messages ≡ sent) × AreEchoesAmong (take c.echoed c.messages) (echo_texts rs)
 
 -- of a server nothing is claimed
 abbrev pub claimed : EitherTask EchoServer EchoClient → List Reply → Type 0
@@ -67,10 +71,12 @@ take_more xs n x is =
     subst (λ (k : ℕ). take k xs ≡ take n xs ++ x ∷ []) one (take_next xs n x is)
 
 module _ (c : EchoClient) (rs : List Reply) (r : Reply) (is : KeepsEchoes c rs) where
-  kept : AreEchoesAmong (take c.echoed c.messages) (echo_texts (rs ++ r ∷ []))
-  kept =
-      subst (λ (l : List (List ℕ)). AreEchoesAmong (take c.echoed c.messages) l) (sym (texts_push rs r))
-      (among_more (take c.echoed c.messages) (echo_texts rs) (reply_text r) is)
+  kept : (c.messages ≡ sent) × AreEchoesAmong (take c.echoed c.messages) (echo_texts (rs ++ r ∷ []))
+  kept = (
+    is.0,
+    subst (λ (l : List (List ℕ)). AreEchoesAmong (take c.echoed c.messages) l) (sym (texts_push rs r))
+        (among_more (take c.echoed c.messages) (echo_texts rs) (reply_text r) is.1),
+  )
 
   same_text : (o : Option (List ℕ)) (bytes : List ℕ) → came_back o bytes ≡ true → o ≡ Some bytes
   same_text None bytes e = absurd (true≢false (sym e))
@@ -82,11 +88,11 @@ module _ (c : EchoClient) (rs : List Reply) (r : Reply) (is : KeepsEchoes c rs) 
       subst (λ (l : List (List ℕ)). AreEchoesAmong l (echo_texts (rs ++ r ∷ []))) (sym (take_more c.messages c.echoed bytes sent))
       (subst (λ (l : List (List ℕ)). AreEchoesAmong (take c.echoed c.messages ++ bytes ∷ []) l)
       (sym (texts_push rs r ∙ ap (λ (q : Reply). echo_texts rs ++ reply_text q) same))
-      (among_push (take c.echoed c.messages) (echo_texts rs) bytes is))
+      (among_push (take c.echoed c.messages) (echo_texts rs) bytes is.1))
   came _ same e = absurd (true≢false (sym e))
 
   by_echo : (b : Bool) → is_echo c r ≡ b → KeepsEchoes (cond b (echoed (record c { echoed = c.echoed + 1 })) (at_stage c stage.Close)) (rs ++ r ∷ [])
-  by_echo true e = came r refl e
+  by_echo true e = (is.0, came r refl e)
   by_echo false e = kept
 
   by_stage : (s : Stage) → KeepsEchoes (after_at s c r) (rs ++ r ∷ [])

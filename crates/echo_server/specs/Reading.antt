@@ -8,15 +8,15 @@ use Rattle.whole_script.specs.declared.either.EitherTask.TheVariants as either
 use Rattle.echo_server.specs.declared.client.EchoClient.{EchoClient}
 use Rattle.echo_server.specs.declared.server.EchoServer.{EchoServer}
 use Rattle.echo_server.specs.Calling.{is_well}
-use Rattle.echo_server.specs.Echoes.{AreEchoesAmong, echo_texts}
+use Rattle.echo_server.specs.Echoes.{AreEchoesAmong, echo_texts, sent}
 
 -- a client read what it wrote
 abbrev pub is_well_client : Option (EitherTask EchoServer EchoClient) → Bool
 is_well_client (Some (either.Other client)) = is_well client
 is_well_client _ = false
 
--- each client that ended well has read each of its messages, in order, in the replies to its own entries
+-- each client that ended well has read what it was to send, in order, in the replies to its own entries
 abbrev pub HaveRead : List Entry → List (Option (EitherTask EchoServer EchoClient)) → Type 0
 HaveRead h tasks =
     (c : ℕ) (client : EchoClient) → task_at tasks c ≡ Some (either.Other client) → is_well client ≡ true
-    → AreEchoesAmong client.messages (echo_texts (own_replies h c))
+    → AreEchoesAmong sent (echo_texts (own_replies h c))

@@ -1,11 +1,11 @@
 //! An echo server and its clients over a network that loses packets, on one worker and on four.
 #![tactic(auto)]
 
-ghost use Rattle.std.specs.Prelude.{◌≡◌, ◌<◌, ◌≤◌, [], filter, length, IfOk, IfSome};
+ghost use Rattle.std.specs.Prelude.{◌≡◌, ◌<◌, ◌≤◌, filter, length, IfOk, IfSome};
 ghost use Rattle.net_base.specs.World.{IsWorld};
-ghost use Rattle.agenda.specs.Given.{AreBegun};
 ghost use Rattle.agenda.specs.PrefixLaw.{KeepsPrefixes};
-ghost use Rattle.echo_server.specs.Echoes.{claimed};
+ghost use Rattle.echo_server.specs.Echoes.{sent};
+ghost use Rattle.echo_server.specs.Giving.{task_given, tasks_given};
 ghost use Rattle.echo_server.specs.Reading.{HaveRead, is_well_client};
 
 mod client;
@@ -26,9 +26,6 @@ use world_file::read_world;
 const SERVICE: &[u8] = b"net!helix!echo";
 
 const ANNOUNCED: &[u8] = b"net!*!echo";
-
-/// What each client sends.
-const MESSAGES: [&[u8]; 3] = [b"hello", b"a second message", b"and good bye"];
 
 /// A server or a client.
 type EchoTask = EitherTask<EchoServer, EchoClient>;
@@ -70,6 +67,7 @@ fn echoes<R: Threads + Wait + Sync>(
     requires some { 0 < workers }
     requires few { workers ≤ 16 }
     ensures read { IfOk result (λ run. HaveRead run.history run.tasks.items) }
+    ensures places { IfOk result (λ run. length run.tasks.items ≡ length world.now.scripts) }
     ensures prefixes { IfOk result (λ run. KeepsPrefixes world.now run.history) }
 {
     let tasks = tasks_of(alloc, world.scripts.len())?;
@@ -79,7 +77,7 @@ fn echoes<R: Threads + Wait + Sync>(
 
 // A server in the first place, and clients in the others.
 fn tasks_of(alloc: Global, places: usize) -> Result<Vec<Option<EchoTask>>, AllocError>
-    ensures { IfOk result (λ tasks. AreBegun claimed tasks.items) }
+    ensures { IfOk result (λ tasks. tasks.items ≡ tasks_given places) }
 {
     let mut tasks = Vec::with_capacity(alloc, places)?;
     for place in 0..places {
@@ -90,7 +88,7 @@ fn tasks_of(alloc: Global, places: usize) -> Result<Vec<Option<EchoTask>>, Alloc
 }
 
 fn task_of(alloc: Global, place: usize) -> Result<EchoTask, AllocError>
-    ensures { IfOk result (λ task. claimed task []) }
+    ensures { IfOk result (λ task. task ≡ task_given place) }
 {
     if place == 0 {
         return Ok(EitherTask::One(EchoServer::new(alloc, ANNOUNCED)?));
@@ -99,11 +97,14 @@ fn task_of(alloc: Global, place: usize) -> Result<EchoTask, AllocError>
     Ok(EitherTask::Other(client))
 }
 
-fn messages(alloc: Global) -> Result<Lines, AllocError> {
+// What each client sends.
+fn messages(alloc: Global) -> Result<Lines, AllocError>
+    ensures { IfOk result (λ messages. messages ≡ sent) }
+{
     let mut messages = Lines::new(alloc);
-    for text in MESSAGES {
-        messages.add(text)?;
-    }
+    messages.add(b"hello")?;
+    messages.add(b"a second message")?;
+    messages.add(b"and good bye")?;
     Ok(messages)
 }
 

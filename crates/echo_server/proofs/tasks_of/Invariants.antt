@@ -1,7 +1,6 @@
-use Rattle.agenda.specs.Given.{AreBegun}
-use Rattle.echo_server.specs.Echoes.{claimed}
+use Rattle.std.proofs.Common.{◌≡◌}
+use Rattle.echo_server.specs.Giving.{tasks_given}
 use Rattle.echo_server.proofs.tasks_of.Given as goal
 
--- what is claimed of those that are given so far holds
 abbrev pub invariant-loop-place : goal.invariant-loop-place
-invariant-loop-place l = AreBegun claimed l.tasks.items
+invariant-loop-place l = l.tasks.items ≡ tasks_given l.place

@@ -15,7 +15,8 @@ act_once-told-requires-clause-held g c =
     let given = c.split_pass-pass.ensures.given in
     let all : c.in_ok-journal.idle.held ≡ caller_numbers 1 = c.in_ok-journal.ensures.held ∙ ap caller_numbers c.requires.callers in
     let mine : c.split_pass-pass.result.held ≡ (number.Caller 0, []) ∷ [] = given.1 ∙ ap (filter (λ (h : Held). same_number h.0 (number.Caller 0))) all in
-    ([], subst (λ (hs : List Held). In (number.Caller 0, []) hs) (sym mine) (inl refl), omega arith)
+    let own = subst (λ (hs : List Held). In (number.Caller 0, []) hs) (sym mine) (inl refl) in
+    ([], subst (λ (n : ℕ). HoldsPass c.split_pass-pass.result n []) (sym c.asked_by.ensures.caller) own, omega arith)
 
 pub act_once-told-requires-clause-moment : goal.act_once-told-requires-clause-moment
 act_once-told-requires-clause-moment g c = ap moment_noted (c.split_pass-pass.ensures.given.0 ∙ c.in_ok-journal.ensures.seen)
@@ -41,4 +42,5 @@ act_once-told-requires-3-clause-actor g c =
 pub act-moved-requires-clause-timely : goal.act-moved-requires-clause-timely
 act-moved-requires-clause-timely g c =
     let h = c.act_once-told-3.ensures.held in
-    inr (λ k lt. below_one (λ q. (es : List (ℕ × Noted)) × HoldsPass c.act_once-told-3.result.1 q es) (h.0, h.1) k (subst (λ (n : ℕ). k < n) c.requires.callers lt))
+    let own = subst (λ (n : ℕ). HoldsPass c.act_once-told-3.result.1 n h.0) c.asked_by-3.ensures.caller h.1 in
+    inr (λ k lt. below_one (λ q. (es : List (ℕ × Noted)) × HoldsPass c.act_once-told-3.result.1 q es) (h.0, own) k (subst (λ (n : ℕ). k < n) c.requires.callers lt))

@@ -1,0 +1,18 @@
+-- The tasks that a run is given: the server, and clients that call it.
+use Rattle.std.specs.Prelude.{ℕ, zero, suc, ◌==◌, List, [], ◌∷◌, ◌++◌, Option, Some, codes, if◌then◌else◌}
+use Rattle.whole_script.specs.declared.either.EitherTask.{EitherTask}
+use Rattle.whole_script.specs.declared.either.EitherTask.TheVariants as either
+use Rattle.echo_server.specs.declared.client.EchoClient.{EchoClient}
+use Rattle.echo_server.specs.declared.server.EchoServer.{EchoServer}
+use Rattle.echo_server.specs.Calling as client
+use Rattle.echo_server.specs.Serving as server
+use Rattle.echo_server.specs.Echoes.{sent}
+
+-- the server in the first place, and a client in each other
+abbrev pub task_given : ℕ → EitherTask EchoServer EchoClient
+task_given place = if place == 0 then either.One (server.begun (codes "net!*!echo")) else either.Other (client.begun (codes "net!helix!echo") sent)
+
+-- those of so many places
+abbrev pub tasks_given : ℕ → List (Option (EitherTask EchoServer EchoClient))
+tasks_given zero = []
+tasks_given (suc n) = tasks_given n ++ Some (task_given n) ∷ []
