@@ -192,24 +192,43 @@ of_slot make word spelled fits = row (both_fields narrow long) slot_words slot_f
 other_rows_are : AreRows event_words FitsEvent spec.other_rows
 other_rows_are = (
   bare_row event.Reserve event_words FitsEvent (codes "reserve") refl (tt, tt),
-  bare_row event.Take event_words FitsEvent (codes "take") refl (tt, tt),
-  row narrow_or_dash dashes (IfAny IsNarrow) narrow_or_dash_exact (λ to. event.Put to) event_words FitsEvent (codes "put") (λ to h. refl) (λ to h. (h, tt)),
-  of_long (λ m. event.Move m) (codes "move") (λ m. refl) (λ m h. (h, tt)),
-  of_long (λ m. event.Until m) (codes "until") (λ m. refl) (λ m h. (h, tt)),
-  bare_row event.Refresh event_words FitsEvent (codes "refresh") refl (tt, tt),
-  tt,
+  (
+    bare_row event.Take event_words FitsEvent (codes "take") refl (tt, tt),
+    (
+      row narrow_or_dash dashes (IfAny IsNarrow) narrow_or_dash_exact (λ to. event.Put to) event_words FitsEvent (codes "put") (λ to h. refl) (λ to h. (h, tt)),
+      (
+        of_long (λ m. event.Move m) (codes "move") (λ m. refl) (λ m h. (h, tt)),
+        (
+          of_long (λ m. event.Until m) (codes "until") (λ m. refl) (λ m h. (h, tt)),
+          (bare_row event.Refresh event_words FitsEvent (codes "refresh") refl (tt, tt), tt),
+        ),
+      ),
+    ),
+  ),
 )
 
 slot_rows_are : AreRows event_words FitsEvent spec.slot_rows
 slot_rows_are = (
   row (both_fields narrow (both_fields long (both_fields read_place port_or_dash))) grant_words grant_fits grant_exact spec.to_grant event_words FitsEvent (codes "grant") (λ f h. refl) (λ f h. ((h.0, h.1.0, h.1.1.0, h.1.1.1), tt)),
-  row (both_fields narrow (both_fields long (both_fields read_ip_or_star port_or_star))) announce_words announce_fits announce_exact spec.to_announce event_words FitsEvent (codes "announce") (λ f h. refl) (λ f h. ((h.0, h.1.0, h.1.1.0, h.1.1.1), tt)),
-  row (both_fields narrow (both_fields long port)) bound_words bound_fits bound_exact spec.to_bind event_words FitsEvent (codes "bind") (λ f h. refl) (λ f h. ((h.0, h.1.0, h.1.1), tt)),
-  row narrow numbers IsNarrow narrow_exact (λ n. event.Listen n) event_words FitsEvent (codes "listen") (λ n h. refl) (λ n h. (h, tt)),
-  of_slot (λ f. event.Withdraw f.0 f.1) (codes "withdraw") (λ f. refl) (λ f h. (h, tt)),
-  of_slot (λ f. event.Release f.0 f.1) (codes "release") (λ f. refl) (λ f h. (h, tt)),
-  row (both_fields long (both_fields file narrow)) filed_words filed_fits filed_exact spec.to_file event_words FitsEvent (codes "file") (λ f h. refl) (λ f h. ((h.0, h.1.1), tt)),
-  other_rows_are,
+  (
+    row (both_fields narrow (both_fields long (both_fields read_ip_or_star port_or_star))) announce_words announce_fits announce_exact spec.to_announce event_words FitsEvent (codes "announce") (λ f h. refl) (λ f h. ((h.0, h.1.0, h.1.1.0, h.1.1.1), tt)),
+    (
+      row (both_fields narrow (both_fields long port)) bound_words bound_fits bound_exact spec.to_bind event_words FitsEvent (codes "bind") (λ f h. refl) (λ f h. ((h.0, h.1.0, h.1.1), tt)),
+      (
+        row narrow numbers IsNarrow narrow_exact (λ n. event.Listen n) event_words FitsEvent (codes "listen") (λ n h. refl) (λ n h. (h, tt)),
+        (
+          of_slot (λ f. event.Withdraw f.0 f.1) (codes "withdraw") (λ f. refl) (λ f h. (h, tt)),
+          (
+            of_slot (λ f. event.Release f.0 f.1) (codes "release") (λ f. refl) (λ f h. (h, tt)),
+            (
+              row (both_fields long (both_fields file narrow)) filed_words filed_fits filed_exact spec.to_file event_words FitsEvent (codes "file") (λ f h. refl) (λ f h. ((h.0, h.1.1), tt)),
+              other_rows_are,
+            ),
+          ),
+        ),
+      ),
+    ),
+  ),
 )
 
 arrive_is : Row (codes "arrive") spec.arrive
@@ -220,25 +239,49 @@ arrive_is =
 end_rows_are : AreRows event_words FitsEvent spec.end_rows
 end_rows_are = (
   of_long (λ g. event.Hangup g) (codes "hangup") (λ g. refl) (λ g h. (h, tt)),
-  of_long (λ g. event.Close g) (codes "close") (λ g. refl) (λ g h. (h, tt)),
-  of_long (λ g. event.Tick g) (codes "tick") (λ g. refl) (λ g h. (h, tt)),
-  arrive_is,
-  row (both_fields long narrow) counted_words counted_fits counted_exact (λ f. event.Read f.0 f.1) event_words FitsEvent (codes "read") (λ f h. refl) (λ f h. (h, tt)),
-  row (both_fields long octet) short_words short_fits short_exact (λ f. event.Ttl f.0 f.1) event_words FitsEvent (codes "ttl") (λ f h. refl) (λ f h. (h, tt)),
-  row (both_fields long octet) short_words short_fits short_exact (λ f. event.Tos f.0 f.1) event_words FitsEvent (codes "tos") (λ f h. refl) (λ f h. (h, tt)),
-  slot_rows_are,
+  (
+    of_long (λ g. event.Close g) (codes "close") (λ g. refl) (λ g h. (h, tt)),
+    (
+      of_long (λ g. event.Tick g) (codes "tick") (λ g. refl) (λ g h. (h, tt)),
+      (
+        arrive_is,
+        (
+          row (both_fields long narrow) counted_words counted_fits counted_exact (λ f. event.Read f.0 f.1) event_words FitsEvent (codes "read") (λ f h. refl) (λ f h. (h, tt)),
+          (
+            row (both_fields long octet) short_words short_fits short_exact (λ f. event.Ttl f.0 f.1) event_words FitsEvent (codes "ttl") (λ f h. refl) (λ f h. (h, tt)),
+            (
+              row (both_fields long octet) short_words short_fits short_exact (λ f. event.Tos f.0 f.1) event_words FitsEvent (codes "tos") (λ f h. refl) (λ f h. (h, tt)),
+              slot_rows_are,
+            ),
+          ),
+        ),
+      ),
+    ),
+  ),
 )
 
 generation_rows_are : AreRows event_words FitsEvent spec.generation_rows
 generation_rows_are = (
   of_long (λ g. event.Begin g) (codes "begin") (λ g. refl) (λ g h. (h, tt)),
-  of_long (λ g. event.Born g) (codes "born") (λ g. refl) (λ g h. (h, tt)),
-  of_long (λ g. event.Claim g) (codes "claim") (λ g. refl) (λ g h. (h, tt)),
-  of_long (λ g. event.Connect g) (codes "connect") (λ g. refl) (λ g h. (h, tt)),
-  of_long (λ g. event.Announced g) (codes "announced") (λ g. refl) (λ g h. (h, tt)),
-  of_long (λ g. event.Bound g) (codes "bound") (λ g. refl) (λ g h. (h, tt)),
-  of_long (λ g. event.Await g) (codes "await") (λ g. refl) (λ g h. (h, tt)),
-  end_rows_are,
+  (
+    of_long (λ g. event.Born g) (codes "born") (λ g. refl) (λ g h. (h, tt)),
+    (
+      of_long (λ g. event.Claim g) (codes "claim") (λ g. refl) (λ g h. (h, tt)),
+      (
+        of_long (λ g. event.Connect g) (codes "connect") (λ g. refl) (λ g h. (h, tt)),
+        (
+          of_long (λ g. event.Announced g) (codes "announced") (λ g. refl) (λ g h. (h, tt)),
+          (
+            of_long (λ g. event.Bound g) (codes "bound") (λ g. refl) (λ g h. (h, tt)),
+            (
+              of_long (λ g. event.Await g) (codes "await") (λ g. refl) (λ g h. (h, tt)),
+              end_rows_are,
+            ),
+          ),
+        ),
+      ),
+    ),
+  ),
 )
 
 ls_is : Row (codes "ls") spec.ls_read
@@ -264,13 +307,25 @@ named_row make word spelled fits ((b ∷ n) ∷ words) y rest e =
 event_rows_are : AreRows event_words FitsEvent spec.event_rows
 event_rows_are = (
   row text hexes AreBytes text_exact (λ query. event.Cs query) event_words FitsEvent (codes "cs") (λ query h. refl) (λ query h. (h, tt)),
-  ls_is,
-  open_is,
-  named_row (λ n. event.Use n) (codes "use") (λ n. refl) (λ b n. (tt, tt)),
-  named_row (λ n. event.Misuse n) (codes "misuse") (λ n. refl) (λ b n. (tt, tt)),
-  row (both_fields long text) written_words written_fits written_exact (λ f. event.Write f.0 f.1) event_words FitsEvent (codes "write") (λ f h. refl) (λ f h. (h, tt)),
-  row (both_fields long text) written_words written_fits written_exact (λ f. event.Ctl f.0 f.1) event_words FitsEvent (codes "ctl") (λ f h. refl) (λ f h. (h, tt)),
-  generation_rows_are,
+  (
+    ls_is,
+    (
+      open_is,
+      (
+        named_row (λ n. event.Use n) (codes "use") (λ n. refl) (λ b n. (tt, tt)),
+        (
+          named_row (λ n. event.Misuse n) (codes "misuse") (λ n. refl) (λ b n. (tt, tt)),
+          (
+            row (both_fields long text) written_words written_fits written_exact (λ f. event.Write f.0 f.1) event_words FitsEvent (codes "write") (λ f h. refl) (λ f h. (h, tt)),
+            (
+              row (both_fields long text) written_words written_fits written_exact (λ f. event.Ctl f.0 f.1) event_words FitsEvent (codes "ctl") (λ f h. refl) (λ f h. (h, tt)),
+              generation_rows_are,
+            ),
+          ),
+        ),
+      ),
+    ),
+  ),
 )
 
 pub event_sound : (words : Words) (e : Event) (rest : Words) → spec.event_of words ≡ Some (e, rest) → (words ≡ event_words e ++ rest) × FitsEvent e

@@ -291,7 +291,7 @@ mode_bare mode.Both = bare (codes "rw") refl refl
 
 mode_sound : (word : List ℕ) (x : Mode) → mode_named word ≡ Some x → word ≡ mode_word x
 mode_sound =
-    named_sound (λ (y : Mode). mode_word y) ((codes "r", mode.Read) ∷ (codes "w", mode.Write) ∷ (codes "rw", mode.Both) ∷ []) (refl, refl, refl, tt)
+    named_sound (λ (y : Mode). mode_word y) ((codes "r", mode.Read) ∷ (codes "w", mode.Write) ∷ (codes "rw", mode.Both) ∷ []) (refl, (refl, (refl, tt)))
 
 abbrev pub modes : Mode → Words
 modes m = mode_word m ∷ []

@@ -188,60 +188,118 @@ bare_is value word spelled fits = bare_row value reply_words FitsReply word spel
 last_rows_are : AreRows reply_words FitsReply spec.last_rows
 last_rows_are = (
   bare_is reply.Took (codes "took") refl (tt, tt),
-  bare_is reply.Full (codes "full") refl (tt, tt),
-  bare_is reply.Ticked (codes "ticked") refl (tt, tt),
-  bare_is reply.NotDue (codes "notdue") refl (tt, tt),
-  bare_is reply.TooBig (codes "toobig") refl (tt, tt),
-  bare_is reply.NoStation (codes "nostation") refl (tt, tt),
-  tt,
+  (
+    bare_is reply.Full (codes "full") refl (tt, tt),
+    (
+      bare_is reply.Ticked (codes "ticked") refl (tt, tt),
+      (
+        bare_is reply.NotDue (codes "notdue") refl (tt, tt),
+        (
+          bare_is reply.TooBig (codes "toobig") refl (tt, tt),
+          (
+            bare_is reply.NoStation (codes "nostation") refl (tt, tt),
+            tt,
+          ),
+        ),
+      ),
+    ),
+  ),
 )
 
 refused_rows_are : AreRows reply_words FitsReply spec.refused_rows
 refused_rows_are = (
   bare_is reply.Refused (codes "refused") refl (tt, tt),
-  bare_is reply.Dropped (codes "dropped") refl (tt, tt),
-  bare_is reply.Stale (codes "stale") refl (tt, tt),
-  bare_is reply.NotOpen (codes "notopen") refl (tt, tt),
-  bare_is reply.ZeroWrite (codes "zerowrite") refl (tt, tt),
-  bare_is reply.Left (codes "left") refl (tt, tt),
-  last_rows_are,
+  (
+    bare_is reply.Dropped (codes "dropped") refl (tt, tt),
+    (
+      bare_is reply.Stale (codes "stale") refl (tt, tt),
+      (
+        bare_is reply.NotOpen (codes "notopen") refl (tt, tt),
+        (
+          bare_is reply.ZeroWrite (codes "zerowrite") refl (tt, tt),
+          (
+            bare_is reply.Left (codes "left") refl (tt, tt),
+            last_rows_are,
+          ),
+        ),
+      ),
+    ),
+  ),
 )
 
 bare_rows_are : AreRows reply_words FitsReply spec.bare_rows
 bare_rows_are = (
   bare_is reply.NoFile (codes "nofile") refl (tt, tt),
-  bare_is reply.BadMode (codes "badmode") refl (tt, tt),
-  bare_is reply.BadFid (codes "badfid") refl (tt, tt),
-  bare_is reply.NoSlot (codes "noslot") refl (tt, tt),
-  bare_is reply.NoRoute (codes "noroute") refl (tt, tt),
-  bare_is reply.NoPort (codes "noport") refl (tt, tt),
-  bare_is reply.SelfPair (codes "selfpair") refl (tt, tt),
-  refused_rows_are,
+  (
+    bare_is reply.BadMode (codes "badmode") refl (tt, tt),
+    (
+      bare_is reply.BadFid (codes "badfid") refl (tt, tt),
+      (
+        bare_is reply.NoSlot (codes "noslot") refl (tt, tt),
+        (
+          bare_is reply.NoRoute (codes "noroute") refl (tt, tt),
+          (
+            bare_is reply.NoPort (codes "noport") refl (tt, tt),
+            (
+              bare_is reply.SelfPair (codes "selfpair") refl (tt, tt),
+              refused_rows_are,
+            ),
+          ),
+        ),
+      ),
+    ),
+  ),
 )
 
 several_rows_are : AreRows reply_words FitsReply spec.several_rows
 several_rows_are = (
   of_slot (λ f. reply.Call f.0 f.1) (codes "call") (λ f. refl) (λ f h. (h, tt)),
-  of_slot (λ f. reply.To f.0 f.1) (codes "to") (λ f. refl) (λ f h. (h, tt)),
-  row (both_fields long narrow) long_limit_words long_limit_fits long_limit_exact (λ f. reply.TooLong f.0 f.1) reply_words FitsReply (codes "toolong") (λ f h. refl) (λ f h. (h, tt)),
-  row (both_fields read_place (both_fields read_place (both_fields narrow narrow))) granted_words granted_fits granted_exact spec.to_granted reply_words FitsReply (codes "granted") (λ f h. refl) (λ f h. ((h.0, h.1.0, h.1.1.0, h.1.1.1), tt)),
-  row (both_fields narrow (both_fields long (both_fields narrow narrow))) born_words born_fits born_exact spec.to_born reply_words FitsReply (codes "born") (λ f h. refl) (λ f h. ((h.0, h.1.0, h.1.1.0, h.1.1.1), tt)),
-  row state_read states (λ s. Unit {0}) state_exact (λ s. reply.WrongState s) reply_words FitsReply (codes "wrong") (λ s h. refl) (λ s h. (tt, tt)),
-  row read_cause causes (λ c. Unit {0}) cause_exact (λ c. reply.Hungup c) reply_words FitsReply (codes "hungup") (λ c h. refl) (λ c h. (tt, tt)),
-  bare_rows_are,
+  (
+    of_slot (λ f. reply.To f.0 f.1) (codes "to") (λ f. refl) (λ f h. (h, tt)),
+    (
+      row (both_fields long narrow) long_limit_words long_limit_fits long_limit_exact (λ f. reply.TooLong f.0 f.1) reply_words FitsReply (codes "toolong") (λ f h. refl) (λ f h. (h, tt)),
+      (
+        row (both_fields read_place (both_fields read_place (both_fields narrow narrow))) granted_words granted_fits granted_exact spec.to_granted reply_words FitsReply (codes "granted") (λ f h. refl) (λ f h. ((h.0, h.1.0, h.1.1.0, h.1.1.1), tt)),
+        (
+          row (both_fields narrow (both_fields long (both_fields narrow narrow))) born_words born_fits born_exact spec.to_born reply_words FitsReply (codes "born") (λ f h. refl) (λ f h. ((h.0, h.1.0, h.1.1.0, h.1.1.1), tt)),
+          (
+            row state_read states (λ s. Unit {0}) state_exact (λ s. reply.WrongState s) reply_words FitsReply (codes "wrong") (λ s h. refl) (λ s h. (tt, tt)),
+            (
+              row read_cause causes (λ c. Unit {0}) cause_exact (λ c. reply.Hungup c) reply_words FitsReply (codes "hungup") (λ c h. refl) (λ c h. (tt, tt)),
+              bare_rows_are,
+            ),
+          ),
+        ),
+      ),
+    ),
+  ),
 )
 
 number_rows_are : AreRows reply_words FitsReply spec.number_rows
 number_rows_are = (
   of_narrow (λ n. reply.CsRefused n) (codes "csrefused") (λ n. refl) (λ n h. (h, tt)),
-  of_wide (λ n. reply.PairUsed n) (codes "pairused") (λ n. refl) (λ n h. (h, tt)),
-  of_narrow (λ n. reply.PortTaken n) (codes "taken") (λ n. refl) (λ n h. (h, tt)),
-  of_wide (λ n. reply.Opened n) (codes "opened") (λ n. refl) (λ n h. (h, tt)),
-  of_narrow (λ n. reply.BadCtl n) (codes "badctl") (λ n. refl) (λ n h. (h, tt)),
-  of_wide (λ n. reply.Version n) (codes "version") (λ n. refl) (λ n h. (h, tt)),
-  of_wide (λ n. reply.Laid n) (codes "laid") (λ n. refl) (λ n h. (h, tt)),
-  of_wide (λ n. reply.Copy n) (codes "copy") (λ n. refl) (λ n h. (h, tt)),
-  several_rows_are,
+  (
+    of_wide (λ n. reply.PairUsed n) (codes "pairused") (λ n. refl) (λ n h. (h, tt)),
+    (
+      of_narrow (λ n. reply.PortTaken n) (codes "taken") (λ n. refl) (λ n h. (h, tt)),
+      (
+        of_wide (λ n. reply.Opened n) (codes "opened") (λ n. refl) (λ n h. (h, tt)),
+        (
+          of_narrow (λ n. reply.BadCtl n) (codes "badctl") (λ n. refl) (λ n h. (h, tt)),
+          (
+            of_wide (λ n. reply.Version n) (codes "version") (λ n. refl) (λ n h. (h, tt)),
+            (
+              of_wide (λ n. reply.Laid n) (codes "laid") (λ n. refl) (λ n h. (h, tt)),
+              (
+                of_wide (λ n. reply.Copy n) (codes "copy") (λ n. refl) (λ n h. (h, tt)),
+                several_rows_are,
+              ),
+            ),
+          ),
+        ),
+      ),
+    ),
+  ),
 )
 
 calls_are : Row (codes "calls") spec.waited
@@ -257,13 +315,25 @@ calls_are words y rest e = by (spec.calls_read words) refl e
 reply_rows_are : AreRows reply_words FitsReply spec.reply_rows
 reply_rows_are = (
   bare_is reply.Ok (codes "ok") refl (tt, tt),
-  of_narrow (λ n. reply.Count n) (codes "count") (λ n. refl) (λ n h. (h, tt)),
-  of_slot (λ f. reply.Slot f.0 f.1) (codes "slot") (λ f. refl) (λ f h. (h, tt)),
-  row text hexes AreBytes text_exact (λ b. reply.Bytes b) reply_words FitsReply (codes "bytes") (λ b h. refl) (λ b h. (h, tt)),
-  of_texts (λ l. reply.Lines l) (codes "lines") (λ l. refl) (λ l h. h),
-  of_texts (λ l. reply.Names l) (codes "names") (λ l. refl) (λ l h. h),
-  calls_are,
-  number_rows_are,
+  (
+    of_narrow (λ n. reply.Count n) (codes "count") (λ n. refl) (λ n h. (h, tt)),
+    (
+      of_slot (λ f. reply.Slot f.0 f.1) (codes "slot") (λ f. refl) (λ f h. (h, tt)),
+      (
+        row text hexes AreBytes text_exact (λ b. reply.Bytes b) reply_words FitsReply (codes "bytes") (λ b h. refl) (λ b h. (h, tt)),
+        (
+          of_texts (λ l. reply.Lines l) (codes "lines") (λ l. refl) (λ l h. h),
+          (
+            of_texts (λ l. reply.Names l) (codes "names") (λ l. refl) (λ l h. h),
+            (
+              calls_are,
+              number_rows_are,
+            ),
+          ),
+        ),
+      ),
+    ),
+  ),
 )
 
 pub reply_sound : (words : Words) (r : Reply) (rest : Words) → spec.reply_read words ≡ Some (r, rest) → (words ≡ reply_words r ++ rest) × FitsReply r
