@@ -1,12 +1,12 @@
 -- Which slots are found, and what holds of who takes a packet.
-use Rattle.std.proofs.Common.{◌≡◌, ℕ, suc, ◌+◌, not, Bool, true, false, cond, List, [], ◌∷◌, Option, Some, None, is_none, length, nat_lt, refl, ap, ◌∙◌, subst, if◌then◌else◌, ◌&&◌, slice_get, arith}
+use Rattle.std.proofs.Common.{◌≡◌, ℕ, suc, ◌+◌, not, Bool, true, false, cond, List, [], ◌∷◌, Option, Some, None, is_none, refl, ap, ◌∙◌, subst, if◌then◌else◌, slice_get, arith}
 use Rattle.std.specs.Option.{option_and_then}
 use Rattle.std.proofs.lemmas.Option.{none-some, same_Some}
 use Rattle.std.proofs.lemmas.Bool.{and_parts, not-true}
 use Rattle.net_base.specs.declared.address.Addr.{Addr}
 use Rattle.net_base.specs.declared.address.Pair.{Pair}
 use Rattle.net_base.specs.declared.packet.Packet.{Packet}
-use Rattle.net_base.specs.Directory.{Key, Slot, Dir, is_free, is_announced, is_keyed, Exactly, ByPort, ByAny, key_at, match_of, or_else, first_slot, pair_place, Taker, taker_of, is_first_packet}
+use Rattle.net_base.specs.Directory.{Key, Slot, Dir, is_free, is_announced, is_keyed, Exactly, ByPort, ByAny, key_at, match_of, or_else, first_slot, pair_place, Taker, taker_of, is_first_packet, may_take}
 use Rattle.net_base.specs.Mirror.{mirror}
 use Rattle.net_base.specs.Same.{same_pair}
 use Rattle.net_base.proofs.Shared.{none_is}
@@ -53,23 +53,15 @@ pub record TakerFound (pair : Pair) (packet : Packet) (d : Dir) (t : Taker) : Ty
   pub apart : same_pair pair (mirror pair) ≡ false
   pub bears : is_first_packet packet.body ≡ true
 
--- the pair is new, and passes the other tests
-abbrev new_and : Pair → Packet → Slot → Dir → Bool
-new_and pair packet listener d =
-    is_none (pair_place pair 1 d.pairs)
-    && (not (same_pair pair (mirror pair))
-    && (is_first_packet packet.body
-    && nat_lt (length listener.calls) 10))
-
 abbrev taken : Pair → Packet → Dir → Option (ℕ × Slot) → Option (ℕ × Slot) → Option Taker
 taken pair packet d x y =
     option_and_then (λ (free : ℕ × Slot). option_and_then (λ (listener : ℕ × Slot).
-    if new_and pair packet listener.1 d then Some (record { free = free; listener = listener }) else None) y) x
+    if may_take pair packet listener.1 d then Some (record { free = free; listener = listener }) else None) y) x
 
 pub taker_found : (pair : Pair) (packet : Packet) (d : Dir) (t : Taker) → taker_of pair packet d ≡ Some t → TakerFound pair packet d t
 taker_found pair packet d t is = go (first_slot is_free 0 d.slots) (match_of packet.dst d.slots) refl refl is
   where
-    by : (free listener : ℕ × Slot) (b : Bool) → first_slot is_free 0 d.slots ≡ Some free → match_of packet.dst d.slots ≡ Some listener → new_and pair packet listener.1 d ≡ b
+    by : (free listener : ℕ × Slot) (b : Bool) → first_slot is_free 0 d.slots ≡ Some free → match_of packet.dst d.slots ≡ Some listener → may_take pair packet listener.1 d ≡ b
         → (if b then Some (record { free = free; listener = listener }) else None) ≡ Some t → TakerFound pair packet d t
     by free listener false one two tests same = absurd (none-some t same)
     by free listener true one two tests same =
@@ -90,4 +82,4 @@ taker_found pair packet d t is = go (first_slot is_free 0 d.slots) (match_of pac
     go : (x y : Option (ℕ × Slot)) → first_slot is_free 0 d.slots ≡ x → match_of packet.dst d.slots ≡ y → taken pair packet d x y ≡ Some t → TakerFound pair packet d t
     go None y one two same = absurd (none-some t same)
     go (Some free) None one two same = absurd (none-some t same)
-    go (Some free) (Some listener) one two same = by free listener (new_and pair packet listener.1 d) one two refl same
+    go (Some free) (Some listener) one two same = by free listener (may_take pair packet listener.1 d) one two refl same

@@ -7,12 +7,12 @@ use Rattle.net_base.specs.declared.address.Pair.{Pair}
 use Rattle.net_base.specs.declared.il.StateName.{StateName}
 use Rattle.net_base.specs.declared.il.StateName.TheVariants as name
 use Rattle.net_base.specs.declared.packet.Packet.{Packet}
-use Rattle.net_base.specs.Directory.{Dir, Slot, Key, Exactly, ByPort, ByAny, first_slot, is_announced, is_free, is_keyed, key_at, match_of, is_first_packet, or_else, pair_place}
+use Rattle.net_base.specs.Directory.{Dir, Slot, Key, Exactly, ByPort, ByAny, first_slot, is_announced, is_free, is_keyed, key_at, match_of, is_first_packet, may_take, or_else, pair_place}
 use Rattle.net_base.specs.Mirror.{mirror}
 use Rattle.net_base.specs.Same.{same_pair}
 use Rattle.host_dir.specs.declared.slots.TakerAt.{TakerAt}
 use Rattle.host_dir.specs.Found.{found_at, slot_at}
-use Rattle.host_dir.specs.Taking.{TakesSlot, may_take}
+use Rattle.host_dir.specs.Taking.{TakesSlot}
 use Rattle.host_dir.proofs.Firsts.{passes_at}
 use Rattle.net_base.proofs.Shared.{none_is}
 

@@ -1,10 +1,7 @@
--- Which ports are chosen, and which packets are taken.
-use Rattle.std.specs.Prelude.{◌≡◌, ℕ, ◌<◌, ◌&&◌, not, Bool, true, List, Option, Some, None, is_none, length, nat_lt}
+-- Which ports are chosen, and what a birth stands on.
+use Rattle.std.specs.Prelude.{◌≡◌, ℕ, ◌<◌, true, List, Option, Some, None, length}
 use Rattle.net_base.specs.declared.address.Pair.{Pair}
-use Rattle.net_base.specs.declared.packet.Packet.{Packet}
-use Rattle.net_base.specs.Directory.{Dir, Slot, is_announced, is_free, is_first_packet, pair_place}
-use Rattle.net_base.specs.Mirror.{mirror}
-use Rattle.net_base.specs.Same.{same_pair}
+use Rattle.net_base.specs.Directory.{Dir, is_announced, is_free, pair_place}
 use Rattle.host_dir.specs.declared.slots.TakerAt.{TakerAt}
 use Rattle.host_dir.specs.Found.{slot_at}
 use Rattle.host_dir.specs.Ports.{drawn}
@@ -14,11 +11,6 @@ abbrev pub chosen_port : Option ℕ → Option ℕ → List ℕ → Option ℕ
 chosen_port (Some port) bound used = Some port
 chosen_port None (Some port) used = Some port
 chosen_port None None used = drawn used
-
--- the pair was never granted or born and isn't its own mirror, the packet may bear, and there is room at the listener
-abbrev pub may_take : Pair → Packet → Slot → Dir → Bool
-may_take pair packet listener d =
-    is_none (pair_place pair 1 d.pairs) && (not (same_pair pair (mirror pair)) && (is_first_packet packet.body && nat_lt (length listener.calls) 10))
 
 -- what a birth stands on
 pub record TakesSlot (d : Dir) (pair : Pair) (t : TakerAt) : Type 0 where

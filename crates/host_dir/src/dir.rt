@@ -13,7 +13,7 @@ ghost use Rattle.net_base.specs.Routes.{way};
 ghost use Rattle.host_dir.specs.Found.{slot_at, taker_at};
 ghost use Rattle.host_dir.specs.Kept.{GivesDir, IsDirOf, LeavesDir, StaysDir, StepMayWant, StepsDir, Wants};
 ghost use Rattle.host_dir.specs.Ready.{is_row_ready, takes_packet};
-ghost use Rattle.host_dir.specs.Taking.{TakesSlot, chosen_port, may_take};
+ghost use Rattle.host_dir.specs.Taking.{TakesSlot, chosen_port};
 
 use crate::answer::{Answer, outcome};
 use crate::names::names_of;
@@ -515,11 +515,11 @@ impl Dir {
     /// Whether the pair is new and isn't its own mirror, the packet may bear, and there is room at the listener.
     fn may_take(&self, pair: Pair, packet: &Packet, listener: u32) -> bool
         requires { listener < length self.now.dir.slots }
-        ensures { result ≡ may_take pair packet.now (slot_at self.now.dir.slots listener) self.now.dir }
+        ensures { result ≡ spec.may_take pair packet.now (slot_at self.now.dir.slots listener) self.now.dir }
     {
         self.slots.number_of(pair).is_none()
             && pair != mirror(pair)
-            && may_bear(&packet.body)
+            && is_first_packet(&packet.body)
             && self.slots.at(listener).calls().len() < MOST_CALLS
     }
 
@@ -572,7 +572,7 @@ fn limit_of(proto: Proto, mtu: u32) -> u32
 }
 
 /// Whether the packet with this body may bear a conversation: a datagram of UDP, or a sync of IL with ack 0.
-fn may_bear(body: &Body) -> bool
+fn is_first_packet(body: &Body) -> bool
     ensures { result ≡ spec.is_first_packet body.now }
 {
     match body {

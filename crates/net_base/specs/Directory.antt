@@ -304,15 +304,19 @@ pub record Taker : Type 0 where
   pub free : ℕ × Slot
   pub listener : ℕ × Slot
 
--- the taker, where a slot is free, an announcement matches, the pair was never granted or born here and isn't its own mirror, the
--- packet may bear, and fewer than 10 calls wait at the announcing slot
+-- the pair was never granted or born here and isn't its own mirror, the packet may bear, and fewer than 10 calls wait at the listener
+abbrev pub may_take : Pair → Packet → Slot → Dir → Bool
+may_take pair packet listener d =
+    is_none (pair_place pair 1 d.pairs)
+    && (not (same_pair pair (mirror pair))
+    && (is_first_packet packet.body
+    && nat_lt (length listener.calls) 10))
+
+-- the taker, where a slot is free and an announcement matches whose slot may take the packet
 abbrev pub taker_of : Pair → Packet → Dir → Option Taker
 taker_of pair packet d =
     option_and_then (λ (free : ℕ × Slot). option_and_then (λ (listener : ℕ × Slot).
-    if is_none (pair_place pair 1 d.pairs)
-    && (not (same_pair pair (mirror pair))
-    && (is_first_packet packet.body
-    && nat_lt (length listener.1.calls) 10))
+    if may_take pair packet listener.1 d
     then Some (record { free = free; listener = listener })
     else None)
     (match_of packet.dst d.slots)) (first_slot is_free 0 d.slots)

@@ -10,7 +10,7 @@ use Rattle.net_base.specs.declared.history.With.{With}
 use Rattle.net_base.specs.declared.packet.Packet.{Packet}
 use Rattle.net_base.specs.declared.world.World.{World}
 use Rattle.net_base.specs.ActorStep.{Step}
-use Rattle.net_base.specs.Directory.{Dir, Slot, Taker, first_slot, is_free, match_of, is_first_packet, packet_pair, pair_place, taker_of}
+use Rattle.net_base.specs.Directory.{Dir, Slot, Taker, first_slot, is_free, match_of, is_first_packet, may_take, packet_pair, pair_place, taker_of}
 use Rattle.net_base.specs.Mirror.{mirror}
 use Rattle.net_base.specs.Same.{same_pair}
 use Rattle.history_laws.proofs.Shared.{taker_found}
@@ -35,7 +35,7 @@ set Q (x ∷ ss) (suc n) s all new = (all.0, set Q ss n s all.1 new)
 -- fewer than ten wait where a call comes
 has_room : (pair : Pair) (packet : Packet) (d : Dir) (x y : Option (ℕ × Slot)) (t : Taker)
     → option_and_then (λ (free : ℕ × Slot). option_and_then (λ (listener : ℕ × Slot).
-    if is_none (pair_place pair 1 d.pairs) && (not (same_pair pair (mirror pair)) && (is_first_packet packet.body && nat_lt (length listener.1.calls) 10))
+    if may_take pair packet listener.1 d
     then Some (record { free = free; listener = listener })
     else None) y) x ≡ Some t
     → nat_lt (length t.listener.1.calls) 10 ≡ true
