@@ -333,11 +333,11 @@ abbrev pub full_or_took : Bool → Reply
 full_or_took takes = if takes then reply.Took else reply.Full
 
 -- a packet comes; full at 64 unread datagrams, or where the UDP end is hung up
-abbrev pub taken_in : Core → Body → ℕ → Conv → Option (Step Conv)
-taken_in (Il e) (body.Il m) now c = Some (turned c reply.Took (arrives now m e) c)
-taken_in (Udp e) (body.Udp text) now c =
+abbrev pub arrived : Core → Body → ℕ → Conv → Option (Step Conv)
+arrived (Il e) (body.Il m) now c = Some (turned c reply.Took (arrives now m e) c)
+arrived (Udp e) (body.Udp text) now c =
     Some (leaves c (full_or_took (takes_datagram e.state (length e.unread))) (record c { core = Udp (datagram_comes text e) }) None)
-taken_in _ _ now c = None
+arrived _ _ now c = None
 
 abbrev pub tick_reply : Tick → Reply
 tick_reply tick.NotDue = reply.NotDue
@@ -367,7 +367,7 @@ conv_step slot (event.Ttl g n) with now c = in_generation g c (Some (leaves c re
 conv_step slot (event.Tos g n) with now c = in_generation g c (Some (leaves c reply.Ok (record c { tos = n }) None))
 conv_step slot (event.Ctl g text) with now c = bad_control (refused_control (control.read text)) g c
 conv_step slot (event.Close g) with now c = in_generation g c (Some (closed c.opens now c))
-conv_step slot (event.ArriveAt g) (given.Packet p) now c = when (has_protocol c.core p.body) (in_generation g c (taken_in c.core p.body now c))
+conv_step slot (event.ArriveAt g) (given.Packet p) now c = when (has_protocol c.core p.body) (in_generation g c (arrived c.core p.body now c))
 conv_step slot (event.Tick g) with now c = in_generation g c (Some (ticked c.core now c))
 conv_step slot event.Ls with now c = Some (listed c.opens c)
 conv_step slot _ _ now c = None

@@ -16,7 +16,7 @@ use Rattle.net_base.specs.declared.world.World.{World}
 use Rattle.net_base.specs.ActorStep.{Step, when}
 use Rattle.net_base.specs.Actors.{Actor, IsDesk, IsDir, IsConv, IsMedium, IsPlain, actor_step, opening_core, slot_count}
 use Rattle.net_base.specs.Callers.{caller_count}
-use Rattle.net_base.specs.Conversation.{Conv, Core, Il, Udp, in_generation, raises, conv_step, may_bear, may_connect, has_protocol, brought_forth, taken_in}
+use Rattle.net_base.specs.Conversation.{Conv, Core, Il, Udp, in_generation, raises, conv_step, may_bear, may_connect, has_protocol, brought_forth, arrived}
 use Rattle.net_base.specs.Directory.{Dir, Slot, dir_step}
 use Rattle.net_base.specs.Medium.{Medium, medium_step}
 use Rattle.std.specs.Option.{option_map}
@@ -182,7 +182,7 @@ bears_some (Udp e) now g start limit p (body.Udp t) v is = refl
 bears_some (Il e) now g start limit p (body.Udp t) v is = absurd (true≢false (sym is))
 bears_some (Udp e) now g start limit p (body.Il m) v is = absurd (true≢false (sym is))
 
-takes_some : (c : Core) (b : Body) (now : ℕ) (v : Conv) → has_protocol c b ≡ true → IsSome (taken_in c b now v)
+takes_some : (c : Core) (b : Body) (now : ℕ) (v : Conv) → has_protocol c b ≡ true → IsSome (arrived c b now v)
 takes_some (Il e) (body.Il m) now v is = refl
 takes_some (Udp e) (body.Udp t) now v is = refl
 takes_some (Il e) (body.Udp t) now v is = absurd (true≢false (sym is))

@@ -183,7 +183,7 @@ module _ (slot now : ℕ) (c : Conv) where
   udp_arrived p e text is said true takes = row.ArrivesUdp is said takes
   udp_arrived p e text is said false takes = row.ArrivesNot is said takes
 
-  arrived : (p : Packet) (k : Core) → c.core ≡ k → (b : Body) → p.body ≡ b → Are (event.ArriveAt c.generation) (given.Packet p) (conv.taken_in k b now c)
+  arrived : (p : Packet) (k : Core) → c.core ≡ k → (b : Body) → p.body ≡ b → Are (event.ArriveAt c.generation) (given.Packet p) (conv.arrived k b now c)
   arrived p (Il e) is (body.Il m) said = row.ArrivesIl is said
   arrived p (Udp e) is (body.Udp text) said = udp_arrived p e text is said (takes_datagram e.state (length e.unread)) refl
   arrived p (Il e) is (body.Udp text) said = tt

@@ -15,16 +15,36 @@ use net_base::{Addr, Body, Octets, Outcome, Packet, Pair, StateName, Timers};
 use std::alloc::AllocError;
 use udp_core::UdpEnd;
 
+// A generation as it begins or is born, with what it knows of its connection then.
+#[derive(Clone, Copy)]
+struct Birth {
+    generation: u64,
+    pair: Pair,
+    limit: u32,
+}
+
 impl Conv {
     // Another generation, with one open file.
-    fn become_new(&mut self, generation: u64, stage: Stage, pair: Pair, limit: u32, core: Core)
+    fn become_new(&mut self, birth: Birth, stage: Stage, core: Core)
         requires { IsKept stage core }
-        ensures { self.new ≡ record { slot = self.old.slot; conv = record { generation = generation; opens = 1; pair = pair; limit = limit; ttl = 255; tos = 0; stage = seen_stage stage; core = seen_core core } } }
+        ensures { self.new ≡ record {
+          slot = self.old.slot;
+          conv = record {
+            generation = birth.generation;
+            opens = 1;
+            pair = birth.pair;
+            limit = birth.limit;
+            ttl = 255;
+            tos = 0;
+            stage = seen_stage stage;
+            core = seen_core core;
+          };
+        } }
     {
-        self.generation = generation;
+        self.generation = birth.generation;
         self.opens = 1;
-        self.pair = pair;
-        self.limit = limit;
+        self.pair = birth.pair;
+        self.limit = birth.limit;
         self.ttl = 255;
         self.tos = 0;
         self.stage = stage;
@@ -33,7 +53,9 @@ impl Conv {
 
     /// Begins the next generation.
     pub(super) fn begin(&mut self, generation: u64) -> Result<Option<Outcome>, AllocError>
-        ensures ok { IfOk result (λ answer. spec.raises generation self.old.conv (Some (spec.leaves self.old.conv reply.Ok (spec.begun generation self.old.conv) None)) ≡ as_step self.new.conv answer) }
+        ensures ok { IfOk result (λ answer. spec.raises generation self.old.conv
+            (Some (spec.leaves self.old.conv reply.Ok (spec.begun generation self.old.conv) None))
+            ≡ as_step self.new.conv answer) }
         ensures slot { self.new.slot ≡ self.old.slot }
         ensures err { OnErr result (self.new ≡ self.old) }
         ensures memory { OnErr result ((generation == self.old.conv.generation + 1) ≡ true) }
@@ -43,11 +65,15 @@ impl Conv {
         }
         let core = self.core.fresh_like(self.alloc)?;
         let was_over = self.is_over();
-        let pair = Pair {
-            local: NOWHERE,
-            remote: NOWHERE,
+        let birth = Birth {
+            generation,
+            pair: Pair {
+                local: NOWHERE,
+                remote: NOWHERE,
+            },
+            limit: 0,
         };
-        self.become_new(generation, Stage::Unused, pair, 0, core);
+        self.become_new(birth, Stage::Unused, core);
         Ok(Some(self.left(was_over, ReplyAndCopy::ok(), None)))
     }
 
@@ -61,7 +87,9 @@ impl Conv {
         limit: u32,
     ) -> Result<Option<Outcome>, AllocError>
         requires { now < 2 ^ 63 }
-        ensures ok { IfOk result (λ answer. spec.raises generation self.old.conv (spec.brought_forth self.old.conv.core now generation start limit packet.now packet.now.body self.old.conv) ≡ as_step self.new.conv answer) }
+        ensures ok { IfOk result (λ answer. spec.raises generation self.old.conv
+            (spec.brought_forth self.old.conv.core now generation start limit packet.now packet.now.body self.old.conv)
+            ≡ as_step self.new.conv answer) }
         ensures slot { self.new.slot ≡ self.old.slot }
         ensures err { OnErr result (self.new ≡ self.old) }
         ensures memory { OnErr result ((generation == self.old.conv.generation + 1) ≡ true) }
@@ -69,18 +97,20 @@ impl Conv {
         if !self.is_next(generation) {
             return Ok(self.stale(generation));
         }
-        let pair = Pair {
-            local: packet.dst,
-            remote: packet.src,
+        let birth = Birth {
+            generation,
+            pair: Pair {
+                local: packet.dst,
+                remote: packet.src,
+            },
+            limit,
         };
         match (&self.core, &packet.body) {
             (Core::Il(end), Body::Il(message)) => {
                 let (timers, id) = (end.timers(), message.id);
-                Ok(Some(self.born_il(now, generation, pair, start, limit, id, timers)?))
+                Ok(Some(self.born_il(now, birth, start, id, timers)?))
             }
-            (Core::Udp(_), Body::Udp(text)) => Ok(Some(self.born_udp(
-                generation, pair, limit, text,
-            )?)),
+            (Core::Udp(_), Body::Udp(text)) => Ok(Some(self.born_udp(birth, text)?)),
             _ => Ok(None),
         }
     }
@@ -89,34 +119,40 @@ impl Conv {
     fn born_il(
         &mut self,
         now: u64,
-        generation: u64,
-        pair: Pair,
+        birth: Birth,
         start: u32,
-        limit: u32,
         id: u32,
         timers: Timers,
     ) -> Result<Outcome, AllocError>
         requires { now < 2 ^ 63 }
-        ensures ok { IfOk result (λ outcome. spec.turned self.old.conv reply.Ok (table.is_born now start id (end_spec.fresh_end timers)) (record (spec.begun generation self.old.conv) { pair = pair; limit = limit; stage = spec.Connected }) ≡ record { state = self.new.conv; outcome = outcome }) }
+        ensures ok { IfOk result (λ outcome. spec.turned self.old.conv reply.Ok
+            (table.is_born now start id (end_spec.fresh_end timers))
+            (record (spec.begun birth.generation self.old.conv) {
+              pair = birth.pair;
+              limit = birth.limit;
+              stage = spec.Connected;
+            })
+            ≡ record { state = self.new.conv; outcome = outcome }) }
         ensures slot { self.new.slot ≡ self.old.slot }
         ensures err { OnErr result (self.new ≡ self.old) }
     {
         let mut end = IlCore::fresh(self.alloc, timers)?;
         let sync = end.born(now, start, id);
         let was_over = self.is_over();
-        self.become_new(generation, Stage::Connected, pair, limit, Core::Il(end));
+        self.become_new(birth, Stage::Connected, Core::Il(end));
         Ok(self.turned(was_over, ReplyAndCopy::ok(), Some(sync)))
     }
 
     // The datagram is unread.
-    fn born_udp(
-        &mut self,
-        generation: u64,
-        pair: Pair,
-        limit: u32,
-        text: &Octets,
-    ) -> Result<Outcome, AllocError>
-        ensures ok { IfOk result (λ outcome. spec.leaves self.old.conv reply.Ok (record (spec.begun generation self.old.conv) { pair = pair; limit = limit; stage = spec.Connected; core = spec.Udp (udp.datagram_comes text.now (udp.udp_connects udp.fresh_udp)) }) None ≡ record { state = self.new.conv; outcome = outcome }) }
+    fn born_udp(&mut self, birth: Birth, text: &Octets) -> Result<Outcome, AllocError>
+        ensures ok { IfOk result (λ outcome. spec.leaves self.old.conv reply.Ok
+            (record (spec.begun birth.generation self.old.conv) {
+              pair = birth.pair;
+              limit = birth.limit;
+              stage = spec.Connected;
+              core = spec.Udp (udp.datagram_comes text.now (udp.udp_connects udp.fresh_udp));
+            }) None
+            ≡ record { state = self.new.conv; outcome = outcome }) }
         ensures slot { self.new.slot ≡ self.old.slot }
         ensures err { OnErr result (self.new ≡ self.old) }
     {
@@ -126,13 +162,14 @@ impl Conv {
         // an end without datagrams has room
         let _ = end.arrive(text);
         let was_over = self.is_over();
-        self.become_new(generation, Stage::Connected, pair, limit, Core::Udp(end));
+        self.become_new(birth, Stage::Connected, Core::Udp(end));
         Ok(self.left(was_over, ReplyAndCopy::ok(), None))
     }
 
     /// Is claimed, which changes nothing.
     pub(super) fn claim(&self, generation: u64) -> Option<Outcome>
-        ensures { spec.in_generation generation self.now.conv (Some (spec.only_replies self.now.conv reply.Ok)) ≡ as_step self.now.conv result }
+        ensures { spec.in_generation generation self.now.conv (Some (spec.only_replies self.now.conv reply.Ok))
+            ≡ as_step self.now.conv result }
     {
         if generation != self.generation {
             return self.stale(generation);
@@ -150,7 +187,9 @@ impl Conv {
         limit: u32,
     ) -> Option<Outcome>
         requires { now < 2 ^ 63 }
-        ensures step { spec.in_generation generation self.old.conv (Some (spec.joined self.old.conv.stage self.old.conv.core now pair start limit self.old.conv)) ≡ as_step self.new.conv result }
+        ensures step { spec.in_generation generation self.old.conv
+            (Some (spec.joined self.old.conv.stage self.old.conv.core now pair start limit self.old.conv))
+            ≡ as_step self.new.conv result }
         ensures slot { self.new.slot ≡ self.old.slot }
     {
         if generation != self.generation {
@@ -166,7 +205,8 @@ impl Conv {
     fn join(&mut self, now: u64, pair: Pair, start: u32, limit: u32) -> Outcome
         requires in_time { now < 2 ^ 63 }
         requires unused { self.old.conv.stage ≡ spec.Unused }
-        ensures step { spec.joined spec.Unused self.old.conv.core now pair start limit self.old.conv ≡ record { state = self.new.conv; outcome = result } }
+        ensures step { spec.joined spec.Unused self.old.conv.core now pair start limit self.old.conv
+            ≡ record { state = self.new.conv; outcome = result } }
         ensures slot { self.new.slot ≡ self.old.slot }
     {
         let was_over = self.is_over();
@@ -187,7 +227,8 @@ impl Conv {
 
     /// Listens at an address and port, where it is unused.
     pub(super) fn announced(&mut self, generation: u64, ip: u32, port: u16) -> Option<Outcome>
-        ensures step { spec.in_generation generation self.old.conv (Some (spec.listens self.old.conv.stage ip port self.old.conv)) ≡ as_step self.new.conv result }
+        ensures step { spec.in_generation generation self.old.conv
+            (Some (spec.listens self.old.conv.stage ip port self.old.conv)) ≡ as_step self.new.conv result }
         ensures slot { self.new.slot ≡ self.old.slot }
     {
         if generation != self.generation {
@@ -202,7 +243,8 @@ impl Conv {
     // An unused conversation listens.
     fn listen(&mut self, ip: u32, port: u16) -> Outcome
         requires { self.old.conv.stage ≡ spec.Unused }
-        ensures step { spec.listens spec.Unused ip port self.old.conv ≡ record { state = self.new.conv; outcome = result } }
+        ensures step { spec.listens spec.Unused ip port self.old.conv
+            ≡ record { state = self.new.conv; outcome = result } }
         ensures slot { self.new.slot ≡ self.old.slot }
     {
         let was_over = self.is_over();
@@ -217,7 +259,8 @@ impl Conv {
 
     /// Has a port, where it is unused.
     pub(super) fn bound(&mut self, generation: u64, port: u16) -> Option<Outcome>
-        ensures step { spec.in_generation generation self.old.conv (Some (spec.binds self.old.conv.stage port self.old.conv)) ≡ as_step self.new.conv result }
+        ensures step { spec.in_generation generation self.old.conv
+            (Some (spec.binds self.old.conv.stage port self.old.conv)) ≡ as_step self.new.conv result }
         ensures slot { self.new.slot ≡ self.old.slot }
     {
         if generation != self.generation {
@@ -235,7 +278,9 @@ impl Conv {
     /// Hangs up.
     pub(super) fn hang_up(&mut self, now: u64, generation: u64) -> Option<Outcome>
         requires { now < 2 ^ 63 }
-        ensures step { spec.in_generation generation self.old.conv (Some (spec.hung_up self.old.conv.core now (spec.left_or_ok (spec.core_name self.old.conv.core)) self.old.conv self.old.conv)) ≡ as_step self.new.conv result }
+        ensures step { spec.in_generation generation self.old.conv
+            (Some (spec.hung_up self.old.conv.core now (spec.left_or_ok (spec.core_name self.old.conv.core))
+            self.old.conv self.old.conv)) ≡ as_step self.new.conv result }
         ensures slot { self.new.slot ≡ self.old.slot }
     {
         if generation != self.generation {
@@ -252,7 +297,9 @@ impl Conv {
     // Its end hangs up.
     fn end_hangs_up(&mut self, now: u64, was_over: bool, answer: ReplyAndCopy) -> Outcome
         requires { now < 2 ^ 63 }
-        ensures step { (before : spec.Conv) → spec.is_over before ≡ was_over → spec.hung_up self.old.conv.core now answer before self.old.conv ≡ record { state = self.new.conv; outcome = result } }
+        ensures step { (before : spec.Conv) → spec.is_over before ≡ was_over
+            → spec.hung_up self.old.conv.core now answer before self.old.conv
+            ≡ record { state = self.new.conv; outcome = result } }
         ensures slot { self.new.slot ≡ self.old.slot }
     {
         match &mut self.core {
@@ -270,7 +317,8 @@ impl Conv {
     /// One open file fewer; the last one hangs up too.
     pub(super) fn close(&mut self, now: u64, generation: u64) -> Option<Outcome>
         requires { now < 2 ^ 63 }
-        ensures step { spec.in_generation generation self.old.conv (Some (spec.closed self.old.conv.opens now self.old.conv)) ≡ as_step self.new.conv result }
+        ensures step { spec.in_generation generation self.old.conv
+            (Some (spec.closed self.old.conv.opens now self.old.conv)) ≡ as_step self.new.conv result }
         ensures slot { self.new.slot ≡ self.old.slot }
     {
         if generation != self.generation {
@@ -290,7 +338,9 @@ impl Conv {
 
     /// Has another ttl from now on.
     pub(super) fn set_ttl(&mut self, generation: u64, ttl: u8) -> Option<Outcome>
-        ensures step { spec.in_generation generation self.old.conv (Some (spec.leaves self.old.conv reply.Ok (record self.old.conv { ttl = ttl }) None)) ≡ as_step self.new.conv result }
+        ensures step { spec.in_generation generation self.old.conv
+            (Some (spec.leaves self.old.conv reply.Ok (record self.old.conv { ttl = ttl }) None))
+            ≡ as_step self.new.conv result }
         ensures slot { self.new.slot ≡ self.old.slot }
     {
         if generation != self.generation {
@@ -302,7 +352,9 @@ impl Conv {
 
     /// Has another tos from now on.
     pub(super) fn set_tos(&mut self, generation: u64, tos: u8) -> Option<Outcome>
-        ensures step { spec.in_generation generation self.old.conv (Some (spec.leaves self.old.conv reply.Ok (record self.old.conv { tos = tos }) None)) ≡ as_step self.new.conv result }
+        ensures step { spec.in_generation generation self.old.conv
+            (Some (spec.leaves self.old.conv reply.Ok (record self.old.conv { tos = tos }) None))
+            ≡ as_step self.new.conv result }
         ensures slot { self.new.slot ≡ self.old.slot }
     {
         if generation != self.generation {

@@ -20,7 +20,8 @@ use udp_core::UdpEnd;
 impl Conv {
     /// Whether a read is answered in its own generation.
     pub(super) fn may_read(&self) -> bool
-        ensures { (count : ℕ) → result ≡ is_some (spec.read_at self.now.conv.stage self.now.conv.core count self.now.conv) }
+        ensures { (count : ℕ) → result ≡ is_some (spec.read_at self.now.conv.stage self.now.conv.core count
+            self.now.conv) }
     {
         match self.stage {
             Stage::Unused | Stage::Listening => true,
@@ -33,7 +34,8 @@ impl Conv {
 
     /// Whether a write of a text is answered in its own generation.
     pub(super) fn may_write(&self, text: &Octets) -> bool
-        ensures { (now : ℕ) → result ≡ is_some (spec.write_at self.now.conv.stage self.now.conv.core now text.now self.now.conv) }
+        ensures { (now : ℕ) → result ≡ is_some (spec.write_at self.now.conv.stage self.now.conv.core now text.now
+            self.now.conv) }
     {
         match self.stage {
             Stage::Unused | Stage::Listening => true,
@@ -55,10 +57,13 @@ impl Conv {
         generation: u64,
         count: u32,
     ) -> Result<Option<Outcome>, AllocError>
-        ensures ok { IfOk result (λ answer. when (nat_lt 0 count) (spec.in_generation generation self.old.conv (spec.read_at self.old.conv.stage self.old.conv.core count self.old.conv)) ≡ as_step self.new.conv answer) }
+        ensures ok { IfOk result (λ answer. when (nat_lt 0 count)
+            (spec.in_generation generation self.old.conv (spec.read_at self.old.conv.stage self.old.conv.core count
+            self.old.conv)) ≡ as_step self.new.conv answer) }
         ensures slot { self.new.slot ≡ self.old.slot }
         ensures err { OnErr result (self.new ≡ self.old) }
-        ensures memory { OnErr result ((generation == self.old.conv.generation) && read_takes self.old.conv.stage self.old.conv.core ≡ true) }
+        ensures memory { OnErr result ((generation == self.old.conv.generation)
+            && read_takes self.old.conv.stage self.old.conv.core ≡ true) }
     {
         if count == 0 {
             return Ok(None);
@@ -78,7 +83,8 @@ impl Conv {
     fn read_connected(&mut self, count: usize) -> Result<Option<Outcome>, AllocError>
         requires some { 0 < count }
         requires connected { self.old.conv.stage ≡ spec.Connected }
-        ensures ok { IfOk result (λ answer. spec.read_at spec.Connected self.old.conv.core count self.old.conv ≡ as_step self.new.conv answer) }
+        ensures ok { IfOk result (λ answer. spec.read_at spec.Connected self.old.conv.core count self.old.conv
+            ≡ as_step self.new.conv answer) }
         ensures slot { self.new.slot ≡ self.old.slot }
         ensures err { OnErr result (self.new ≡ self.old) }
         ensures memory { OnErr result (core_has_unread self.old.conv.core ≡ true) }
@@ -98,7 +104,9 @@ impl Conv {
 
     // What a step gives that leaves the conversation so, if it says something.
     fn left_if(&self, was_over: bool, answer: Option<ReplyAndCopy>) -> Option<Outcome>
-        ensures { (before : spec.Conv) → spec.is_over before ≡ was_over → option_map (λ (answer : Answer). spec.leaves before answer self.now.conv None) answer ≡ as_step self.now.conv result }
+        ensures { (before : spec.Conv) → spec.is_over before ≡ was_over
+            → option_map (λ (answer : Answer). spec.leaves before answer self.now.conv None) answer
+            ≡ as_step self.now.conv result }
     {
         match answer {
             Some(answer) => Some(self.left(was_over, answer, None)),
@@ -115,7 +123,9 @@ impl Conv {
     ) -> Result<Option<Outcome>, AllocError>
         requires in_time { now < 2 ^ 63 }
         requires short { IsShort self.old.conv }
-        ensures ok { IfOk result (λ answer. spec.in_generation generation self.old.conv (spec.write_at self.old.conv.stage self.old.conv.core now text.now self.old.conv) ≡ as_step self.new.conv answer) }
+        ensures ok { IfOk result (λ answer. spec.in_generation generation self.old.conv
+            (spec.write_at self.old.conv.stage self.old.conv.core now text.now self.old.conv)
+            ≡ as_step self.new.conv answer) }
         ensures slot { self.new.slot ≡ self.old.slot }
         ensures err { OnErr result (self.new ≡ self.old) }
         ensures memory { OnErr result ((generation == self.old.conv.generation)
@@ -146,7 +156,8 @@ impl Conv {
         requires in_time { now < 2 ^ 63 }
         requires short { IsShort self.old.conv }
         requires fits { length text.now < 2 ^ 32 }
-        ensures ok { IfOk result (λ answer. spec.core_written self.old.conv.core now text.now self.old.conv ≡ as_step self.new.conv answer) }
+        ensures ok { IfOk result (λ answer. spec.core_written self.old.conv.core now text.now self.old.conv
+            ≡ as_step self.new.conv answer) }
         ensures slot { self.new.slot ≡ self.old.slot }
         ensures err { OnErr result (self.new ≡ self.old) }
         ensures memory { OnErr result (core_sends self.old.conv.core ≡ true) }
@@ -184,7 +195,8 @@ impl Conv {
     ) -> Result<Option<Outcome>, AllocError>
         requires in_time { now < 2 ^ 63 }
         requires short { IsShort self.old.conv }
-        ensures ok { IfOk result (λ answer. spec.in_generation generation self.old.conv (spec.taken_in self.old.conv.core packet.now.body now self.old.conv) ≡ as_step self.new.conv answer) }
+        ensures ok { IfOk result (λ answer. spec.in_generation generation self.old.conv
+            (spec.arrived self.old.conv.core packet.now.body now self.old.conv) ≡ as_step self.new.conv answer) }
         ensures slot { self.new.slot ≡ self.old.slot }
         ensures err { OnErr result (self.new ≡ self.old) }
         ensures memory { OnErr result ((generation == self.old.conv.generation)
@@ -215,7 +227,8 @@ impl Conv {
     /// A moment has come.
     pub(super) fn tick(&mut self, now: u64, generation: u64) -> Option<Outcome>
         requires { now < 2 ^ 63 }
-        ensures step { spec.in_generation generation self.old.conv (Some (spec.ticked self.old.conv.core now self.old.conv)) ≡ as_step self.new.conv result }
+        ensures step { spec.in_generation generation self.old.conv
+            (Some (spec.ticked self.old.conv.core now self.old.conv)) ≡ as_step self.new.conv result }
         ensures slot { self.new.slot ≡ self.old.slot }
     {
         if generation != self.generation {
@@ -244,7 +257,10 @@ fn read_il(
     count: usize,
 ) -> Result<Option<ReplyAndCopy>, AllocError>
     requires { 0 < count }
-    ensures ok { IfOk result (λ answer. (c : spec.Conv) → spec.il_read count end.old (record c { core = spec.Il end.old }) ≡ option_map (λ (answer : Answer). spec.leaves (record c { core = spec.Il end.old }) answer (record c { core = spec.Il end.new }) None) answer) }
+    ensures ok { IfOk result (λ answer. (c : spec.Conv)
+        → spec.il_read count end.old (record c { core = spec.Il end.old })
+        ≡ option_map (λ (answer : Answer). spec.leaves (record c { core = spec.Il end.old }) answer
+        (record c { core = spec.Il end.new }) None) answer) }
     ensures err { OnErr result (end.new ≡ end.old) }
     ensures memory { OnErr result (has_unread end.old ≡ true) }
 {
@@ -264,7 +280,10 @@ fn read_udp(
     end: &mut UdpEnd,
     count: usize,
 ) -> Result<Option<ReplyAndCopy>, AllocError>
-    ensures ok { IfOk result (λ answer. (c : spec.Conv) → spec.udp_read end.old.unread count end.old (record c { core = spec.Udp end.old }) ≡ option_map (λ (answer : Answer). spec.leaves (record c { core = spec.Udp end.old }) answer (record c { core = spec.Udp end.new }) None) answer) }
+    ensures ok { IfOk result (λ answer. (c : spec.Conv)
+        → spec.udp_read end.old.unread count end.old (record c { core = spec.Udp end.old })
+        ≡ option_map (λ (answer : Answer). spec.leaves (record c { core = spec.Udp end.old }) answer
+        (record c { core = spec.Udp end.new }) None) answer) }
     ensures err { OnErr result (end.new ≡ end.old) }
     ensures memory { OnErr result (0 < length end.old.unread) }
     ensures state { end.new.state ≡ end.old.state }
