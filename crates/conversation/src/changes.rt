@@ -6,7 +6,7 @@ ghost use Rattle.il_machine.specs.Stands.{end_after_read};
 use crate::ghost_end::Change;
 use net_base::{IlMsg, Timers};
 
-/// It was never connected, and has such timers.
+/// A new end that was never connected, with such timers.
 #[derive(Drop)]
 pub struct IsFresh {
     pub timers: Timers,
@@ -16,7 +16,7 @@ impl Change for IsFresh {
     ghost after = { λ c _. spec.fresh_end c.timers };
 }
 
-/// It is connected.
+/// The end connects.
 #[derive(Drop)]
 pub struct Connects {
     pub now: u64,
@@ -27,7 +27,7 @@ impl Change for Connects {
     ghost after = { λ c e. (table.connects c.now c.start e).end };
 }
 
-/// It is born from the sync with the id `rstart`.
+/// The end is born from the sync with the id `rstart`.
 #[derive(Drop)]
 pub struct IsBorn {
     pub now: u64,
@@ -39,7 +39,7 @@ impl Change for IsBorn {
     ghost after = { λ c e. (table.is_born c.now c.start c.rstart e).end };
 }
 
-/// It is announced.
+/// The end listens.
 #[derive(Drop)]
 pub struct IsAnnounced;
 
@@ -47,7 +47,7 @@ impl Change for IsAnnounced {
     ghost after = { λ _ e. table.announced e };
 }
 
-/// It is hung up.
+/// The end hangs up.
 #[derive(Drop)]
 pub struct HangsUp {
     pub now: u64,
@@ -57,7 +57,7 @@ impl Change for HangsUp {
     ghost after = { λ c e. (table.hangs_up c.now e).end };
 }
 
-/// A moment has come.
+/// A tick: what is due at this moment is done.
 #[derive(Drop)]
 pub struct Ticks {
     pub now: u64,
@@ -67,7 +67,7 @@ impl Change for Ticks {
     ghost after = { λ c e. (table.ticks c.now e).end };
 }
 
-/// A message comes.
+/// A message arrives.
 #[derive(Drop)]
 pub struct Arrives<'a> {
     pub now: u64,

@@ -21,7 +21,7 @@ use std::alloc::{AllocError, Global};
 use std::marker::Model;
 use udp_core::UdpEnd;
 
-/// What isn't known.
+/// The address of an end that has none yet.
 const NOWHERE: Addr = Addr { ip: 0, port: 0 };
 
 /// The conversation in a slot. Its clauses speak of the conversation of the definitions that it stands for. Moments are in ms.

@@ -160,7 +160,7 @@ impl ReplyAndCopy {
         }
     }
 
-    /// These bytes.
+    /// A reply of these bytes.
     pub fn bytes(alloc: Global, bytes: &[u8]) -> Result<ReplyAndCopy, AllocError>
         ensures ok { IfOk result (λ answer. answer ≡ reply.Bytes bytes.now) }
         ensures memory { OnErr result (0 < length bytes.now) }
@@ -170,7 +170,7 @@ impl ReplyAndCopy {
         Ok(ReplyAndCopy::read(bytes, copy))
     }
 
-    /// These bytes, of which there is a copy.
+    /// A reply of these bytes, whose copy was made before.
     pub fn read(bytes: Octets, copy: Octets) -> ReplyAndCopy
         requires { copy ≡ bytes }
         ensures { result ≡ reply.Bytes bytes }
@@ -181,7 +181,7 @@ impl ReplyAndCopy {
         }
     }
 
-    /// These names.
+    /// A reply of these names.
     pub fn names(names: Lines) -> Result<ReplyAndCopy, AllocError>
         ensures { IfOk result (λ answer. answer ≡ reply.Names names) }
     {
@@ -193,7 +193,7 @@ impl ReplyAndCopy {
     }
 }
 
-/// These bytes once more. None take no memory.
+/// A copy of the bytes. Where there are none it takes no memory.
 pub fn copied(alloc: Global, bytes: &[u8]) -> Result<Octets, AllocError>
     ensures ok { IfOk result (λ copy. copy ≡ bytes.now) }
     ensures memory { OnErr result (0 < length bytes.now) }

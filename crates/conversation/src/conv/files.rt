@@ -17,7 +17,8 @@ use std::alloc::AllocError;
 impl Conv {
     /// One more open file, where one is open. It answers as if memory ran out where 2^64 - 1 are.
     pub(super) fn open(&mut self) -> Result<Outcome, AllocError>
-        ensures ok { IfOk result (λ outcome. spec.opened self.old.conv.opens self.old.conv ≡ record { state = self.new.conv; outcome = outcome }) }
+        ensures ok { IfOk result (λ outcome. spec.opened self.old.conv.opens self.old.conv
+            ≡ record { state = self.new.conv; outcome = outcome }) }
         ensures slot { self.new.slot ≡ self.old.slot }
         ensures err { OnErr result (self.new ≡ self.old) }
         ensures memory { OnErr result ((self.old.conv.opens == most_opens) ≡ true) }
@@ -34,7 +35,8 @@ impl Conv {
 
     /// The names of the files, where one is open.
     pub(super) fn ls(&self) -> Result<Outcome, AllocError>
-        ensures ok { IfOk result (λ outcome. spec.listed self.now.conv.opens self.now.conv ≡ record { state = self.now.conv; outcome = outcome }) }
+        ensures ok { IfOk result (λ outcome. spec.listed self.now.conv.opens self.now.conv
+            ≡ record { state = self.now.conv; outcome = outcome }) }
         ensures memory { OnErr result (nat_lt 0 self.now.conv.opens ≡ true) }
     {
         if self.opens == 0 {
@@ -51,7 +53,9 @@ impl Conv {
         file: FileName,
         count: u32,
     ) -> Result<Option<Outcome>, AllocError>
-        ensures ok { IfOk result (λ answer. spec.in_generation generation self.now.conv (Some (spec.only_replies self.now.conv (reply.Bytes (take count (spec.file_text file self.now.slot self.now.conv))))) ≡ as_step self.now.conv answer) }
+        ensures ok { IfOk result (λ answer. spec.in_generation generation self.now.conv
+            (Some (spec.only_replies self.now.conv (reply.Bytes
+            (take count (spec.file_text file self.now.slot self.now.conv))))) ≡ as_step self.now.conv answer) }
         ensures memory { OnErr result ((generation == self.now.conv.generation) ≡ true) }
     {
         if generation != self.generation {
@@ -96,7 +100,7 @@ impl Conv {
         }
     }
 
-    /// Whether who waits for it needn't wait longer.
+    /// Whether an await is over, in its own generation.
     pub(super) fn may_go_on(&self) -> bool
         ensures { result ≡ is_some (spec.awaited self.now.conv.core self.now.conv) }
     {
@@ -106,9 +110,10 @@ impl Conv {
         }
     }
 
-    /// What its connect came to, once it has come to something.
+    /// The reply to an await: ok, or the cause with which its end was hung up. None while its connect goes on.
     pub(super) fn wait(&self, generation: u64) -> Option<Outcome>
-        ensures { spec.in_generation generation self.now.conv (spec.awaited self.now.conv.core self.now.conv) ≡ as_step self.now.conv result }
+        ensures { spec.in_generation generation self.now.conv (spec.awaited self.now.conv.core self.now.conv)
+            ≡ as_step self.now.conv result }
     {
         if generation != self.generation {
             return self.stale(generation);
@@ -123,7 +128,7 @@ impl Conv {
         }
     }
 
-    // Hungup where there is a cause, else ok.
+    // The reply to an await that is over: hungup where there is a cause, else ok.
     fn told(&self, cause: Option<Cause>) -> Outcome
         ensures { result ≡ (spec.only_replies self.now.conv (spec.hungup_or_ok cause)).outcome }
     {
@@ -135,7 +140,8 @@ impl Conv {
 
     /// Refuses a control text that has no reading, and in an older generation any.
     pub(super) fn refuse(&self, generation: u64, text: &Octets) -> Option<Outcome>
-        ensures { spec.bad_control (spec.refused_control (control_words.read text.now)) generation self.now.conv ≡ as_step self.now.conv result }
+        ensures { spec.bad_control (spec.refused_control (control_words.read text.now)) generation self.now.conv
+            ≡ as_step self.now.conv result }
     {
         if generation != self.generation {
             return self.stale(generation);

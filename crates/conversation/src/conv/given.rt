@@ -19,7 +19,8 @@ impl Conv {
         with: &With,
     ) -> Result<Option<Outcome>, AllocError>
         requires { now < 2 ^ 63 }
-        ensures ok { IfOk result (λ answer. spec.conv_step self.old.slot (event.Born generation) with.now now self.old.conv ≡ as_step self.new.conv answer) }
+        ensures ok { IfOk result (λ answer. spec.conv_step self.old.slot (event.Born generation) with.now now
+            self.old.conv ≡ as_step self.new.conv answer) }
         ensures slot { self.new.slot ≡ self.old.slot }
         ensures err { OnErr result (self.new ≡ self.old) }
         ensures memory { OnErr result (event_takes (event.Born generation) with.now now self.old.conv ≡ true) }
@@ -41,9 +42,10 @@ impl Conv {
         }
     }
 
-    /// Whether it is answered that it is born.
+    /// Whether a birth gets an answer now.
     pub(super) fn may_be_born(&self, generation: u64, with: &With) -> bool
-        ensures { (now : ℕ) → result ≡ is_some (spec.conv_step self.now.slot (event.Born generation) with.now now self.now.conv) }
+        ensures { (now : ℕ) → result ≡ is_some (spec.conv_step self.now.slot (event.Born generation) with.now now
+            self.now.conv) }
     {
         match with {
             With::Birth {
@@ -62,7 +64,8 @@ impl Conv {
     /// Connects, where a grant is given.
     pub(super) fn connect_with(&mut self, now: u64, generation: u64, with: &With) -> Option<Outcome>
         requires { now < 2 ^ 63 }
-        ensures step { spec.conv_step self.old.slot (event.Connect generation) with.now now self.old.conv ≡ as_step self.new.conv result }
+        ensures step { spec.conv_step self.old.slot (event.Connect generation) with.now now self.old.conv
+            ≡ as_step self.new.conv result }
         ensures slot { self.new.slot ≡ self.old.slot }
     {
         match with {
@@ -76,9 +79,10 @@ impl Conv {
         }
     }
 
-    /// Whether it is answered that it connects.
+    /// Whether a connect gets an answer now.
     pub(super) fn may_be_connected(&self, generation: u64, with: &With) -> bool
-        ensures { (now : ℕ) → result ≡ is_some (spec.conv_step self.now.slot (event.Connect generation) with.now now self.now.conv) }
+        ensures { (now : ℕ) → result ≡ is_some (spec.conv_step self.now.slot (event.Connect generation) with.now now
+            self.now.conv) }
     {
         match with {
             With::Grant { start, limit, .. } => {
@@ -90,7 +94,8 @@ impl Conv {
 
     /// Listens, where a key is given.
     pub(super) fn announced_with(&mut self, generation: u64, with: &With) -> Option<Outcome>
-        ensures step { (now : ℕ) → spec.conv_step self.old.slot (event.Announced generation) with.now now self.old.conv ≡ as_step self.new.conv result }
+        ensures step { (now : ℕ) → spec.conv_step self.old.slot (event.Announced generation) with.now now self.old.conv
+            ≡ as_step self.new.conv result }
         ensures slot { self.new.slot ≡ self.old.slot }
     {
         match with {
@@ -99,9 +104,10 @@ impl Conv {
         }
     }
 
-    /// Whether it is answered that it listens.
+    /// Whether an announcement gets an answer now.
     pub(super) fn may_be_announced(&self, generation: u64, with: &With) -> bool
-        ensures { (now : ℕ) → result ≡ is_some (spec.conv_step self.now.slot (event.Announced generation) with.now now self.now.conv) }
+        ensures { (now : ℕ) → result ≡ is_some (spec.conv_step self.now.slot (event.Announced generation) with.now now
+            self.now.conv) }
     {
         match with {
             With::Key { .. } => self.is_answered(generation, true),
@@ -111,7 +117,8 @@ impl Conv {
 
     /// Has a port, where a key is given.
     pub(super) fn bound_with(&mut self, generation: u64, with: &With) -> Option<Outcome>
-        ensures step { (now : ℕ) → spec.conv_step self.old.slot (event.Bound generation) with.now now self.old.conv ≡ as_step self.new.conv result }
+        ensures step { (now : ℕ) → spec.conv_step self.old.slot (event.Bound generation) with.now now self.old.conv
+            ≡ as_step self.new.conv result }
         ensures slot { self.new.slot ≡ self.old.slot }
     {
         match with {
@@ -120,9 +127,10 @@ impl Conv {
         }
     }
 
-    /// Whether it is answered that it has a port.
+    /// Whether a binding gets an answer now.
     pub(super) fn may_be_bound(&self, generation: u64, with: &With) -> bool
-        ensures { (now : ℕ) → result ≡ is_some (spec.conv_step self.now.slot (event.Bound generation) with.now now self.now.conv) }
+        ensures { (now : ℕ) → result ≡ is_some (spec.conv_step self.now.slot (event.Bound generation) with.now now
+            self.now.conv) }
     {
         match with {
             With::Key { .. } => self.is_answered(generation, true),
@@ -139,7 +147,8 @@ impl Conv {
     ) -> Result<Option<Outcome>, AllocError>
         requires in_time { now < 2 ^ 63 }
         requires short { IsShort self.old.conv }
-        ensures ok { IfOk result (λ answer. spec.conv_step self.old.slot (event.ArriveAt generation) with.now now self.old.conv ≡ as_step self.new.conv answer) }
+        ensures ok { IfOk result (λ answer. spec.conv_step self.old.slot (event.ArriveAt generation) with.now now
+            self.old.conv ≡ as_step self.new.conv answer) }
         ensures slot { self.new.slot ≡ self.old.slot }
         ensures err { OnErr result (self.new ≡ self.old) }
         ensures memory { OnErr result (event_takes (event.ArriveAt generation) with.now now self.old.conv ≡ true) }
@@ -155,9 +164,10 @@ impl Conv {
         }
     }
 
-    /// Whether it is answered that a packet comes.
+    /// Whether a packet that arrives gets an answer now.
     pub(super) fn may_arrive(&self, generation: u64, with: &With) -> bool
-        ensures { (now : ℕ) → result ≡ is_some (spec.conv_step self.now.slot (event.ArriveAt generation) with.now now self.now.conv) }
+        ensures { (now : ℕ) → result ≡ is_some (spec.conv_step self.now.slot (event.ArriveAt generation) with.now now
+            self.now.conv) }
     {
         match with {
             With::Packet(packet) => {

@@ -88,7 +88,7 @@ impl Conv {
         0 < generation && generation - 1 == self.generation
     }
 
-    /// Whether an event is answered, which in its own generation is so or isn't.
+    /// Whether an event gets an answer, where it does or doesn't so in its own generation.
     pub(super) fn is_answered(&self, generation: u64, own: bool) -> bool
         ensures { (step : Option (Step spec.Conv)) → is_some step ≡ own → result ≡ is_some (spec.in_generation generation self.now.conv step) }
     {
@@ -99,7 +99,7 @@ impl Conv {
         }
     }
 
-    /// Whether an event is answered that raises the generation, which for the next one is so or isn't.
+    /// Whether an event that raises the generation gets an answer, where it does or doesn't so in the next one.
     pub(super) fn is_raised(&self, generation: u64, next: bool) -> bool
         ensures { (step : Option (Step spec.Conv)) → is_some step ≡ next → result ≡ is_some (spec.raises generation self.now.conv step) }
     {

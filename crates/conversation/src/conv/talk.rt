@@ -186,7 +186,7 @@ impl Conv {
         }
     }
 
-    /// A packet of its protocol comes.
+    /// A packet of its protocol arrives.
     pub(super) fn arrive(
         &mut self,
         now: u64,
@@ -224,7 +224,7 @@ impl Conv {
         }
     }
 
-    /// A moment has come.
+    /// A tick: its IL end does what is due now. Nothing is ever due at a UDP end.
     pub(super) fn tick(&mut self, now: u64, generation: u64) -> Option<Outcome>
         requires { now < 2 ^ 63 }
         ensures step { spec.in_generation generation self.old.conv
