@@ -25,7 +25,7 @@ use Rattle.net_base.specs.Timer as timer
 use Rattle.net_base.specs.ControlWords as control
 use Rattle.net_base.specs.Paths.{file_names}
 use Rattle.net_base.specs.ActorStep.{Step}
-use Rattle.net_base.specs.Conversation.{Il, Stage, Unused, Listening, Connected, Conv, born_to, only_replies, leaves, packet_of, turned, in_generation, raises, may_bear, may_connect, has_protocol, joined, brought_forth, listens, binds, taken_in, il_read, read_at, core_name, il_written, write_at, left_or_ok, closed, il_awaited, awaited, opened, listed, file_text, refused_control, bad_control, tick_reply, conv_step}
+use Rattle.net_base.specs.Conversation.{Il, Stage, Unused, Listening, Connected, Conv, born_to, only_replies, leaves, packet_of, turned, in_generation, raises, may_bear, may_connect, has_protocol, joined, brought_forth, listens, binds, arrived, il_read, read_at, core_name, il_written, write_at, left_or_ok, closed, il_awaited, awaited, opened, listed, file_text, refused_control, bad_control, tick_reply, conv_step}
 use Rattle.prefix_law.proofs.Untouched.{leaves_itself, arrives_leaves, hangs_leaves, ticks_leaves}
 use Rattle.prefix_law.proofs.Accounts.{IsSized, Account, Silent, left_account, write_account, read_account, end_account}
 
@@ -265,7 +265,7 @@ refuses_control : (found : Option ℕ) (now g : ℕ) (text : List ℕ) (gift : W
 refuses_control None now g text gift c e = own now g c e _ _ _ (λ _. tt)
 refuses_control (Some n) now g text gift c e = own now g c e _ _ _ (λ _. same now c e _ _ (reply.BadCtl n) (refl, refl))
 
-takes_in : (now g : ℕ) (p : Packet) (b : Body) (c : Conv) (e : End) → p.body ≡ b → g ≡ c.generation → Moves now c e (event.ArriveAt g) (given.Packet p) (taken_in (Il e) b now (of_end c e))
+takes_in : (now g : ℕ) (p : Packet) (b : Body) (c : Conv) (e : End) → p.body ≡ b → g ≡ c.generation → Moves now c e (event.ArriveAt g) (given.Packet p) (arrived (Il e) b now (of_end c e))
 takes_in now g p (body.Il m) c e is mine =
     turns now c (of_end c e) e (event.ArriveAt g) (given.Packet p) reply.Took (arrives now m e) refl refl refl refl (Arrival p m (ap (λ (n : ℕ). event.ArriveAt n) mine) refl is refl) (left_account c.generation (event.ArriveAt g) reply.Took e (arrives now m e).end (arrives_leaves now m e).leaves (refl, refl))
 takes_in now g p (body.Udp text) c e is mine = tt
