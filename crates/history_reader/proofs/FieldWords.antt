@@ -23,7 +23,7 @@ use Rattle.net_base.specs.declared.names.Mode.{Mode}
 use Rattle.net_base.specs.declared.names.Mode.TheVariants as mode
 use Rattle.net_base.specs.Addresses.{address_in, number_in, parts_at}
 use Rattle.net_base.specs.Numeral.{numeral}
-use Rattle.net_base.specs.Paths.{all_files, file_name, file_named, proto_name, proto_named}
+use Rattle.net_base.specs.Paths.{all_files, file_name, file_named, mode_named, proto_name, proto_named}
 use Rattle.net_base.specs.StateWords.{state_word}
 use Rattle.net_base.specs.Transcript.{actor_word, addr_word, cause_number, ip_or_star, ip_word, kind_word, mode_word, number_or_dash, number_or_star}
 use Rattle.words.proofs.Shared.{addresses_alike, decimal_is_numeral, numeral_by_steps}
@@ -279,7 +279,7 @@ named_sound {X} spell (row ∷ rows) are word x e = by (bytes_eq word row.0) ref
     by true is f later = (bytes_eq-Decides word row.0).0 is ∙ are.0 ∙ ap spell (same_Some row.1 x f)
     by false is f later = later f
 
-mode_told : (m : Mode) → spec.mode_in (mode_word m) ≡ Some m
+mode_told : (m : Mode) → mode_named (mode_word m) ≡ Some m
 mode_told mode.Read = refl
 mode_told mode.Write = refl
 mode_told mode.Both = refl
@@ -289,15 +289,16 @@ mode_bare mode.Read = bare (codes "r") refl refl
 mode_bare mode.Write = bare (codes "w") refl refl
 mode_bare mode.Both = bare (codes "rw") refl refl
 
-mode_sound : (word : List ℕ) (x : Mode) → spec.mode_in word ≡ Some x → word ≡ mode_word x
-mode_sound = named_sound (λ (y : Mode). mode_word y) spec.mode_names (refl, (refl, (refl, tt)))
+mode_sound : (word : List ℕ) (x : Mode) → mode_named word ≡ Some x → word ≡ mode_word x
+mode_sound =
+    named_sound (λ (y : Mode). mode_word y) ((codes "r", mode.Read) ∷ (codes "w", mode.Write) ∷ (codes "rw", mode.Both) ∷ []) (refl, (refl, (refl, tt)))
 
 abbrev pub modes : Mode → Words
 modes m = mode_word m ∷ []
 
 pub mode_exact : Exact Mode spec.mode_of modes (λ m. Unit {0})
 mode_exact =
-    exact_one spec.mode_in mode_word (λ m. Unit {0})
+    exact_one mode_named mode_word (λ m. Unit {0})
     (record { sound = λ word m e. (mode_sound word m e, tt); told = λ m fits. mode_told m; bare = λ m fits. mode_bare m })
 
 kind_told : (x : IlKind) → spec.kind_in (kind_word x) ≡ Some x

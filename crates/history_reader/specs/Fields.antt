@@ -12,10 +12,9 @@ use Rattle.net_base.specs.declared.il.StateName.{StateName}
 use Rattle.net_base.specs.declared.il.StateName.TheVariants as state
 use Rattle.net_base.specs.declared.names.FileName.{FileName}
 use Rattle.net_base.specs.declared.names.Mode.{Mode}
-use Rattle.net_base.specs.declared.names.Mode.TheVariants as mode
 use Rattle.net_base.specs.Addresses.{address_in, number_in, parts_at}
 pub use Rattle.net_base.specs.Hexadecimal.{hex_text}
-use Rattle.net_base.specs.Paths.{file_named, proto_named}
+use Rattle.net_base.specs.Paths.{file_named, mode_named, proto_named}
 
 -- Readers.
 
@@ -122,14 +121,8 @@ proto = one proto_named
 abbrev pub file : FieldReader FileName
 file = one file_named
 
-abbrev pub mode_names : List (List ℕ × Mode)
-mode_names = (codes "r", mode.Read) ∷ (codes "w", mode.Write) ∷ (codes "rw", mode.Both) ∷ []
-
-abbrev pub mode_in : List ℕ → Option Mode
-mode_in = row_named mode_names
-
 abbrev pub mode_of : FieldReader Mode
-mode_of = one mode_in
+mode_of = one mode_named
 
 abbrev pub kind_names : List (List ℕ × IlKind)
 kind_names = (codes "sync", kind.Sync) ∷ (codes "data", kind.Data) ∷ (codes "dataquery", kind.DataQuery) ∷ (codes "ack", kind.Ack) ∷ (codes "query", kind.Query) ∷ (codes "state", kind.State) ∷ (codes "close", kind.Close) ∷ []

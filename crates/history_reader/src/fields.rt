@@ -5,7 +5,7 @@ ghost use Rattle.history_reader.specs.Fields as spec;
 
 use crate::cursor::Words;
 use net_base::{ActorName, Addr, Cause, FileName, IlKind, Mode, Proto, StateName};
-use words::{address_in, file_named, proto_named};
+use words::{address_in, file_named, mode_named, proto_named};
 
 /// A number up to this one.
 fn number<'a>(most: u64, words: &Words<'a>) -> Option<(u64, Words<'a>)>
@@ -157,22 +157,8 @@ pub(crate) fn mode<'a>(words: &Words<'a>) -> Option<(Mode, Words<'a>)>
     ensures { result ≡ spec.mode_of words.now }
 {
     let (word, words) = words.next()?;
-    let mode = mode_in(word)?;
+    let mode = mode_named(word)?;
     Some((mode, words))
-}
-
-fn mode_in(word: &[u8]) -> Option<Mode>
-    ensures { result ≡ spec.mode_in word.now }
-{
-    if word == b"r".as_slice() {
-        Some(Mode::Read)
-    } else if word == b"w".as_slice() {
-        Some(Mode::Write)
-    } else if word == b"rw".as_slice() {
-        Some(Mode::Both)
-    } else {
-        None
-    }
 }
 
 pub(crate) fn kind<'a>(words: &Words<'a>) -> Option<(IlKind, Words<'a>)>

@@ -57,6 +57,13 @@ all_files = file.Ctl ∷ file.Data ∷ file.Err ∷ file.Listen ∷ file.Local �
 abbrev pub file_named : List ℕ → Option FileName
 file_named name = slice_get (filter (λ (f : FileName). bytes_eq name (file_name f)) all_files) 0
 
+-- how a file is opened, by the word for it
+abbrev pub mode_named : List ℕ → Option Mode
+mode_named word =
+    if bytes_eq word (codes "r")
+    then Some mode.Read
+    else (if bytes_eq word (codes "w") then Some mode.Write else (if bytes_eq word (codes "rw") then Some mode.Both else None))
+
 abbrev pub cs_or_proto : List ℕ → Option Node
 cs_or_proto name = if bytes_eq name (codes "cs") then Some node.Cs else option_map (λ (p : Proto). node.Proto p) (proto_named name)
 

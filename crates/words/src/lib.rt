@@ -15,7 +15,8 @@ pub use address::{address_in, put_address, put_place, read_address};
 pub use hexadecimal::{put_hex_digits, put_hex_word, read_hex_word};
 pub use mask::{mask_bits, mask_of, read_mask};
 pub use names::{
-    cause_text, file_name, file_named, kind_word, mode_word, proto_name, proto_named, state_word,
+    cause_text, file_name, file_named, kind_word, mode_named, mode_word, proto_name, proto_named,
+    state_word,
 };
 pub use number::{number_in, number_up_to, put_decimal, put_wide_decimal, read_port};
 pub use parts::{four_parts, single, split_first, two_parts};

@@ -29,6 +29,21 @@ pub fn proto_named(word: &[u8]) -> Option<Proto>
     }
 }
 
+/// How a file is opened, by the word for it.
+pub fn mode_named(word: &[u8]) -> Option<Mode>
+    ensures { result ≡ paths.mode_named word.now }
+{
+    if word == b"r".as_slice() {
+        Some(Mode::Read)
+    } else if word == b"w".as_slice() {
+        Some(Mode::Write)
+    } else if word == b"rw".as_slice() {
+        Some(Mode::Both)
+    } else {
+        None
+    }
+}
+
 /// The name of a conversation's file.
 pub fn file_name(file: FileName) -> &'static [u8]
     ensures { result.now ≡ paths.file_name file }

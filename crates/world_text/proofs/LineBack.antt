@@ -21,7 +21,7 @@ use Rattle.net_base.specs.Addresses.{parts_at}
 use Rattle.net_base.specs.ControlWords.{dotted}
 use Rattle.net_base.specs.DatagramHeaders.{has_headers}
 use Rattle.net_base.specs.NdbText.{is_newline}
-use Rattle.net_base.specs.Paths.{proto_name}
+use Rattle.net_base.specs.Paths.{mode_named, proto_name}
 use Rattle.net_base.specs.Transcript.{mode_word}
 use Rattle.net_base.specs.Remotes.{is_remote_path}
 use Rattle.net_base.specs.World.{is_address, is_byte, is_letter, is_name, is_name_byte, is_nets, is_step, is_text, is_within, is_word}
@@ -32,7 +32,7 @@ use Rattle.world_text.specs.declared.line.HostLine.TheVariants as host
 use Rattle.world_text.specs.declared.line.MediumLine.TheVariants as medium
 use Rattle.world_text.specs.declared.line.WorldLine.{WorldLine}
 use Rattle.world_text.specs.declared.line.WorldLine.TheVariants as line
-use Rattle.world_text.specs.WorldWords.{address_in, words_left, mode_named, nets_named, number_in}
+use Rattle.world_text.specs.WorldWords.{address_in, words_left, nets_named, number_in}
 use Rattle.world_text.specs.LineReading.{argued, cs_of, fate_from, fate_named, frame_in, frames_in, frames_of, if_from, row_kept, if_named, range_from, rate_in, rates_from, read_line, route_from, rwrite_of, step_read, words_line, write_of}
 use Rattle.world_text.specs.WorldSpelling.{fate_word, frames_spelled, is_line, spaced_line, speaks, line_spelling, timers_word, words_of_line, words_of_step}
 use Rattle.world_text.proofs.Controls.{dotted_is_without}

@@ -18,7 +18,7 @@ use Rattle.net_base.specs.declared.world.Step.{Step}
 use Rattle.net_base.specs.declared.world.Step.TheVariants as step
 use Rattle.net_base.specs.Addresses.{parts_at, read_digits, within}
 use Rattle.net_base.specs.ControlWords.{dotted}
-use Rattle.net_base.specs.Paths.{proto_name, proto_named}
+use Rattle.net_base.specs.Paths.{mode_named, proto_name, proto_named}
 use Rattle.net_base.specs.Transcript.{mode_word}
 use Rattle.net_base.specs.World.{is_address, is_name, is_nets, is_step, is_within}
 use Rattle.world_text.specs.declared.line.Frames.{Frames}
@@ -28,7 +28,7 @@ use Rattle.world_text.specs.declared.line.LineCause.{LineCause}
 use Rattle.world_text.specs.declared.line.MediumLine.TheVariants as medium
 use Rattle.world_text.specs.declared.line.WorldLine.{WorldLine}
 use Rattle.world_text.specs.declared.line.WorldLine.TheVariants as line
-use Rattle.world_text.specs.WorldWords.{Four, Three, Two, address_in, both_nets, four, hex_text, is_padded, words_left, mode_named, nets_named, number_in, single_word, three, two, words_in_line}
+use Rattle.world_text.specs.WorldWords.{Four, Three, Two, address_in, both_nets, four, hex_text, is_padded, words_left, nets_named, number_in, single_word, three, two, words_in_line}
 use Rattle.world_text.specs.LineReading.{argued, cs_of, dns_of, read_end_line, fate_from, fate_named, read_fate_line, frame_in, frames_in, frames_of, host_line_of, hread_of, hwrite_of, if_from, if_of, import_of, row_kept, medium_line_of, if_named, ndb_of, networld_of, of_one, of_two, open_of, other_of, range_from, rate_in, rates_from, rates_of, read_line, read_step_of, refresh_of, route_from, route_of, ropen_of, rread_of, rwrite_of, script_of, seed_of, start_line, step_in_line, step_read, timers_named, until_of, words_line, write_of, writex_of}
 use Rattle.world_text.specs.WorldSpelling.{fate_word, frames_spelled, line_spelling, timers_word, words_of_line}
 use Rattle.world_text.specs.LineFit.{fit_frames, is_fit, is_frame, is_rate}

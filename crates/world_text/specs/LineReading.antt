@@ -13,6 +13,7 @@ use Rattle.net_base.specs.declared.world.Step.{Step}
 use Rattle.net_base.specs.declared.world.Step.TheVariants as step
 use Rattle.net_base.specs.Addresses.{parts_at}
 use Rattle.net_base.specs.World.{is_name, is_nets, is_step}
+use Rattle.net_base.specs.Paths.{mode_named}
 use Rattle.world_text.specs.declared.line.Frames.{Frames}
 use Rattle.world_text.specs.declared.line.Frames.TheVariants as frames
 use Rattle.world_text.specs.declared.line.HostLine.TheVariants as host
@@ -21,7 +22,7 @@ use Rattle.world_text.specs.declared.line.LineCause.TheVariants as cause
 use Rattle.world_text.specs.declared.line.MediumLine.TheVariants as medium
 use Rattle.world_text.specs.declared.line.WorldLine.{WorldLine}
 use Rattle.world_text.specs.declared.line.WorldLine.TheVariants as line
-use Rattle.world_text.specs.WorldWords.{single_word, Two, two, Three, three, Four, four, words_in_line, words_left, number_in, address_in, mode_named, nets_named, hex_text}
+use Rattle.world_text.specs.WorldWords.{single_word, Two, two, Three, three, Four, four, words_in_line, words_left, number_in, address_in, nets_named, hex_text}
 
 -- what is read behind a word that has to be a name
 abbrev pub if_named : {X : Type 0} → List ℕ → Option X → Option X

@@ -1,10 +1,8 @@
 -- The words of a world's lines, and what they are read as. Exactly one blank stands between two words.
-use Rattle.std.specs.Prelude.{ℕ, List, [], ◌∷◌, codes, bytes_eq, Option, Some, None, if◌then◌else◌}
+use Rattle.std.specs.Prelude.{ℕ, List, [], ◌∷◌, Option, Some, None}
 use Rattle.std.specs.List.{join_with_byte}
 use Rattle.std.specs.Option.{option_to_list}
 use Rattle.net_base.specs.declared.address.Proto.{Proto}
-use Rattle.net_base.specs.declared.names.Mode.{Mode}
-use Rattle.net_base.specs.declared.names.Mode.TheVariants as mode
 use Rattle.net_base.specs.Addresses.{parts_at}
 pub use Rattle.net_base.specs.Addresses.{is_padded, number_in, octet_of, octets_joined, address_in}
 pub use Rattle.net_base.specs.Hexadecimal.{hex_text}
@@ -49,12 +47,6 @@ pub record Four : Type 0 where
 abbrev pub four : List (List ℕ) → Option Four
 four (a ∷ b ∷ c ∷ d ∷ []) = Some (record { first = a; second = b; third = c; fourth = d })
 four _ = None
-
-abbrev pub mode_named : List ℕ → Option Mode
-mode_named word =
-    if bytes_eq word (codes "r")
-    then Some mode.Read
-    else (if bytes_eq word (codes "w") then Some mode.Write else (if bytes_eq word (codes "rw") then Some mode.Both else None))
 
 abbrev pub both_nets : Option Proto → Option Proto → List Proto
 both_nets (Some p) (Some q) = p ∷ q ∷ []

@@ -9,8 +9,9 @@ use Rattle.net_base.specs.World.{is_name}
 use Rattle.net_base.specs.declared.names.Mode.{Mode}
 use Rattle.net_base.specs.declared.world.Step.{Step}
 use Rattle.net_base.specs.declared.world.Step.TheVariants as step
+use Rattle.net_base.specs.Paths.{mode_named}
 use Rattle.world_text.specs.LineReading.{cs_of, frames_of, host_line_of, row_kept, of_one, of_two, open_of, rwrite_of, write_of}
-use Rattle.world_text.specs.WorldWords.{four, words_left, mode_named, single_word, three, two}
+use Rattle.world_text.specs.WorldWords.{four, words_left, single_word, three, two}
 use Rattle.world_text.specs.declared.line.WorldLine.TheVariants as line
 use Rattle.net_base.proofs.Shared.{some_part}
 use Rattle.world_text.proofs.Shared.{two-is, three-is}

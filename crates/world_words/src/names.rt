@@ -4,24 +4,9 @@ ghost use Rattle.std.specs.List.{list_all};
 ghost use Rattle.net_base.specs.World as world;
 ghost use Rattle.world_text.specs.WorldWords as spec;
 
-use net_base::{Mode, Nets, Proto, Sequence};
+use net_base::{Nets, Proto, Sequence};
 use std::alloc::{AllocError, Global};
 use words::proto_named;
-
-/// How a file is opened.
-pub(crate) fn mode_named(word: &[u8]) -> Option<Mode>
-    ensures { result ≡ spec.mode_named word.now }
-{
-    if word == b"r".as_slice() {
-        Some(Mode::Read)
-    } else if word == b"w".as_slice() {
-        Some(Mode::Write)
-    } else if word == b"rw".as_slice() {
-        Some(Mode::Both)
-    } else {
-        None
-    }
-}
 
 /// The nets of one word or two; none where a word names none.
 pub(crate) fn nets_named(alloc: Global, words: &[&[u8]]) -> Result<Nets, AllocError>

@@ -5,12 +5,12 @@ ghost use Rattle.net_base.specs.World as world;
 ghost use Rattle.world_text.specs.LineReading as spec;
 
 use crate::arguments::Arguments;
-use crate::names::{are_bytes, is_name, is_text, is_word, mode_named};
+use crate::names::{are_bytes, is_name, is_text, is_word};
 use crate::remote_paths::is_remote_path;
 use net_base::{Mode, Octets, Step};
 use std::alloc::{AllocError, Global};
 use udp_headers::decode_headers;
-use words::{number_in, read_hex_word};
+use words::{mode_named, number_in, read_hex_word};
 
 /// The step of a word and its arguments, which are wrong where there is none.
 pub(crate) fn read_step(
