@@ -165,8 +165,8 @@ impl ReplyAndCopy {
         ensures ok { IfOk result (λ answer. answer ≡ reply.Bytes bytes.now) }
         ensures memory { OnErr result (0 < length bytes.now) }
     {
-        let copy = copied(alloc, bytes)?;
-        let bytes = copied(alloc, bytes)?;
+        let copy = Octets::copy_of(alloc, bytes)?;
+        let bytes = Octets::copy_of(alloc, bytes)?;
         Ok(ReplyAndCopy::read(bytes, copy))
     }
 
@@ -191,15 +191,4 @@ impl ReplyAndCopy {
             copy: Reply::Names { names: copy },
         })
     }
-}
-
-/// A copy of the bytes. Where there are none it takes no memory.
-pub fn copied(alloc: Global, bytes: &[u8]) -> Result<Octets, AllocError>
-    ensures ok { IfOk result (λ copy. copy ≡ bytes.now) }
-    ensures memory { OnErr result (0 < length bytes.now) }
-{
-    if bytes.is_empty() {
-        return Ok(Octets::new(alloc));
-    }
-    Octets::from_slice(alloc, bytes)
 }

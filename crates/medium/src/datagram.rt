@@ -96,7 +96,7 @@ pub fn packet_from(alloc: Global, bytes: &[u8]) -> Result<Packet, AllocError>
     let ip = decode_ip(bytes).unwrap();
     let (sport, dport, body) = if ip.header.proto == IL {
         let il = decode_il(ip.payload).unwrap();
-        let text = text_from(alloc, il.text)?;
+        let text = Octets::copy_of(alloc, il.text)?;
         let message = IlMsg {
             kind: il.kind,
             spec: il.spec,
@@ -107,7 +107,11 @@ pub fn packet_from(alloc: Global, bytes: &[u8]) -> Result<Packet, AllocError>
         (il.sport, il.dport, Body::Il(message))
     } else {
         let udp = decode_udp(ip.header.src, ip.header.dst, ip.payload).unwrap();
-        (udp.sport, udp.dport, Body::Udp(text_from(alloc, udp.text)?))
+        (
+            udp.sport,
+            udp.dport,
+            Body::Udp(Octets::copy_of(alloc, udp.text)?),
+        )
     };
     Ok(Packet {
         src: Addr {
@@ -122,15 +126,4 @@ pub fn packet_from(alloc: Global, bytes: &[u8]) -> Result<Packet, AllocError>
         tos: ip.header.tos,
         body,
     })
-}
-
-// A copy of a text. One of no bytes takes no memory.
-fn text_from(alloc: Global, bytes: &[u8]) -> Result<Octets, AllocError>
-    ensures ok { IfOk result (λ text. text ≡ bytes.now) }
-    ensures memory { OnErr result (0 < length bytes.now) }
-{
-    if bytes.is_empty() {
-        return Ok(Octets::new(alloc));
-    }
-    Octets::from_slice(alloc, bytes)
 }

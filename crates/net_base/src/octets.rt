@@ -1,5 +1,5 @@
 //! Texts: lists of bytes, and lists of those.
-ghost use Rattle.std.specs.Prelude.{◌≡◌, ◌∷◌, ◌++◌, List, [], length, IfOk, OnOk, OnErr, nat_eq};
+ghost use Rattle.std.specs.Prelude.{◌≡◌, ◌<◌, ◌∷◌, ◌++◌, List, [], length, IfOk, OnOk, OnErr, nat_eq};
 ghost use Rattle.std.specs.Cmp.Lexicographic.{pointwise};
 ghost use Rattle.std.specs.Cmp.Rules.{comparing};
 ghost use Rattle.std.proofs.Common.{rules};
@@ -68,6 +68,17 @@ impl Octets {
         Ok(Octets {
             bytes: Vec::from_slice(alloc, bytes)?,
         })
+    }
+
+    /// A copy of these bytes. Where there are none it takes no memory.
+    pub fn copy_of(alloc: Global, bytes: &[u8]) -> Result<Octets, AllocError>
+        ensures ok { IfOk result (λ o. o ≡ bytes.now) }
+        ensures memory { OnErr result (0 < length bytes.now) }
+    {
+        if bytes.is_empty() {
+            return Ok(Octets::new(alloc));
+        }
+        Octets::from_slice(alloc, bytes)
     }
 
     /// Its bytes, lent.

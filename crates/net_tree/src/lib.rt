@@ -9,4 +9,4 @@ mod path;
 pub use directory::{may_open, names};
 pub use fault::TreeError;
 pub use fids::{Fid, Fids};
-pub use path::walk;
+pub use path::{node_named, walk};

@@ -28,6 +28,16 @@ pub fn walk(path: &[u8]) -> Result<Node, TreeError>
     }
 }
 
+/// The node that a path names, if it names one.
+pub fn node_named(path: &[u8]) -> Option<Node>
+    ensures { result ≡ spec.walk path.now }
+{
+    match walk(path) {
+        Ok(node) => Some(node),
+        Err(_) => None,
+    }
+}
+
 // The node that the parts of a path would name, where its slot is below 32.
 fn node_of(path: &[u8]) -> Option<Node>
     ensures { result ≡ kept_node (spec.node_of (slice_split (λ b. b == 47) path.now)) }

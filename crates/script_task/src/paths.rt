@@ -4,23 +4,13 @@ ghost use Rattle.net_base.specs.Paths as paths;
 ghost use Rattle.net_base.specs.Steps as spec;
 
 use net_base::{ActorName, Event, FileName, Mode, Node, Octets};
-use net_tree::{may_open, walk};
-
-// The node of a path, if it names one.
-pub(crate) fn node_of(path: &[u8]) -> Option<Node>
-    ensures { result ≡ paths.walk path.now }
-{
-    match walk(path) {
-        Ok(node) => Some(node),
-        Err(_) => None,
-    }
-}
+use net_tree::{may_open, node_named};
 
 // The node of a path that may be opened so.
 pub(crate) fn openable(path: &[u8], mode: Mode) -> Option<Node>
     ensures { result ≡ spec.openable (paths.walk path.now) mode }
 {
-    let node = node_of(path)?;
+    let node = node_named(path)?;
     if may_open(node, mode).is_ok() {
         Some(node)
     } else {

@@ -10,10 +10,10 @@ ghost use Rattle.net_base.specs.Requests as requests;
 
 use crate::effect::Effect;
 use crate::names::Names;
-use crate::paths::{ls_actor, ls_event, node_of, open_actor, open_event, openable};
+use crate::paths::{ls_actor, ls_event, open_actor, open_event, openable};
 use ctl_words::read_ctl;
 use net_base::{ActorName, Ctl, Event, FileName, Heard, Mode, Node, Octets, Request};
-use net_tree::Fid;
+use net_tree::{Fid, node_named};
 use std::alloc::AllocError;
 
 /// An event at an actor, and what its reply does to the names.
@@ -105,7 +105,7 @@ fn opens(name: Octets, mode: Mode, node: Option<Node>) -> Effect
 fn ls(host: u32, path: Octets) -> Planned
     ensures { result ≡ spec.keeping (asked.ls host path) }
 {
-    let node = node_of(path.as_slice());
+    let node = node_named(path.as_slice());
     keeping(ls_actor(host, node), ls_event(path, node))
 }
 

@@ -6,7 +6,7 @@ ghost use Rattle.net_base.specs.declared.names.Node.TheVariants as node;
 ghost use Rattle.net_base.specs.SessionFiles as spec;
 
 use net_base::{FileName, Lines, Mode, Node, Octets, Proto};
-use net_tree::walk;
+use net_tree::node_named;
 use std::alloc::{AllocError, Global};
 use words::{file_name, proto_name, put_decimal};
 
@@ -137,16 +137,7 @@ fn child(alloc: Global, node: Node, name: &[u8]) -> Result<Option<Node>, AllocEr
         return Ok(None);
     }
     let path = child_path(alloc, node, name)?;
-    Ok(node_of(path.as_slice()))
-}
-
-fn node_of(path: &[u8]) -> Option<Node>
-    ensures { result ≡ paths.walk path.now }
-{
-    match walk(path) {
-        Ok(node) => Some(node),
-        Err(_) => None,
-    }
+    Ok(node_named(path.as_slice()))
 }
 
 /// Where a name of a walk leads.

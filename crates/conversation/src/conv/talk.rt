@@ -12,7 +12,7 @@ ghost use Rattle.conversation.specs.Stands.{IsShort};
 use crate::conv::Conv;
 use crate::il::IlCore;
 use crate::parts::{Core, Stage};
-use crate::reply_and_copy::{ReplyAndCopy, copied};
+use crate::reply_and_copy::ReplyAndCopy;
 use net_base::{Body, Cause, IlState, Octets, Outcome, Packet, StateName};
 use std::alloc::{AllocError, Global};
 use udp_core::UdpEnd;
@@ -267,7 +267,7 @@ fn read_il(
     if !end.may_read() {
         return Ok(None);
     }
-    let copy = copied(alloc, end.peek(count))?;
+    let copy = Octets::copy_of(alloc, end.peek(count))?;
     match end.read(count)? {
         Ok(bytes) => Ok(Some(ReplyAndCopy::read(bytes, copy))),
         Err(cause) => Ok(Some(ReplyAndCopy::hungup(cause))),
@@ -291,7 +291,7 @@ fn read_udp(
     if !end.ready_read() {
         return Ok(None);
     }
-    let copy = copied(alloc, end.peek(count))?;
+    let copy = Octets::copy_of(alloc, end.peek(count))?;
     match end.read(count) {
         Ok(bytes) => Ok(Some(ReplyAndCopy::read(bytes, copy))),
         Err(udp_core::HungupError::Hungup) => Ok(Some(ReplyAndCopy::hungup(Cause::Hungup))),

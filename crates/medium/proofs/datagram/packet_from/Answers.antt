@@ -6,7 +6,7 @@ use Rattle.wire_text.specs.Datagram.{header_for, body_bytes, datagram_packet}
 use Rattle.medium.specs.Spelled.{HasText}
 use Rattle.medium.proofs.Bodies.{HoldsIl, HoldsUdp, ipv4_in, il_in, udp_in, ok_of, on_err, il_read, udp_read}
 use Rattle.medium.proofs.datagram.packet_from.Goals as goal
-use Rattle.medium.proofs.datagram.packet_from.Goals.{then-ip-eq-IL+in_ok-text, else-ip-eq-IL+in_ok-text_from}
+use Rattle.medium.proofs.datagram.packet_from.Goals.{then-ip-eq-IL+in_ok-text, else-ip-eq-IL+in_ok-copy_of}
 
 pub unwrap-ip-requires : goal.unwrap-ip-requires
 unwrap-ip-requires c =
@@ -31,8 +31,8 @@ returns-clause-ok c =
       | then-ip-eq-IL+in_ok-text w ↦
           rw (w.sport-is, w.in_ok-text.ensures.ok)
           (il_read c.args.bytes.now (view c.unwrap-ip.result.header) c.unwrap-ip.result.payload.now w.unwrap-il.result.sport w.unwrap-il.result.dport (message_in w.unwrap-il.result.kind w.unwrap-il.result.spec w.unwrap-il.result.id w.unwrap-il.result.ack w.unwrap-il.result.text.now) found w.if-ip-eq-IL.true (rw w.unwrap-il.ensures at w.decode_il.ensures.found))
-      | else-ip-eq-IL+in_ok-text_from w ↦
-          rw (w.sport-is, w.in_ok-text_from.ensures.ok)
+      | else-ip-eq-IL+in_ok-copy_of w ↦
+          rw (w.sport-is, w.in_ok-copy_of.ensures.ok)
           (udp_read c.args.bytes.now (view c.unwrap-ip.result.header) c.unwrap-ip.result.payload.now w.unwrap-udp.result.sport w.unwrap-udp.result.dport w.unwrap-udp.result.text.now found w.if-ip-eq-IL.false (rw w.unwrap-udp.ensures at w.decode_udp.ensures.found))
     ]
 
@@ -42,8 +42,8 @@ returns-in_err-text-clause-memory c =
     let read = il_read c.args.bytes.now (view c.unwrap-ip.result.header) c.unwrap-ip.result.payload.now c.unwrap-il.result.sport c.unwrap-il.result.dport (message_in c.unwrap-il.result.kind c.unwrap-il.result.spec c.unwrap-il.result.id c.unwrap-il.result.ack c.unwrap-il.result.text.now) found c.if-ip-eq-IL.true (rw c.unwrap-il.ensures at c.decode_il.ensures.found) in
     on_err _ c.from_residual.result (subst HasText read c.in_err-text.ensures.memory)
 
-pub returns-in_err-text_from-clause-memory : goal.returns-in_err-text_from-clause-memory
-returns-in_err-text_from-clause-memory c =
+pub returns-in_err-copy_of-clause-memory : goal.returns-in_err-copy_of-clause-memory
+returns-in_err-copy_of-clause-memory c =
     let found : SpellsIpv4 (view c.unwrap-ip.result.header) c.unwrap-ip.result.payload.now c.args.bytes.now = rw c.unwrap-ip.ensures at c.decode_ip.ensures.found in
     let read = udp_read c.args.bytes.now (view c.unwrap-ip.result.header) c.unwrap-ip.result.payload.now c.unwrap-udp.result.sport c.unwrap-udp.result.dport c.unwrap-udp.result.text.now found c.if-ip-eq-IL.false (rw c.unwrap-udp.ensures at c.decode_udp.ensures.found) in
-    on_err _ c.from_residual-in_err-text_from.result (subst HasText read c.in_err-text_from.ensures.memory)
+    on_err _ c.from_residual-in_err-copy_of.result (subst HasText read c.in_err-copy_of.ensures.memory)
