@@ -1,8 +1,6 @@
 -- A call that carries files: anna imports the network of helix, and helix exports it, in 70 entries.
 use Rattle.std.specs.Prelude.{ℕ, List, [], ◌∷◌, Some, None, codes}
-use Rattle.net_base.specs.declared.actor.ActorName.{ActorName}
 use Rattle.net_base.specs.declared.actor.ActorName.TheVariants as name
-use Rattle.net_base.specs.declared.address.Addr.{Addr}
 use Rattle.net_base.specs.declared.address.Proto.TheVariants as proto
 use Rattle.net_base.specs.declared.event.Event.TheVariants as event
 use Rattle.net_base.specs.declared.history.Entry.{Entry}
@@ -14,27 +12,8 @@ use Rattle.net_base.specs.declared.world.Script.{Script}
 use Rattle.net_base.specs.declared.world.Step.TheVariants as step
 use Rattle.net_base.specs.declared.world.World.{World}
 use Rattle.net_base.specs.Written.{Conversation}
-use Rattle.worked_worlds.specs.Worked.{anna, addr_at, due, emits, helix, il, unowed_entry, pair_between_them, script_with, world}
-use Rattle.worked_worlds.specs.WorkedIl.{both_hosts}
-
-abbrev desk : ℕ → ActorName
-desk h = name.Desk h
-
-abbrev dir : ℕ → ActorName
-dir h = name.Dir h proto.Il
-
-abbrev conv : ℕ → ℕ → ActorName
-conv h n = name.Conv h proto.Il n
-
-abbrev ether : ActorName
-ether = name.Medium 0
-
--- anna's end of the call, and helix's
-abbrev here : Addr
-here = addr_at anna 5000
-
-abbrev there : Addr
-there = addr_at helix 17008
+use Rattle.worked_worlds.specs.Worked.{due, emits, il, unowed_entry, pair_between_them, script_with, world}
+use Rattle.worked_worlds.specs.WorkedIl.{both_hosts, conv, desk, dir, ether, here, there}
 
 abbrev pub importer : Script
 importer = script_with 0 (step.Until 10 ∷ step.Dial (codes "d") (codes "il!135.104.9.31!9fs") ∷ step.Import (codes "d") ∷ [])

@@ -23,23 +23,25 @@ use Rattle.worked_worlds.specs.Worked.{addr_at, anna, helix, pair_between_them, 
 abbrev pub both_hosts : List HostSpec
 both_hosts = host (codes "anna") anna (100 ∷ []) ∷ host (codes "helix") helix (200 ∷ []) ∷ []
 
-abbrev desk : ℕ → ActorName
+-- Actors, where IL is spoken.
+
+abbrev pub desk : ℕ → ActorName
 desk h = name.Desk h
 
-abbrev dir : ℕ → ActorName
+abbrev pub dir : ℕ → ActorName
 dir h = name.Dir h proto.Il
 
-abbrev conv : ℕ → ℕ → ActorName
+abbrev pub conv : ℕ → ℕ → ActorName
 conv h n = name.Conv h proto.Il n
 
-abbrev ether : ActorName
+abbrev pub ether : ActorName
 ether = name.Medium 0
 
 -- anna's end of a call, and helix's
-abbrev here : Addr
+abbrev pub here : Addr
 here = addr_at anna 5000
 
-abbrev there : Addr
+abbrev pub there : Addr
 there = addr_at helix 17008
 
 -- The fourth frame is lost: anna asks at moment 510, and sends the message again.
