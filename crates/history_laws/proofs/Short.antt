@@ -10,26 +10,7 @@ use Rattle.net_base.specs.Next.{by}
 use Rattle.net_base.specs.Tasks.{Tasks}
 use Rattle.net_base.specs.World.{IsWorld}
 use Rattle.history_laws.proofs.Histories.{by_entries}
-
-abbrev one : Bool → ℕ
-one b = cond b 1 0
-
--- 1 where c is below n
-abbrev below : ℕ → ℕ → ℕ
-below c zero = 0
-below c (suc n) = below c n + one (c == n)
-
-below-is : (c n : ℕ) → n ≤ c → below c n ≡ 0
-below-is c zero le = refl
-below-is c (suc n) le = let r = below-is c n (omega arith) in let e : (c == n) ≡ false = grind (arith, nat_tests) in rw e (omega arith)
-
-below-one : (c n : ℕ) → c < n → below c n ≡ 1
-below-one c zero lt = absurd (omega arith)
-below-one c (suc n) lt = next (below-one c n) (c == n) refl
-  where
-    next : (c < n → below c n ≡ 1) → (b : Bool) → (c == n) ≡ b → below c n + one b ≡ 1
-    next f true e = let s : c ≡ n = grind (arith, nat_tests) in let r = below-is c n (omega arith) in omega arith
-    next f false e = let s : c < n = grind (arith, nat_tests) in let r = f s in omega arith
+use Rattle.net_base.proofs.Shared.{once_below, one_if, times_below}
 
 -- the entries of the first n callers
 abbrev totals : ℕ → List Entry → ℕ
@@ -40,12 +21,12 @@ totals-nil : (n : ℕ) → totals n [] ≡ 0
 totals-nil zero = refl
 totals-nil (suc n) = let r = totals-nil n in omega arith
 
-totals-cons : (n : ℕ) (x : Entry) (h : List Entry) → totals n (x ∷ h) ≡ totals n h + below x.caller n
+totals-cons : (n : ℕ) (x : Entry) (h : List Entry) → totals n (x ∷ h) ≡ totals n h + times_below x.caller n
 totals-cons zero x h = refl
 totals-cons (suc n) x h = let r = totals-cons n x h in next r (x.caller == n)
   where
-    next : totals n (x ∷ h) ≡ totals n h + below x.caller n → (b : Bool)
-        → totals n (x ∷ h) + length (cond b (x ∷ by h n) (by h n)) ≡ totals n h + length (by h n) + (below x.caller n + one b)
+    next : totals n (x ∷ h) ≡ totals n h + times_below x.caller n → (b : Bool)
+        → totals n (x ∷ h) + length (cond b (x ∷ by h n) (by h n)) ≡ totals n h + length (by h n) + (times_below x.caller n + one_if b)
     next r true = omega arith
     next r false = omega arith
 
@@ -55,7 +36,7 @@ Below n (x ∷ h) = (x.caller < n) × Below n h
 
 all_counted : (n : ℕ) (h : List Entry) → Below n h → totals n h ≡ length h
 all_counted n [] f = totals-nil n
-all_counted n (x ∷ h) f = let r = all_counted n h f.1 in let t = totals-cons n x h in let o = below-one x.caller n f.0 in omega arith
+all_counted n (x ∷ h) f = let r = all_counted n h f.1 in let t = totals-cons n x h in let o = once_below x.caller n f.0 in omega arith
 
 totals-bound : (n b : ℕ) (h : List Entry) → ((c : ℕ) → length (by h c) ≤ b) → totals n h ≤ n * b
 totals-bound zero b h f = omega arith

@@ -9,26 +9,7 @@ use Rattle.net_base.specs.Stamped.{at, at_from}
 use Rattle.journal.specs.declared.law.Roster.{Roster}
 use Rattle.journal.specs.Rule.{Lawful}
 use Rattle.journal.proofs.Lists.{at-snoc, at-append}
-
-abbrev one : Bool → ℕ
-one b = if b then 1 else 0
-
--- 1 where c is below n
-abbrev below : ℕ → ℕ → ℕ
-below c zero = 0
-below c (suc n) = below c n + one (c == n)
-
-below-is : (c n : ℕ) → n ≤ c → below c n ≡ 0
-below-is c zero le = refl
-below-is c (suc n) le = let r = below-is c n (omega arith) in let e : (c == n) ≡ false = grind (arith, nat_tests) in rw e (omega arith)
-
-below-one : (c n : ℕ) → c < n → below c n ≡ 1
-below-one c zero lt = absurd (omega arith)
-below-one c (suc n) lt = next (below-one c n) (c == n) refl
-  where
-    next : (c < n → below c n ≡ 1) → (b : Bool) → (c == n) ≡ b → below c n + one b ≡ 1
-    next f true e = let s : c ≡ n = grind (arith, nat_tests) in let r = below-is c n (omega arith) in omega arith
-    next f false e = let s : c < n = grind (arith, nat_tests) in let r = f s in omega arith
+use Rattle.net_base.proofs.Shared.{once_below, one_if, times_below}
 
 abbrev totals : ℕ → ℕ → List Noted → ℕ
 totals zero m log = 0
@@ -38,13 +19,13 @@ totals-nil : (n m : ℕ) → totals n m [] ≡ 0
 totals-nil zero m = refl
 totals-nil (suc n) m = let r = totals-nil n m in omega arith
 
-totals-cons : (n m : ℕ) (x : Noted) (xs : List Noted) → totals n m (x ∷ xs) ≡ totals n (m + 1) xs + below x.entry.caller n
+totals-cons : (n m : ℕ) (x : Noted) (xs : List Noted) → totals n m (x ∷ xs) ≡ totals n (m + 1) xs + times_below x.entry.caller n
 totals-cons zero m x xs = refl
 totals-cons (suc n) m x xs = let r = totals-cons n m x xs in next r (x.entry.caller == n)
   where
-    next : totals n m (x ∷ xs) ≡ totals n (m + 1) xs + below x.entry.caller n → (b : Bool)
+    next : totals n m (x ∷ xs) ≡ totals n (m + 1) xs + times_below x.entry.caller n → (b : Bool)
         → totals n m (x ∷ xs) + length (if b then (m, x) ∷ at_from (number.Caller n) (m + 1) xs else at_from (number.Caller n) (m + 1) xs)
-        ≡ totals n (m + 1) xs + length (at_from (number.Caller n) (m + 1) xs) + (below x.entry.caller n + one b)
+        ≡ totals n (m + 1) xs + length (at_from (number.Caller n) (m + 1) xs) + (times_below x.entry.caller n + one_if b)
     next r true = omega arith
     next r false = omega arith
 
@@ -55,7 +36,7 @@ Below n (x ∷ xs) = (x.entry.caller < n) × Below n xs
 
 all_counted : (n m : ℕ) (log : List Noted) → Below n log → totals n m log ≡ length log
 all_counted n m [] h = totals-nil n m
-all_counted n m (x ∷ xs) h = let r = all_counted n (m + 1) xs h.1 in let t = totals-cons n m x xs in let o = below-one x.entry.caller n h.0 in omega arith
+all_counted n m (x ∷ xs) h = let r = all_counted n (m + 1) xs h.1 in let t = totals-cons n m x xs in let o = once_below x.entry.caller n h.0 in omega arith
 
 totals-bound : (n b : ℕ) (log : List Noted) → ((c : ℕ) → length (at (number.Caller c) log) ≤ b) → totals n 0 log ≤ n * b
 totals-bound zero b log h = omega arith

@@ -18,4 +18,5 @@ pub mod PathNames
 pub mod SameNames
 pub mod CallerNames
 pub mod Leasts
+pub mod Belows
 pub mod Shared

@@ -2,6 +2,8 @@
 
 -- whether one of a list passes a test, looked for from the first on
 pub use Rattle.net_base.proofs.Among.{find-here, find-on, neither, own-default}
+-- a number below a bound is met once, going through the numbers up to there
+pub use Rattle.net_base.proofs.Belows.{once_below, one_if, times_below}
 -- which caller a number is of
 pub use Rattle.net_base.proofs.CallerNames.{script_at, script_is}
 -- lists in a row, by where they end: what is added behind them, and which one stands at a place
