@@ -353,8 +353,8 @@ impl Dir {
     /// A slot is bound to a port.
     fn bind(&mut self, n: u32, generation: u64, port: u16) -> Result<Outcome, AllocError>
         requires { n < length self.old.dir.slots }
-        ensures ok { IfOk result (λ o. LeavesDir self.new o (spec.in_slot n generation self.old.dir (spec.slot_binds n port
-            self.old.dir))) }
+        ensures ok { IfOk result (λ o. LeavesDir self.new o (spec.in_slot n generation self.old.dir (
+            spec.slot_binds n port self.old.dir))) }
         ensures stays { StaysDir self.old self.new }
         ensures err { OnErr result (self.new ≡ self.old) }
         ensures memory { OnErr result (StepMayWant (spec.in_slot n generation self.old.dir (spec.slot_binds n port
@@ -602,7 +602,8 @@ fn refusal(alloc: Global, message: &IlMsg, packet: &Packet) -> Packet
 
 /// What becomes of a packet without a taker: a sync is refused, and all else is dropped.
 fn refused_or_dropped(alloc: Global, packet: &Packet) -> Outcome
-    ensures { (d : AnyDir) → spec.refused_or_dropped packet.now.body packet.now d ≡ record { state = d; outcome = result } }
+    ensures { (d : AnyDir) → spec.refused_or_dropped packet.now.body packet.now d
+        ≡ record { state = d; outcome = result } }
 {
     match &packet.body {
         Body::Il(message) if message.kind == IlKind::Sync => {
