@@ -52,7 +52,8 @@ pub fn locks_keep_actors()
     ensures due { (w : World) (log : List Noted) (a : ActorName)
         → named_due (state_at (named_opening w) (answer_in w) a log) ≡ duties.due_of ((noted_net w log).actors a) }
     ensures generation { (w : World) (log : List Noted) (a : ActorName)
-        → named_generation (state_at (named_opening w) (answer_in w) a log) ≡ duties.generation_of ((noted_net w log).actors a) }
+        → named_generation (state_at (named_opening w) (answer_in w) a log)
+        ≡ duties.generation_of ((noted_net w log).actors a) }
 {
     same_actors_are_equal();
 }
@@ -182,5 +183,6 @@ pub fn histories_of_guests_are_legal()
 /// Where the entries of scripts, and of tasks in their places, that owe nothing are their next events, nothing is missing of a legal
 /// history.
 pub fn scripts_that_go_on_are_legal()
-    ensures { (ts : Tasks) (w : World) (h : List Entry) → IsLegalButScripts w h → DoScriptsGoOn ts w h → IsLegalBy ts w h }
+    ensures { (ts : Tasks) (w : World) (h : List Entry) → IsLegalButScripts w h → DoScriptsGoOn ts w h
+        → IsLegalBy ts w h }
 {}
