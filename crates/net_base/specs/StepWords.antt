@@ -54,7 +54,7 @@ pub data WordKind : Type 0 where
   -- a mode or nothing, at the end of the line
   PerhapsMode : WordKind
   -- bytes in hexadecimal
-  Bytes : WordKind
+  HexBytes : WordKind
   -- the headers of a datagram and its text, in hexadecimal
   ADatagram : WordKind
   -- the rest of the line
@@ -77,7 +77,7 @@ value_fits ARemotePath path = is_word path && is_remote_path path
 value_fits (ANumber least most) n = is_within least most n
 value_fits AMode m = true
 value_fits PerhapsMode m = true
-value_fits Bytes bytes = list_all is_byte bytes
+value_fits HexBytes bytes = list_all is_byte bytes
 value_fits ADatagram bytes = list_all is_byte bytes && has_headers bytes
 value_fits TheRest text = is_text text
 value_fits (TheRestOf least most) text = is_text text && is_within least most (length text)
@@ -124,7 +124,7 @@ abbrev pub worded : Step → Worded
 worded (step.Open name path mode) = in_words (codes "open") (AName ∷ AWord ∷ PerhapsMode ∷ []) step.Open (name then path then mode then tt)
 worded (step.Read name count) = in_words (codes "read") (AName ∷ ANumber 1 65536 ∷ []) step.Read (name then count then tt)
 worded (step.Write name text) = in_words (codes "write") (AName ∷ TheRest ∷ []) step.Write (name then text then tt)
-worded (step.Writex name text) = in_words (codes "writex") (AName ∷ Bytes ∷ []) step.Writex (name then text then tt)
+worded (step.Writex name text) = in_words (codes "writex") (AName ∷ HexBytes ∷ []) step.Writex (name then text then tt)
 worded (step.Close name) = in_words (codes "close") (AName ∷ []) step.Close (name then tt)
 worded (step.Ls path) = in_words (codes "ls") (AWord ∷ []) step.Ls (path then tt)
 worded (step.Cs query) = in_words (codes "cs") (TheRest ∷ []) step.Cs (query then tt)

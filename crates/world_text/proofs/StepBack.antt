@@ -17,7 +17,7 @@ use Rattle.net_base.specs.World.{is_byte, is_letter, is_text, is_within, is_word
 use Rattle.net_base.proofs.Shared.{IsWithout, cut_at, one_part, hex-back, hex-without, number-back, some_part}
 use Rattle.world_text.specs.WorldSpelling.{spaced_line, speaks}
 use Rattle.world_text.specs.WorldWords.{mode_named, words_left}
-use Rattle.net_base.specs.StepWords.{WordKind, AName, AWord, ARemotePath, ANumber, AMode, PerhapsMode, Bytes, ADatagram, TheRest, TheRestOf, Value, value_fits, ValuesOf, values_fit, StepMaker, worded, is_step}
+use Rattle.net_base.specs.StepWords.{WordKind, AName, AWord, ARemotePath, ANumber, AMode, PerhapsMode, HexBytes, ADatagram, TheRest, TheRestOf, Value, value_fits, ValuesOf, values_fit, StepMaker, worded, is_step}
 use Rattle.world_text.specs.LineReading.{value_kept, read_value, read_values, read_word, row_read, step_in_line, step_read, whole_step, words_line}
 use Rattle.world_text.specs.WorldSpelling.{spelled_value, spelled_values, words_of_step}
 use Rattle.world_text.proofs.StepRows.{applied, are_letters, are_readable, known, stands_before}
@@ -38,7 +38,7 @@ value-free (ANumber least most) n stands fit = (number-free 10 apart-newline lea
 value-free AMode m stands fit = (mode-free 10 apart-newline m, tt)
 value-free PerhapsMode None stands fit = tt
 value-free PerhapsMode (Some m) stands fit = (mode-free 10 apart-newline m, tt)
-value-free Bytes bytes stands fit = (hex-without 10 bytes (apart-newline.low), tt)
+value-free HexBytes bytes stands fit = (hex-without 10 bytes (apart-newline.low), tt)
 value-free ADatagram bytes stands fit = (hex-without 10 bytes (apart-newline.low), tt)
 value-free TheRest text stands fit = (text-free text fit, tt)
 value-free (TheRestOf least most) text stands fit = (text-free text ((and_parts (is_text text) (is_within least most (length text)) fit).0), tt)
@@ -115,7 +115,7 @@ next-cut PerhapsMode [] values stands fit cut word free = by values.first
     by None = one_part 32 word free
     by (Some m) = cut_at 32 word (mode_word m) (mode_word m ∷ []) free (one_part 32 (mode_word m) (mode-free 32 apart-blank m))
 next-cut PerhapsMode (l ∷ ks) values stands fit cut word free = absurd (false≢true stands)
-next-cut Bytes ks values stands fit cut word free = cut_at 32 word _ _ free (cut _ (hex-without 32 values.first (apart-blank.low)))
+next-cut HexBytes ks values stands fit cut word free = cut_at 32 word _ _ free (cut _ (hex-without 32 values.first (apart-blank.low)))
 next-cut ADatagram ks values stands fit cut word free = cut_at 32 word _ _ free (cut _ (hex-without 32 values.first (apart-blank.low)))
 next-cut TheRest [] values stands fit cut word free = text-cut word values.first free
 next-cut TheRest (l ∷ ks) values stands fit cut word free = absurd (false≢true stands)
@@ -162,7 +162,7 @@ value-back PerhapsMode [] values stands fit = by values.first
     by None = refl
     by (Some m) = ap (λ o. option_and_then (value_kept PerhapsMode []) (option_map (λ (n : Mode). Some n) o)) (mode-back m)
 value-back PerhapsMode (l ∷ ks) values stands fit = absurd (false≢true stands)
-value-back Bytes ks values stands fit = ap (option_and_then (value_kept Bytes (broken_values ks values.rest))) (hex-back values.first fit) ∙ kept-back Bytes _ values.first fit
+value-back HexBytes ks values stands fit = ap (option_and_then (value_kept HexBytes (broken_values ks values.rest))) (hex-back values.first fit) ∙ kept-back HexBytes _ values.first fit
 value-back ADatagram ks values stands fit =
     ap (option_and_then (value_kept ADatagram (broken_values ks values.rest))) (hex-back values.first ((and_parts (list_all is_byte values.first) (has_headers values.first) fit).0))
     ∙ kept-back ADatagram _ values.first fit

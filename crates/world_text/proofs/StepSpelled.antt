@@ -11,7 +11,7 @@ use Rattle.net_base.specs.Transcript.{mode_word}
 use Rattle.net_base.proofs.Shared.{equal_texts, hex-spelled, number_in-spelled}
 use Rattle.world_text.specs.WorldSpelling.{spaced_line}
 use Rattle.world_text.specs.WorldWords.{mode_named, words_left}
-use Rattle.net_base.specs.StepWords.{WordKind, AName, AWord, ARemotePath, ANumber, AMode, PerhapsMode, Bytes, ADatagram, TheRest, TheRestOf, Value, value_fits, ValuesOf, values_fit, StepMaker, StepRow, Worded, worded, step_rows, is_step}
+use Rattle.net_base.specs.StepWords.{WordKind, AName, AWord, ARemotePath, ANumber, AMode, PerhapsMode, HexBytes, ADatagram, TheRest, TheRestOf, Value, value_fits, ValuesOf, values_fit, StepMaker, StepRow, Worded, worded, step_rows, is_step}
 use Rattle.world_text.specs.LineReading.{value_guessed, value_kept, read_value, read_values, read_word, row_by_word, row_read, step_in_line, step_where_none, whole_step}
 use Rattle.world_text.specs.WorldSpelling.{spelled_value, spelled_values, words_of_step}
 use Rattle.world_text.proofs.StepRows.{applied, are_readable, row_with, stands_before}
@@ -43,7 +43,7 @@ guessed-is PerhapsMode ks word value stands e = by (mode_named word) refl e
     by : (o : Option Mode) → mode_named word ≡ o → option_map (λ (m : Mode). Some m) o ≡ Some value → word ∷ [] ≡ spelled_value PerhapsMode value
     by None is f = absurd (none-some value f)
     by (Some m) is f = ap (λ (w : List ℕ). w ∷ []) (mode-is word m is) ∙ ap (spelled_value PerhapsMode) (same_Some (Some m) value f)
-guessed-is Bytes ks word bytes stands e = ap (λ (w : List ℕ). w ∷ []) (hex-spelled word bytes e)
+guessed-is HexBytes ks word bytes stands e = ap (λ (w : List ℕ). w ∷ []) (hex-spelled word bytes e)
 guessed-is ADatagram ks word bytes stands e = ap (λ (w : List ℕ). w ∷ []) (hex-spelled word bytes e)
 guessed-is TheRest ks word value stands e = ap (λ (w : List ℕ). w ∷ []) (same_Some word value e)
 guessed-is (TheRestOf least most) ks word value stands e = ap (λ (w : List ℕ). w ∷ []) (same_Some word value e)

@@ -11,7 +11,7 @@ use Rattle.net_base.specs.declared.world.Fate.{Fate}
 use Rattle.net_base.specs.declared.world.Fate.TheVariants as fate
 use Rattle.net_base.specs.declared.world.Step.{Step}
 use Rattle.net_base.specs.Addresses.{parts_at}
-use Rattle.net_base.specs.StepWords.{WordKind, AMode, ANumber, ADatagram, Bytes, PerhapsMode, TheRest, TheRestOf, Value, value_fits, StepMaker, StepRow, step_row, sample_steps}
+use Rattle.net_base.specs.StepWords.{WordKind, AMode, ANumber, ADatagram, HexBytes, PerhapsMode, TheRest, TheRestOf, Value, value_fits, StepMaker, StepRow, step_row, sample_steps}
 use Rattle.net_base.specs.World.{is_name, is_nets}
 use Rattle.world_text.specs.declared.line.Frames.{Frames}
 use Rattle.world_text.specs.declared.line.Frames.TheVariants as frames
@@ -137,7 +137,7 @@ abbrev pub value_guessed : (k : WordKind) → List ℕ → Option (Value k)
 value_guessed AMode word = mode_named word
 value_guessed PerhapsMode word = option_map (λ (m : Mode). Some m) (mode_named word)
 value_guessed (ANumber least most) word = number_in least most word
-value_guessed Bytes word = hex_text word
+value_guessed HexBytes word = hex_text word
 value_guessed ADatagram word = hex_text word
 value_guessed _ word = Some word
 

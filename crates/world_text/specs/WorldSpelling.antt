@@ -19,7 +19,7 @@ use Rattle.net_base.specs.ControlWords.{dotted}
 use Rattle.net_base.specs.NdbBundle.{database, causes_of, first_bad}
 use Rattle.net_base.specs.NdbText.{is_newline, is_hash, lines_of}
 use Rattle.net_base.specs.Paths.{proto_name}
-use Rattle.net_base.specs.StepWords.{WordKind, AMode, ANumber, ADatagram, Bytes, PerhapsMode, Value, ValuesOf, step_row, worded}
+use Rattle.net_base.specs.StepWords.{WordKind, AMode, ANumber, ADatagram, HexBytes, PerhapsMode, Value, ValuesOf, step_row, worded}
 use Rattle.net_base.specs.Transcript.{hex_word, mode_word}
 use Rattle.net_base.specs.World.{IsWorld}
 use Rattle.world_text.specs.declared.line.Frames.{Frames}
@@ -119,7 +119,7 @@ spelled_value AMode m = mode_word m ∷ []
 spelled_value PerhapsMode None = []
 spelled_value PerhapsMode (Some m) = mode_word m ∷ []
 spelled_value (ANumber least most) n = decimal n ∷ []
-spelled_value Bytes bytes = hex_word bytes ∷ []
+spelled_value HexBytes bytes = hex_word bytes ∷ []
 spelled_value ADatagram bytes = hex_word bytes ∷ []
 spelled_value _ text = text ∷ []
 

@@ -95,8 +95,8 @@ impl<'a> Arguments<'a> {
 
     /// Bytes in hexadecimal.
     pub(crate) fn bytes(&mut self, alloc: Global) -> Result<Octets, LineFault>
-        ensures ok { IfOk result (λ value. read_value kind.Bytes self.old ≡ Some (value, self.new)) }
-        ensures wrong { IfErr result (λ e. IsWrong e (read_value kind.Bytes self.old)) }
+        ensures ok { IfOk result (λ value. read_value kind.HexBytes self.old ≡ Some (value, self.new)) }
+        ensures wrong { IfErr result (λ e. IsWrong e (read_value kind.HexBytes self.old)) }
     {
         let Some(word) = self.next() else {
             return Err(LineFault::Cause(LineCause::WrongArgument));
