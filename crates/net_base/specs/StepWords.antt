@@ -112,6 +112,38 @@ pub record StepRow : Type 0 where
   pub kinds : List WordKind
   pub make : StepMaker kinds
 
+-- what is told of a step in words: of its word, what stands behind it, how these make it, and what they say
+abbrev pub told_in_words : {A : Type 0} → ((word : List ℕ) (ks : List WordKind) → StepMaker ks → ValuesOf ks → A) → Step → A
+told_in_words tell (step.Open name path mode) = tell (codes "open") (AName ∷ AWord ∷ PerhapsMode ∷ []) step.Open (name then path then mode then tt)
+told_in_words tell (step.Read name count) = tell (codes "read") (AName ∷ ANumber 1 65536 ∷ []) step.Read (name then count then tt)
+told_in_words tell (step.Write name text) = tell (codes "write") (AName ∷ TheRest ∷ []) step.Write (name then text then tt)
+told_in_words tell (step.Writex name text) = tell (codes "writex") (AName ∷ HexBytes ∷ []) step.Writex (name then text then tt)
+told_in_words tell (step.Close name) = tell (codes "close") (AName ∷ []) step.Close (name then tt)
+told_in_words tell (step.Ls path) = tell (codes "ls") (AWord ∷ []) step.Ls (path then tt)
+told_in_words tell (step.Cs query) = tell (codes "cs") (TheRest ∷ []) step.Cs (query then tt)
+told_in_words tell (step.Until moment) = tell (codes "until") (ANumber 1 1000000000 ∷ []) step.Until (moment then tt)
+told_in_words tell step.Refresh = tell (codes "refresh") [] step.Refresh tt
+told_in_words tell (step.Dial name address) = tell (codes "dial") (AName ∷ AWord ∷ []) step.Dial (name then address then tt)
+told_in_words tell (step.Announce name address) = tell (codes "announce") (AName ∷ AWord ∷ []) step.Announce (name then address then tt)
+told_in_words tell (step.Listen name from) = tell (codes "listen") (AName ∷ AName ∷ []) step.Listen (name then from then tt)
+told_in_words tell (step.Accept name from) = tell (codes "accept") (AName ∷ AName ∷ []) step.Accept (name then from then tt)
+told_in_words tell (step.Reject name) = tell (codes "reject") (AName ∷ []) step.Reject (name then tt)
+told_in_words tell (step.Hangup name) = tell (codes "hangup") (AName ∷ []) step.Hangup (name then tt)
+told_in_words tell (step.Hread name count) = tell (codes "hread") (AName ∷ ANumber 1 65536 ∷ []) step.Hread (name then count then tt)
+told_in_words tell (step.Hwrite name bytes) = tell (codes "hwrite") (AName ∷ ADatagram ∷ []) step.Hwrite (name then bytes then tt)
+told_in_words tell (step.Dns name times) = tell (codes "dns") (AName ∷ ANumber 1 1000 ∷ []) step.Dns (name then times then tt)
+-- imports
+told_in_words tell (step.Export name) = tell (codes "export") (AName ∷ []) step.Export (name then tt)
+told_in_words tell (step.Import name) = tell (codes "import") (AName ∷ []) step.Import (name then tt)
+told_in_words tell (step.Ropen name call path mode) = tell (codes "ropen") (AName ∷ AName ∷ ARemotePath ∷ AMode ∷ []) step.Ropen (name then call then path then mode then tt)
+told_in_words tell (step.Rread name count) = tell (codes "rread") (AName ∷ ANumber 1 488 ∷ []) step.Rread (name then count then tt)
+told_in_words tell (step.Rwrite name text) = tell (codes "rwrite") (AName ∷ TheRestOf 1 488 ∷ []) step.Rwrite (name then text then tt)
+told_in_words tell (step.Rclose name) = tell (codes "rclose") (AName ∷ []) step.Rclose (name then tt)
+
+-- the words of a step are of its row
+abbrev pub is_step : Step → Bool
+is_step s = told_in_words (λ word ks make values. values_fit ks values) s
+
 -- a step in words: its row, and what its words say
 pub record Worded : Type 0 where
   pub row : StepRow
@@ -121,35 +153,7 @@ abbrev pub in_words : List ℕ → (ks : List WordKind) → StepMaker ks → Val
 in_words word ks make values = record { row = record { word = word; kinds = ks; make = make }; values = values }
 
 abbrev pub worded : Step → Worded
-worded (step.Open name path mode) = in_words (codes "open") (AName ∷ AWord ∷ PerhapsMode ∷ []) step.Open (name then path then mode then tt)
-worded (step.Read name count) = in_words (codes "read") (AName ∷ ANumber 1 65536 ∷ []) step.Read (name then count then tt)
-worded (step.Write name text) = in_words (codes "write") (AName ∷ TheRest ∷ []) step.Write (name then text then tt)
-worded (step.Writex name text) = in_words (codes "writex") (AName ∷ HexBytes ∷ []) step.Writex (name then text then tt)
-worded (step.Close name) = in_words (codes "close") (AName ∷ []) step.Close (name then tt)
-worded (step.Ls path) = in_words (codes "ls") (AWord ∷ []) step.Ls (path then tt)
-worded (step.Cs query) = in_words (codes "cs") (TheRest ∷ []) step.Cs (query then tt)
-worded (step.Until moment) = in_words (codes "until") (ANumber 1 1000000000 ∷ []) step.Until (moment then tt)
-worded step.Refresh = in_words (codes "refresh") [] step.Refresh tt
-worded (step.Dial name address) = in_words (codes "dial") (AName ∷ AWord ∷ []) step.Dial (name then address then tt)
-worded (step.Announce name address) = in_words (codes "announce") (AName ∷ AWord ∷ []) step.Announce (name then address then tt)
-worded (step.Listen name from) = in_words (codes "listen") (AName ∷ AName ∷ []) step.Listen (name then from then tt)
-worded (step.Accept name from) = in_words (codes "accept") (AName ∷ AName ∷ []) step.Accept (name then from then tt)
-worded (step.Reject name) = in_words (codes "reject") (AName ∷ []) step.Reject (name then tt)
-worded (step.Hangup name) = in_words (codes "hangup") (AName ∷ []) step.Hangup (name then tt)
-worded (step.Hread name count) = in_words (codes "hread") (AName ∷ ANumber 1 65536 ∷ []) step.Hread (name then count then tt)
-worded (step.Hwrite name bytes) = in_words (codes "hwrite") (AName ∷ ADatagram ∷ []) step.Hwrite (name then bytes then tt)
-worded (step.Dns name times) = in_words (codes "dns") (AName ∷ ANumber 1 1000 ∷ []) step.Dns (name then times then tt)
--- imports
-worded (step.Export name) = in_words (codes "export") (AName ∷ []) step.Export (name then tt)
-worded (step.Import name) = in_words (codes "import") (AName ∷ []) step.Import (name then tt)
-worded (step.Ropen name call path mode) = in_words (codes "ropen") (AName ∷ AName ∷ ARemotePath ∷ AMode ∷ []) step.Ropen (name then call then path then mode then tt)
-worded (step.Rread name count) = in_words (codes "rread") (AName ∷ ANumber 1 488 ∷ []) step.Rread (name then count then tt)
-worded (step.Rwrite name text) = in_words (codes "rwrite") (AName ∷ TheRestOf 1 488 ∷ []) step.Rwrite (name then text then tt)
-worded (step.Rclose name) = in_words (codes "rclose") (AName ∷ []) step.Rclose (name then tt)
-
--- the words of a step are of its row
-abbrev pub is_step : Step → Bool
-is_step s = values_fit (worded s).row.kinds (worded s).values
+worded s = told_in_words in_words s
 
 abbrev pub step_row : Step → StepRow
 step_row s = (worded s).row

@@ -1,5 +1,5 @@
 -- What a step spells is read as it, stands on one line and isn't passed over.
-use Rattle.std.proofs.Common.{◌≡◌, ℕ, ◌<◌, ◌^◌, ◌==◌, true, false, not, List, [], ◌∷◌, ◌++◌, length, refl, sym, ap, ◌∙◌, arith, Option, Some, None, append-nil}
+use Rattle.std.proofs.Common.{◌≡◌, ℕ, ◌<◌, ◌^◌, ◌==◌, true, false, not, List, [], ◌∷◌, ◌++◌, length, refl, sym, ap, subst, ◌∙◌, arith, Option, Some, None, append-nil}
 use Rattle.std.specs.Prelude.{decimal, option_map, if◌then◌else◌}
 use Rattle.std.specs.Option.{option_and_then}
 use Rattle.std.specs.List.{list_all}
@@ -66,7 +66,9 @@ word-letters (b ∷ word) are = are
 pub one-step : (s : Step) → is_step s ≡ true → AreFree 10 (words_of_step s)
 one-step s fit =
     let row = (known s).row in
-    (letters-free 10 apart-newline (worded s).row.word (word-letters (worded s).row.word row.letters), values-free (worded s).row.kinds (worded s).values row.readable fit)
+    subst (AreFree 10) (sym (known s).words)
+    (letters-free 10 apart-newline (worded s).row.word (word-letters (worded s).row.word row.letters),
+    values-free (worded s).row.kinds (worded s).values row.readable (sym (known s).fits ∙ fit))
 
 loud-letter : (b : ℕ) → is_letter b ≡ true → not (b == 35) ≡ true
 loud-letter b is = grind (arith, nat_tests)
@@ -79,8 +81,8 @@ loud-word (b ∷ word) (next ∷ words) are = loud-letter b ((and_parts (is_lett
 -- the line of a step isn't passed over
 pub loud-step : (s : Step) → speaks (spaced_line (words_of_step s)) ≡ true
 loud-step s =
-    let row = (known s).row in
-    loud-word (worded s).row.word (spelled_values (worded s).row.kinds (worded s).values) row.letters
+    subst (λ (words : List (List ℕ)). speaks (spaced_line words) ≡ true) (sym (known s).words)
+    (loud-word (worded s).row.word (spelled_values (worded s).row.kinds (worded s).values) (known s).row.letters)
 
 -- Blanks.
 
@@ -193,12 +195,14 @@ pub record IsBack (s : Step) : Type 0 where
   pub read : step_in_line (worded s).row.word args ≡ Some (Some s)
 
 pub step-back : (s : Step) → is_step s ≡ true → IsBack s
-step-back s fit =
+step-back s old =
     let at = worded s in
     let row = (known s).row in
+    let fit = sym (known s).fits ∙ old in
     record {
       args = broken_values at.row.kinds at.values;
-      cut = values-cut at.row.kinds at.values row.readable fit at.row.word (letters-free 32 apart-blank at.row.word (word-letters at.row.word row.letters));
+      cut = ap (λ (words : List (List ℕ)). parts_at 32 (spaced_line words)) (known s).words
+          ∙ values-cut at.row.kinds at.values row.readable fit at.row.word (letters-free 32 apart-blank at.row.word (word-letters at.row.word row.letters));
       own = (known s).own (broken_values at.row.kinds at.values);
       read = ap (λ o. option_map whole_step (option_map (row_read (broken_values at.row.kinds at.values)) o)) (known s).found
           ∙ (ap (λ o. Some (whole_step o)) (values-back at.row.kinds at.row.make at.values row.readable fit)

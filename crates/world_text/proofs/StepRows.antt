@@ -7,8 +7,9 @@ use Rattle.net_base.specs.declared.world.Step.{Step}
 use Rattle.net_base.specs.declared.world.Step.TheVariants as step
 use Rattle.net_base.specs.World.{is_letter}
 use Rattle.net_base.proofs.Shared.{equal_texts}
-use Rattle.net_base.specs.StepWords.{WordKind, ANumber, PerhapsMode, TheRest, TheRestOf, ValuesOf, StepMaker, StepRow, step_row, sample_steps, worded, step_rows}
+use Rattle.net_base.specs.StepWords.{WordKind, ANumber, PerhapsMode, TheRest, TheRestOf, ValuesOf, StepMaker, StepRow, step_row, sample_steps, worded, step_rows, is_step, values_fit}
 use Rattle.world_text.specs.LineReading.{row_by_word, step_in_line, step_read, word_line}
+use Rattle.world_text.specs.WorldSpelling.{spelled_values, words_of_step}
 
 -- the step of all values
 abbrev pub applied : (ks : List WordKind) → StepMaker ks → ValuesOf ks → Step
@@ -51,39 +52,42 @@ pub record IsKnown (s : Step) : Type 0 where
   pub found : row_by_word (step_row s).word step_rows ≡ Some (step_row s)
   pub own : (args : List (List ℕ)) → word_line (step_row s).word args ≡ step_read (step_in_line (step_row s).word args)
   pub made : applied (step_row s).kinds (step_row s).make (worded s).values ≡ s
+  pub fits : is_step s ≡ values_fit (step_row s).kinds (worded s).values
+  pub words : words_of_step s ≡ (step_row s).word ∷ spelled_values (step_row s).kinds (worded s).values
   pub row : IsRow (step_row s)
 
 known_by : (s : Step) → row_by_word (step_row s).word step_rows ≡ Some (step_row s)
     → ((args : List (List ℕ)) → word_line (step_row s).word args ≡ step_read (step_in_line (step_row s).word args))
-    → applied (step_row s).kinds (step_row s).make (worded s).values ≡ s → are_letters (step_row s).word ≡ true → are_readable (step_row s).kinds ≡ true → Says (step_row s) → IsKnown s
-known_by s found own made letters readable says =
-    record { found = found; own = own; made = made; row = record { letters = letters; readable = readable; says = says } }
+    → applied (step_row s).kinds (step_row s).make (worded s).values ≡ s → is_step s ≡ values_fit (step_row s).kinds (worded s).values
+    → words_of_step s ≡ (step_row s).word ∷ spelled_values (step_row s).kinds (worded s).values → are_letters (step_row s).word ≡ true → are_readable (step_row s).kinds ≡ true → Says (step_row s) → IsKnown s
+known_by s found own made fits words letters readable says =
+    record { found = found; own = own; made = made; fits = fits; words = words; row = record { letters = letters; readable = readable; says = says } }
 
 pub known : (s : Step) → IsKnown s
-known (step.Open name path mode) = known_by _ refl (λ args. refl) refl refl refl (λ v. refl)
-known (step.Read name count) = known_by _ refl (λ args. refl) refl refl refl (λ v. refl)
-known (step.Write name text) = known_by _ refl (λ args. refl) refl refl refl (λ v. refl)
-known (step.Writex name text) = known_by _ refl (λ args. refl) refl refl refl (λ v. refl)
-known (step.Close name) = known_by _ refl (λ args. refl) refl refl refl (λ v. refl)
-known (step.Ls path) = known_by _ refl (λ args. refl) refl refl refl (λ v. refl)
-known (step.Cs query) = known_by _ refl (λ args. refl) refl refl refl (λ v. refl)
-known (step.Until moment) = known_by _ refl (λ args. refl) refl refl refl (λ v. refl)
-known step.Refresh = known_by _ refl (λ args. refl) refl refl refl (λ v. refl)
-known (step.Dial name address) = known_by _ refl (λ args. refl) refl refl refl (λ v. refl)
-known (step.Announce name address) = known_by _ refl (λ args. refl) refl refl refl (λ v. refl)
-known (step.Listen name from) = known_by _ refl (λ args. refl) refl refl refl (λ v. refl)
-known (step.Accept name from) = known_by _ refl (λ args. refl) refl refl refl (λ v. refl)
-known (step.Reject name) = known_by _ refl (λ args. refl) refl refl refl (λ v. refl)
-known (step.Hangup name) = known_by _ refl (λ args. refl) refl refl refl (λ v. refl)
-known (step.Hread name count) = known_by _ refl (λ args. refl) refl refl refl (λ v. refl)
-known (step.Hwrite name bytes) = known_by _ refl (λ args. refl) refl refl refl (λ v. refl)
-known (step.Dns name times) = known_by _ refl (λ args. refl) refl refl refl (λ v. refl)
-known (step.Export name) = known_by _ refl (λ args. refl) refl refl refl (λ v. refl)
-known (step.Import name) = known_by _ refl (λ args. refl) refl refl refl (λ v. refl)
-known (step.Ropen name call path mode) = known_by _ refl (λ args. refl) refl refl refl (λ v. refl)
-known (step.Rread name count) = known_by _ refl (λ args. refl) refl refl refl (λ v. refl)
-known (step.Rwrite name text) = known_by _ refl (λ args. refl) refl refl refl (λ v. refl)
-known (step.Rclose name) = known_by _ refl (λ args. refl) refl refl refl (λ v. refl)
+known (step.Open name path mode) = known_by _ refl (λ args. refl) refl refl refl refl refl (λ v. refl)
+known (step.Read name count) = known_by _ refl (λ args. refl) refl refl refl refl refl (λ v. refl)
+known (step.Write name text) = known_by _ refl (λ args. refl) refl refl refl refl refl (λ v. refl)
+known (step.Writex name text) = known_by _ refl (λ args. refl) refl refl refl refl refl (λ v. refl)
+known (step.Close name) = known_by _ refl (λ args. refl) refl refl refl refl refl (λ v. refl)
+known (step.Ls path) = known_by _ refl (λ args. refl) refl refl refl refl refl (λ v. refl)
+known (step.Cs query) = known_by _ refl (λ args. refl) refl refl refl refl refl (λ v. refl)
+known (step.Until moment) = known_by _ refl (λ args. refl) refl refl refl refl refl (λ v. refl)
+known step.Refresh = known_by _ refl (λ args. refl) refl refl refl refl refl (λ v. refl)
+known (step.Dial name address) = known_by _ refl (λ args. refl) refl refl refl refl refl (λ v. refl)
+known (step.Announce name address) = known_by _ refl (λ args. refl) refl refl refl refl refl (λ v. refl)
+known (step.Listen name from) = known_by _ refl (λ args. refl) refl refl refl refl refl (λ v. refl)
+known (step.Accept name from) = known_by _ refl (λ args. refl) refl refl refl refl refl (λ v. refl)
+known (step.Reject name) = known_by _ refl (λ args. refl) refl refl refl refl refl (λ v. refl)
+known (step.Hangup name) = known_by _ refl (λ args. refl) refl refl refl refl refl (λ v. refl)
+known (step.Hread name count) = known_by _ refl (λ args. refl) refl refl refl refl refl (λ v. refl)
+known (step.Hwrite name bytes) = known_by _ refl (λ args. refl) refl refl refl refl refl (λ v. refl)
+known (step.Dns name times) = known_by _ refl (λ args. refl) refl refl refl refl refl (λ v. refl)
+known (step.Export name) = known_by _ refl (λ args. refl) refl refl refl refl refl (λ v. refl)
+known (step.Import name) = known_by _ refl (λ args. refl) refl refl refl refl refl (λ v. refl)
+known (step.Ropen name call path mode) = known_by _ refl (λ args. refl) refl refl refl refl refl (λ v. refl)
+known (step.Rread name count) = known_by _ refl (λ args. refl) refl refl refl refl refl (λ v. refl)
+known (step.Rwrite name text) = known_by _ refl (λ args. refl) refl refl refl refl refl (λ v. refl)
+known (step.Rclose name) = known_by _ refl (λ args. refl) refl refl refl refl refl (λ v. refl)
 
 -- a word and the row that it names
 pub record IsNamed (called : List ℕ) (row : StepRow) : Type 0 where

@@ -14,7 +14,7 @@ use Rattle.world_text.specs.WorldWords.{mode_named, words_left}
 use Rattle.net_base.specs.StepWords.{WordKind, AName, AWord, ARemotePath, ANumber, AMode, PerhapsMode, HexBytes, ADatagram, TheRest, TheRestOf, Value, value_fits, ValuesOf, values_fit, StepMaker, StepRow, Worded, worded, step_rows, is_step}
 use Rattle.world_text.specs.LineReading.{value_guessed, value_kept, read_value, read_values, read_word, row_by_word, row_read, step_in_line, step_where_none, whole_step}
 use Rattle.world_text.specs.WorldSpelling.{spelled_value, spelled_values, words_of_step}
-use Rattle.world_text.proofs.StepRows.{applied, are_readable, row_with, stands_before}
+use Rattle.world_text.proofs.StepRows.{applied, are_readable, known, row_with, stands_before}
 
 pub then-some : {A B : Type 0} (f : A → Option B) (o : Option A) (y : B) → option_and_then f o ≡ Some y → (x : A) × (o ≡ Some x) × (f x ≡ Some y)
 then-some f None y e = absurd (none-some y e)
@@ -182,6 +182,6 @@ step-spelled word args s e = by (row_by_word word step_rows) refl e
         let says : worded s ≡ record { row = row; values = read.values } = ap worded (sym read.made) ∙ named.stands.says read.values in
         record {
           is = read.is word ∙ (alone (spelled_values row.kinds read.values) word
-              ∙ (ap (λ (w : List ℕ). words_left (w ∷ spelled_values row.kinds read.values)) named.is ∙ ap (λ (at : Worded). words_left (says_all at)) (sym says)));
-          fit = ap says_fit says ∙ read.fit;
+              ∙ (ap (λ (w : List ℕ). words_left (w ∷ spelled_values row.kinds read.values)) named.is ∙ (ap (λ (at : Worded). words_left (says_all at)) (sym says) ∙ ap (λ (words : List (List ℕ)). words_left words) (sym (known s).words))));
+          fit = (known s).fits ∙ (ap says_fit says ∙ read.fit);
         }

@@ -19,7 +19,7 @@ use Rattle.net_base.specs.ControlWords.{dotted}
 use Rattle.net_base.specs.NdbBundle.{database, causes_of, first_bad}
 use Rattle.net_base.specs.NdbText.{is_newline, is_hash, lines_of}
 use Rattle.net_base.specs.Paths.{proto_name}
-use Rattle.net_base.specs.StepWords.{WordKind, AMode, ANumber, ADatagram, HexBytes, PerhapsMode, Value, ValuesOf, step_row, worded}
+use Rattle.net_base.specs.StepWords.{WordKind, AMode, ANumber, ADatagram, HexBytes, PerhapsMode, Value, ValuesOf, told_in_words}
 use Rattle.net_base.specs.Transcript.{hex_word, mode_word}
 use Rattle.net_base.specs.World.{IsWorld}
 use Rattle.world_text.specs.declared.line.Frames.{Frames}
@@ -128,7 +128,7 @@ spelled_values [] values = []
 spelled_values (k ∷ ks) values = spelled_value k values.first ++ spelled_values ks values.rest
 
 abbrev pub words_of_step : Step → List (List ℕ)
-words_of_step s = (step_row s).word ∷ spelled_values (step_row s).kinds (worded s).values
+words_of_step s = told_in_words (λ word ks make values. word ∷ spelled_values ks values) s
 
 abbrev pub line_of_step : Step → List ℕ
 line_of_step s = spaced_line (words_of_step s)
