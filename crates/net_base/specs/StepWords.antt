@@ -135,7 +135,8 @@ told_in_words tell (step.Dns name times) = tell (codes "dns") (AName ∷ ANumber
 -- imports
 told_in_words tell (step.Export name) = tell (codes "export") (AName ∷ []) step.Export (name then tt)
 told_in_words tell (step.Import name) = tell (codes "import") (AName ∷ []) step.Import (name then tt)
-told_in_words tell (step.Ropen name call path mode) = tell (codes "ropen") (AName ∷ AName ∷ ARemotePath ∷ AMode ∷ []) step.Ropen (name then call then path then mode then tt)
+told_in_words tell (step.Ropen name call path mode) =
+    tell (codes "ropen") (AName ∷ AName ∷ ARemotePath ∷ AMode ∷ []) step.Ropen (name then call then path then mode then tt)
 told_in_words tell (step.Rread name count) = tell (codes "rread") (AName ∷ ANumber 1 488 ∷ []) step.Rread (name then count then tt)
 told_in_words tell (step.Rwrite name text) = tell (codes "rwrite") (AName ∷ TheRestOf 1 488 ∷ []) step.Rwrite (name then text then tt)
 told_in_words tell (step.Rclose name) = tell (codes "rclose") (AName ∷ []) step.Rclose (name then tt)
@@ -171,7 +172,8 @@ datagram_samples = step.Hread [] 0 ∷ step.Hwrite [] [] ∷ step.Dns [] 0 ∷ i
 -- time and calls, and those
 abbrev pub call_samples : List Step
 call_samples =
-    step.Until 0 ∷ step.Refresh ∷ step.Dial [] [] ∷ step.Announce [] [] ∷ step.Listen [] [] ∷ step.Accept [] [] ∷ step.Reject [] ∷ step.Hangup [] ∷ datagram_samples
+    step.Until 0 ∷ step.Refresh ∷ step.Dial [] [] ∷ step.Announce [] [] ∷ step.Listen [] [] ∷ step.Accept [] []
+    ∷ step.Reject [] ∷ step.Hangup [] ∷ datagram_samples
 
 -- files, and all others
 abbrev pub sample_steps : List Step

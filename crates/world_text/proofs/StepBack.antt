@@ -66,9 +66,10 @@ word-letters (b ∷ word) are = are
 pub one-step : (s : Step) → is_step s ≡ true → AreFree 10 (words_of_step s)
 one-step s fit =
     let row = (known s).row in
-    subst (AreFree 10) (sym (known s).words)
-    (letters-free 10 apart-newline (worded s).row.word (word-letters (worded s).row.word row.letters),
-    values-free (worded s).row.kinds (worded s).values row.readable (sym (known s).fits ∙ fit))
+    subst (AreFree 10) (sym (known s).words) (
+      letters-free 10 apart-newline (worded s).row.word (word-letters (worded s).row.word row.letters),
+      values-free (worded s).row.kinds (worded s).values row.readable (sym (known s).fits ∙ fit),
+    )
 
 loud-letter : (b : ℕ) → is_letter b ≡ true → not (b == 35) ≡ true
 loud-letter b is = grind (arith, nat_tests)

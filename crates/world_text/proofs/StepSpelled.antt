@@ -182,6 +182,7 @@ step-spelled word args s e = by (row_by_word word step_rows) refl e
         let says : worded s ≡ record { row = row; values = read.values } = ap worded (sym read.made) ∙ named.stands.says read.values in
         record {
           is = read.is word ∙ (alone (spelled_values row.kinds read.values) word
-              ∙ (ap (λ (w : List ℕ). words_left (w ∷ spelled_values row.kinds read.values)) named.is ∙ (ap (λ (at : Worded). words_left (says_all at)) (sym says) ∙ ap (λ (words : List (List ℕ)). words_left words) (sym (known s).words))));
+              ∙ (ap (λ (w : List ℕ). words_left (w ∷ spelled_values row.kinds read.values)) named.is
+              ∙ (ap (λ (at : Worded). words_left (says_all at)) (sym says) ∙ ap (λ (words : List (List ℕ)). words_left words) (sym (known s).words))));
           fit = (known s).fits ∙ (ap says_fit says ∙ read.fit);
         }

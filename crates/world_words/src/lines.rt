@@ -98,7 +98,8 @@ fn told(read: Result<Option<WorldLine>, AllocError>) -> Result<WorldLine, LineFa
 /// What is read of the line of a step.
 #[tactic(auto, using(crate::proofs::Refusals::tells_refused))]
 fn step_told(read: Result<Step, LineFault>) -> Result<WorldLine, LineFault>
-    ensures { (step : Option (Option Step)) → IfOk read (λ s. step ≡ Some (Some s)) → IfErr read (λ e. IsRefused e step) → Tells result (spec.step_read step) }
+    ensures { (step : Option (Option Step)) → IfOk read (λ s. step ≡ Some (Some s)) → IfErr read (λ e. IsRefused e step)
+        → Tells result (spec.step_read step) }
 {
     match read {
         Ok(step) => Ok(WorldLine::OfScript(step)),
