@@ -61,6 +61,7 @@ pub mod Next
 pub mod Calm
 pub mod Legal
 pub mod Versions
+pub mod StepWords
 pub mod World
 pub mod Written
 pub mod Transcript

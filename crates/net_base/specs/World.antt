@@ -1,6 +1,6 @@
 -- Which worlds a file can say: each part is one that a line spells, none is missing, and they fit together.
 -- Moments are in ms, lengths in bytes, rates in thousandths.
-use Rattle.std.specs.Prelude.{◌≡◌, ℕ, ◌+◌, ◌^◌, ◌==◌, Bool, true, false, not, ◌&&◌, ◌||◌, List, [], ◌∷◌, length, map, flat_map, Some, is_some, nat_eq, nat_lt, nat_le, bit_and, bytes_eq}
+use Rattle.std.specs.Prelude.{◌≡◌, ℕ, ◌+◌, ◌^◌, ◌==◌, Bool, true, false, not, ◌&&◌, List, [], ◌∷◌, length, map, flat_map, Some, is_some, nat_eq, nat_lt, nat_le, bit_and, bytes_eq}
 use Rattle.std.specs.List.{All, list_any, list_all}
 use Rattle.net_base.specs.declared.address.Proto.{Proto}
 use Rattle.net_base.specs.declared.address.Proto.TheVariants.{Il, Udp}
@@ -11,15 +11,12 @@ use Rattle.net_base.specs.declared.world.Iface.{Iface}
 use Rattle.net_base.specs.declared.world.MediumSpec.{MediumSpec}
 use Rattle.net_base.specs.declared.world.RouteLine.{RouteLine}
 use Rattle.net_base.specs.declared.world.Script.{Script}
-use Rattle.net_base.specs.declared.world.Step.{Step}
-use Rattle.net_base.specs.declared.world.Step.TheVariants as step
 use Rattle.net_base.specs.declared.world.Version.{Version}
 use Rattle.net_base.specs.declared.world.World.{World}
-use Rattle.net_base.specs.DatagramHeaders.{has_headers}
 use Rattle.net_base.specs.NdbBundle.{reading}
 use Rattle.net_base.specs.Networks.{mask_bits}
-use Rattle.net_base.specs.Remotes.{is_remote_path}
 use Rattle.net_base.specs.Routes.{Route, route_contains, iface_routes, host_routes}
+pub use Rattle.net_base.specs.StepWords.{is_byte, is_letter, is_name, is_name_byte, is_step, is_text, is_within, is_word}
 use Rattle.net_base.specs.Versions.{are_timed}
 
 -- no two values of the list are alike
@@ -27,35 +24,7 @@ abbrev pub all_apart : {A : Type 0} → (A → A → Bool) → List A → Bool
 all_apart alike [] = true
 all_apart alike (x ∷ xs) = not (list_any (alike x) xs) && all_apart alike xs
 
--- the number lies between two others, or is one of them
-abbrev pub is_within : ℕ → ℕ → ℕ → Bool
-is_within least most n = nat_le least n && nat_le n most
-
 -- Words.
-
-abbrev pub is_letter : ℕ → Bool
-is_letter b = is_within 97 122 b
-
--- a lower-case letter, a digit or `-`
-abbrev pub is_name_byte : ℕ → Bool
-is_name_byte b = is_letter b || (is_within 48 57 b || (b == 45))
-
--- a name: 1 to 27 lower-case letters, digits and `-`, beginning with a letter
-abbrev pub is_name : List ℕ → Bool
-is_name [] = false
-is_name (b ∷ bs) = is_letter b && (list_all is_name_byte bs && nat_lt (length bs) 27)
-
-abbrev pub is_byte : ℕ → Bool
-is_byte b = nat_lt b 256
-
--- it stands on one line
-abbrev pub is_text : List ℕ → Bool
-is_text text = list_all (λ b. is_byte b && not (b == 10)) text
-
--- it is a word: not empty, without blank and newline
-abbrev pub is_word : List ℕ → Bool
-is_word [] = false
-is_word (b ∷ bs) = list_all (λ c. is_byte c && not ((c == 32) || (c == 10))) (b ∷ bs)
 
 -- a moment: 1 to 1,000,000,000
 abbrev pub is_moment : ℕ → Bool
@@ -145,34 +114,6 @@ abbrev pub addresses : HostSpec → List ℕ
 addresses h = map (λ (i : Iface). i.ip) h.ifaces
 
 -- Scripts.
-
--- a step, with the words of its row
-abbrev pub is_step : Step → Bool
-is_step (step.Open name path mode) = is_name name && is_word path
-is_step (step.Read name count) = is_name name && is_within 1 65536 count
-is_step (step.Write name text) = is_name name && is_text text
-is_step (step.Writex name text) = is_name name && list_all is_byte text
-is_step (step.Close name) = is_name name
-is_step (step.Ls path) = is_word path
-is_step (step.Cs query) = is_text query
-is_step (step.Until moment) = is_moment moment
-is_step step.Refresh = true
-is_step (step.Dial name address) = is_name name && is_word address
-is_step (step.Announce name address) = is_name name && is_word address
-is_step (step.Listen name from) = is_name name && is_name from
-is_step (step.Accept name from) = is_name name && is_name from
-is_step (step.Reject name) = is_name name
-is_step (step.Hangup name) = is_name name
-is_step (step.Hread name count) = is_name name && is_within 1 65536 count
-is_step (step.Hwrite name bytes) = is_name name && (list_all is_byte bytes && has_headers bytes)
-is_step (step.Dns name times) = is_name name && is_within 1 1000 times
--- imports
-is_step (step.Export name) = is_name name
-is_step (step.Import name) = is_name name
-is_step (step.Ropen name call path mode) = is_name name && (is_name call && (is_word path && is_remote_path path))
-is_step (step.Rread name count) = is_name name && is_within 1 488 count
-is_step (step.Rwrite name text) = is_name name && (is_text text && is_within 1 488 (length text))
-is_step (step.Rclose name) = is_name name
 
 -- a script of one of so many hosts
 abbrev pub is_script : ℕ → Script → Bool

@@ -198,8 +198,8 @@ exporting_plain h = record {
 -- a step that a file can say
 says_plain : (h : ℕ) (s : Step) → is_step s ≡ true → Says h PlainAt s
 says_plain h (step.Open called path m) is =
-    let parts = and_parts (is_name called) (is_word path) is in
-    (named h called parts.0, λ a m. word_bytes path parts.1)
+    let parts = and_parts (is_name called) (is_word path && true) is in
+    (named h called parts.0, λ a m. word_bytes path (and_parts (is_word path) true parts.1).0)
 says_plain h (step.Read called count) is = named h called (and_parts (is_name called) (is_within 1 65536 count) is).0
 says_plain h (step.Write called text) is = named h called (and_parts (is_name called) (is_text text) is).0
 says_plain h (step.Writex called text) is = named h called (and_parts (is_name called) (list_all is_byte text) is).0
@@ -227,8 +227,8 @@ says_plain h (step.Dns called times) is = (named h called (and_parts (is_name ca
 says_plain h (step.Export called) is = (named h called is, exporting_plain h)
 says_plain h (step.Import call) is = named h call is
 says_plain h (step.Ropen called call path m) is =
-    let parts = and_parts (is_name called) (is_name call && (is_word path && is_remote_path path)) is in
-    (named h called parts.0, named h call (and_parts (is_name call) (is_word path && is_remote_path path) parts.1).0)
+    let parts = and_parts (is_name called) (is_name call && ((is_word path && is_remote_path path) && true)) is in
+    (named h called parts.0, named h call (and_parts (is_name call) ((is_word path && is_remote_path path) && true) parts.1).0)
 says_plain h (step.Rread called count) is = named h called (and_parts (is_name called) (is_within 1 488 count) is).0
 says_plain h (step.Rwrite called text) is = named h called (and_parts (is_name called) (is_text text && is_within 1 488 (length text)) is).0
 says_plain h (step.Rclose called) is = named h called is

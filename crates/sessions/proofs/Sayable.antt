@@ -268,7 +268,8 @@ open_says fid mode f holds is = either_says (is_plain f.node) (option_map (openi
   where
     by : (o : Option Mode) → Says (option_map (opening_step fid f.node) o)
     by None = tt
-    by (Some m) = and_from (is_name (fid_name fid)) (is_word (path_of f.node)) (named fid holds) (path_word f.node is)
+    by (Some m) =
+        and_from (is_name (fid_name fid)) (is_word (path_of f.node) && true) (named fid holds) (and_from (is_word (path_of f.node)) true (path_word f.node is) refl)
 
 reads_says : (fid n : ℕ) → Holds 4 fid → 1 ≤ n → n ≤ 65536 → Says (Some (reading_step fid n))
 reads_says fid n holds some few = and_from (is_name (fid_name fid)) (is_within 1 65536 n) (named fid holds) (within n some few)

@@ -5,6 +5,10 @@ pub mod VersionTexts
 pub mod WorldMedia
 pub mod WorldMediums
 pub mod WorldHosts
+pub mod WordsFree
+pub mod StepRows
+pub mod StepBack
+pub mod StepSpelled
 pub mod LineSpelled
 pub mod LineBack
 pub mod WorldHostForms

@@ -8,19 +8,15 @@ use Rattle.std.proofs.lemmas.List.Splits.{join_with_byte-slice_split}
 use Rattle.std.proofs.lemmas.Option.{none-some, same_Some}
 use Rattle.net_base.specs.declared.address.Proto.{Proto}
 use Rattle.net_base.specs.declared.address.Proto.TheVariants as proto
-use Rattle.net_base.specs.declared.names.Mode.{Mode}
-use Rattle.net_base.specs.declared.names.Mode.TheVariants as mode
 use Rattle.net_base.specs.declared.timer.Timers.{Timers}
 use Rattle.net_base.specs.declared.timer.Timers.TheVariants as timers
 use Rattle.net_base.specs.declared.world.Fate.{Fate}
 use Rattle.net_base.specs.declared.world.Fate.TheVariants as fate
 use Rattle.net_base.specs.declared.world.Step.{Step}
-use Rattle.net_base.specs.declared.world.Step.TheVariants as step
 use Rattle.net_base.specs.Addresses.{parts_at, read_digits, within}
 use Rattle.net_base.specs.ControlWords.{dotted}
-use Rattle.net_base.specs.Paths.{mode_named, proto_name, proto_named}
-use Rattle.net_base.specs.Transcript.{mode_word}
-use Rattle.net_base.specs.World.{is_address, is_name, is_nets, is_step, is_within}
+use Rattle.net_base.specs.Paths.{proto_name, proto_named}
+use Rattle.net_base.specs.World.{is_address, is_name, is_nets, is_within}
 use Rattle.world_text.specs.declared.line.Frames.{Frames}
 use Rattle.world_text.specs.declared.line.Frames.TheVariants as frames
 use Rattle.world_text.specs.declared.line.HostLine.TheVariants as host
@@ -28,11 +24,12 @@ use Rattle.world_text.specs.declared.line.LineCause.{LineCause}
 use Rattle.world_text.specs.declared.line.MediumLine.TheVariants as medium
 use Rattle.world_text.specs.declared.line.WorldLine.{WorldLine}
 use Rattle.world_text.specs.declared.line.WorldLine.TheVariants as line
-use Rattle.world_text.specs.WorldWords.{Four, Three, Two, address_in, both_nets, four, hex_text, is_padded, words_left, nets_named, number_in, single_word, three, two, words_in_line}
-use Rattle.world_text.specs.LineReading.{argued, cs_of, dns_of, read_end_line, fate_from, fate_named, read_fate_line, frame_in, frames_in, frames_of, host_line_of, hread_of, hwrite_of, if_from, if_of, import_of, row_kept, medium_line_of, if_named, ndb_of, networld_of, of_one, of_two, open_of, other_of, range_from, rate_in, rates_from, rates_of, read_line, read_step_of, refresh_of, route_from, route_of, ropen_of, rread_of, rwrite_of, script_of, seed_of, start_line, step_in_line, step_read, timers_named, until_of, words_line, write_of, writex_of}
+use Rattle.world_text.specs.WorldWords.{Four, Three, Two, address_in, both_nets, four, is_padded, words_left, nets_named, number_in, single_word, three, two, words_in_line}
+use Rattle.world_text.specs.LineReading.{argued, read_end_line, fate_from, fate_named, read_fate_line, frame_in, frames_in, frames_of, host_line_of, if_from, if_of, medium_line_of, if_named, ndb_of, networld_of, range_from, rate_in, rates_from, rates_of, read_line, route_from, route_of, script_of, seed_of, start_line, step_in_line, step_read, timers_named, words_line}
 use Rattle.world_text.specs.WorldSpelling.{fate_word, frames_spelled, line_spelling, timers_word, words_of_line}
 use Rattle.world_text.specs.LineFit.{fit_frames, is_fit, is_frame, is_rate}
-use Rattle.net_base.proofs.Shared.{hex-spelled, address-dotted, number_in-spelled, equal_texts}
+use Rattle.net_base.proofs.Shared.{address-dotted, number_in-spelled, equal_texts}
+use Rattle.world_text.proofs.StepSpelled.{step-spelled, then-some}
 
 -- What words say.
 
@@ -91,10 +88,6 @@ four-is (a ∷ b ∷ []) w e = absurd (none-some w e)
 four-is (a ∷ b ∷ c ∷ []) w e = absurd (none-some w e)
 four-is (a ∷ b ∷ c ∷ d ∷ []) w e = ap (λ (v : Four). v.first ∷ v.second ∷ v.third ∷ v.fourth ∷ []) (same_Some (record { first = a; second = b; third = c; fourth = d }) w e)
 four-is (a ∷ b ∷ c ∷ d ∷ f ∷ args) w e = absurd (none-some w e)
-
-then-some : {A B : Type 0} (f : A → Option B) (o : Option A) (y : B) → option_and_then f o ≡ Some y → (x : A) × (o ≡ Some x) × (f x ≡ Some y)
-then-some f None y e = absurd (none-some y e)
-then-some f (Some x) y e = (x, refl, e)
 
 -- Numbers.
 
@@ -325,160 +318,17 @@ said-script args = said-then (codes "script" ∷ args) (λ called. if_named call
 
 -- Steps.
 
-abbrev SaidStep : List (List ℕ) → Option Step → Type 0
-SaidStep words None = ⊤
-SaidStep words (Some s) = Spells words (line.OfScript s)
-
-said-kept : (words : List (List ℕ)) (s : Step) → words_left words ≡ line_spelling (line.OfScript s) → SaidStep words (row_kept s)
-said-kept words s is = by (is_step s) refl
-  where
-    by : (b : Bool) → is_step s ≡ b → SaidStep words (if b then Some s else None)
-    by true fit = record { is = is; fit = fit }
-    by false fit = tt
-
-step-then : {A : Type 0} (words : List (List ℕ)) (f : A → Option Step) (o : Option A) → ((x : A) → o ≡ Some x → SaidStep words (f x)) → SaidStep words (option_and_then f o)
-step-then words f None h = tt
-step-then words f (Some x) h = h x refl
-
-pub mode-is : (word : List ℕ) (m : Mode) → mode_named word ≡ Some m → word ≡ mode_word m
-mode-is word m e = by (bytes_eq word (codes "r")) refl (bytes_eq word (codes "w")) refl (bytes_eq word (codes "rw")) refl e
-  where
-    by : (a : Bool) → bytes_eq word (codes "r") ≡ a → (b : Bool) → bytes_eq word (codes "w") ≡ b → (c : Bool) → bytes_eq word (codes "rw") ≡ c
-        → (if a then Some mode.Read else (if b then Some mode.Write else (if c then Some mode.Both else None))) ≡ Some m → word ≡ mode_word m
-    by true ea b eb c ec f = equal_texts word (codes "r") ea ∙ ap mode_word (same_Some mode.Read m f)
-    by false ea true eb c ec f = equal_texts word (codes "w") eb ∙ ap mode_word (same_Some mode.Write m f)
-    by false ea false eb true ec f = equal_texts word (codes "rw") ec ∙ ap mode_word (same_Some mode.Both m f)
-    by false ea false eb false ec f = absurd (none-some m f)
-
-said-open : (args : List (List ℕ)) → SaidStep (codes "open" ∷ args) (open_of args)
-said-open [] = tt
-said-open (a ∷ []) = tt
-said-open (called ∷ path ∷ []) = said-kept (codes "open" ∷ called ∷ path ∷ []) (step.Open called path None) refl
-said-open (called ∷ path ∷ word ∷ []) = step-then (codes "open" ∷ called ∷ path ∷ word ∷ []) (λ (m : Mode). row_kept (step.Open called path (Some m))) (mode_named word) (λ m e.
-    said-kept (codes "open" ∷ called ∷ path ∷ word ∷ []) (step.Open called path (Some m)) (ap (λ (w : List ℕ). words_left (codes "open" ∷ called ∷ path ∷ w ∷ [])) (mode-is word m e)))
-said-open (a ∷ b ∷ c ∷ d ∷ args) = tt
-
-said-read : (args : List (List ℕ)) → SaidStep (codes "read" ∷ args) (read_step_of args)
-said-read args = step-then (codes "read" ∷ args) (λ (w : Two). option_and_then (λ count. row_kept (step.Read w.first count)) (number_in 1 65536 w.second)) (two args) (λ w e.
-    step-then (codes "read" ∷ args) (λ count. row_kept (step.Read w.first count)) (number_in 1 65536 w.second) (λ count f.
-    said-kept (codes "read" ∷ args) (step.Read w.first count)
-    (ap (λ (vs : List (List ℕ)). words_left (codes "read" ∷ vs)) (two-is args w e ∙ ap (λ (x : List ℕ). w.first ∷ x ∷ []) (number-is 1 65536 w.second count (omega arith) f)))))
-
-said-until : (args : List (List ℕ)) → SaidStep (codes "until" ∷ args) (until_of args)
-said-until args = step-then (codes "until" ∷ args) (λ word. option_and_then (λ moment. row_kept (step.Until moment)) (number_in 1 1000000000 word)) (single_word args) (λ word e.
-    step-then (codes "until" ∷ args) (λ moment. row_kept (step.Until moment)) (number_in 1 1000000000 word) (λ moment f.
-    said-kept (codes "until" ∷ args) (step.Until moment)
-    (ap (λ (vs : List (List ℕ)). words_left (codes "until" ∷ vs)) (one-is args word e ∙ ap (λ (x : List ℕ). x ∷ []) (number-is 1 1000000000 word moment (omega arith) f)))))
-
-said-refresh : (args : List (List ℕ)) → SaidStep (codes "refresh" ∷ args) (refresh_of args)
-said-refresh [] = said-kept (codes "refresh" ∷ []) step.Refresh refl
-said-refresh (a ∷ args) = tt
-
-said-write : (args : List (List ℕ)) → SaidStep (codes "write" ∷ args) (write_of args)
-said-write [] = tt
-said-write (called ∷ []) = tt
-said-write (called ∷ word ∷ words) = said-kept (codes "write" ∷ called ∷ word ∷ words) (step.Write called (words_left (word ∷ words))) refl
-
-said-writex : (args : List (List ℕ)) → SaidStep (codes "writex" ∷ args) (writex_of args)
-said-writex args = step-then (codes "writex" ∷ args) (λ (w : Two). option_and_then (λ bytes. row_kept (step.Writex w.first bytes)) (hex_text w.second)) (two args) (λ w e.
-    step-then (codes "writex" ∷ args) (λ bytes. row_kept (step.Writex w.first bytes)) (hex_text w.second) (λ bytes f.
-    said-kept (codes "writex" ∷ args) (step.Writex w.first bytes)
-    (ap (λ (vs : List (List ℕ)). words_left (codes "writex" ∷ vs)) (two-is args w e ∙ ap (λ (x : List ℕ). w.first ∷ x ∷ []) (hex-spelled w.second bytes f)))))
-
-said-hread : (args : List (List ℕ)) → SaidStep (codes "hread" ∷ args) (hread_of args)
-said-hread args = step-then (codes "hread" ∷ args) (λ (w : Two). option_and_then (λ count. row_kept (step.Hread w.first count)) (number_in 1 65536 w.second)) (two args) (λ w e.
-    step-then (codes "hread" ∷ args) (λ count. row_kept (step.Hread w.first count)) (number_in 1 65536 w.second) (λ count f.
-    said-kept (codes "hread" ∷ args) (step.Hread w.first count)
-    (ap (λ (vs : List (List ℕ)). words_left (codes "hread" ∷ vs)) (two-is args w e ∙ ap (λ (x : List ℕ). w.first ∷ x ∷ []) (number-is 1 65536 w.second count (omega arith) f)))))
-
-said-hwrite : (args : List (List ℕ)) → SaidStep (codes "hwrite" ∷ args) (hwrite_of args)
-said-hwrite args = step-then (codes "hwrite" ∷ args) (λ (w : Two). option_and_then (λ bytes. row_kept (step.Hwrite w.first bytes)) (hex_text w.second)) (two args) (λ w e.
-    step-then (codes "hwrite" ∷ args) (λ bytes. row_kept (step.Hwrite w.first bytes)) (hex_text w.second) (λ bytes f.
-    said-kept (codes "hwrite" ∷ args) (step.Hwrite w.first bytes)
-    (ap (λ (vs : List (List ℕ)). words_left (codes "hwrite" ∷ vs)) (two-is args w e ∙ ap (λ (x : List ℕ). w.first ∷ x ∷ []) (hex-spelled w.second bytes f)))))
-
-said-dns : (args : List (List ℕ)) → SaidStep (codes "dns" ∷ args) (dns_of args)
-said-dns args = step-then (codes "dns" ∷ args) (λ (w : Two). option_and_then (λ times. row_kept (step.Dns w.first times)) (number_in 1 1000 w.second)) (two args) (λ w e.
-    step-then (codes "dns" ∷ args) (λ times. row_kept (step.Dns w.first times)) (number_in 1 1000 w.second) (λ times f.
-    said-kept (codes "dns" ∷ args) (step.Dns w.first times)
-    (ap (λ (vs : List (List ℕ)). words_left (codes "dns" ∷ vs)) (two-is args w e ∙ ap (λ (x : List ℕ). w.first ∷ x ∷ []) (number-is 1 1000 w.second times (omega arith) f)))))
-
-said-cs : (args : List (List ℕ)) → SaidStep (codes "cs" ∷ args) (cs_of args)
-said-cs [] = tt
-said-cs (word ∷ words) = said-kept (codes "cs" ∷ word ∷ words) (step.Cs (words_left (word ∷ words))) refl
-
-said-one : (word : List ℕ) (make : List ℕ → Step) (args : List (List ℕ)) → ((a : List ℕ) → words_left (word ∷ a ∷ []) ≡ line_spelling (line.OfScript (make a))) → SaidStep (word ∷ args) (of_one make args)
-said-one word make [] f = tt
-said-one word make (a ∷ []) f = said-kept (word ∷ a ∷ []) (make a) (f a)
-said-one word make (a ∷ b ∷ args) f = tt
-
-said-two : (word : List ℕ) (make : List ℕ → List ℕ → Step) (args : List (List ℕ)) → ((a b : List ℕ) → words_left (word ∷ a ∷ b ∷ []) ≡ line_spelling (line.OfScript (make a b))) → SaidStep (word ∷ args) (of_two make args)
-said-two word make [] f = tt
-said-two word make (a ∷ []) f = tt
-said-two word make (a ∷ b ∷ []) f = said-kept (word ∷ a ∷ b ∷ []) (make a b) (f a b)
-said-two word make (a ∷ b ∷ c ∷ args) f = tt
-
 abbrev SaidOwn : List (List ℕ) → Option (Option Step) → Type 0
-SaidOwn words None = ⊤
-SaidOwn words (Some o) = SaidStep words o
-
-own-if : (word : List ℕ) (args : List (List ℕ)) (called : List ℕ) (o : Option Step) (p : Option (Option Step)) → SaidStep (called ∷ args) o → SaidOwn (word ∷ args) p
-    → SaidOwn (word ∷ args) (if bytes_eq word called then Some o else p)
-own-if word args called o p here later = by (bytes_eq word called) refl
-  where
-    by : (b : Bool) → bytes_eq word called ≡ b → SaidOwn (word ∷ args) (if b then Some o else p)
-    by true is = subst (λ (w : List ℕ). SaidStep (w ∷ args) o) (sym (equal_texts word called is)) here
-    by false is = later
-
-said-ropen : (args : List (List ℕ)) → SaidStep (codes "ropen" ∷ args) (ropen_of args)
-said-ropen args = step-then (codes "ropen" ∷ args) (λ (w : Four). option_and_then (λ (m : Mode). row_kept (step.Ropen w.first w.second w.third m)) (mode_named w.fourth)) (four args) (λ w e.
-    step-then (codes "ropen" ∷ args) (λ (m : Mode). row_kept (step.Ropen w.first w.second w.third m)) (mode_named w.fourth) (λ m f.
-    said-kept (codes "ropen" ∷ args) (step.Ropen w.first w.second w.third m)
-    (ap (λ (vs : List (List ℕ)). words_left (codes "ropen" ∷ vs)) (four-is args w e ∙ ap (λ (x : List ℕ). w.first ∷ w.second ∷ w.third ∷ x ∷ []) (mode-is w.fourth m f)))))
-
-said-rread : (args : List (List ℕ)) → SaidStep (codes "rread" ∷ args) (rread_of args)
-said-rread args = step-then (codes "rread" ∷ args) (λ (w : Two). option_and_then (λ count. row_kept (step.Rread w.first count)) (number_in 1 488 w.second)) (two args) (λ w e.
-    step-then (codes "rread" ∷ args) (λ count. row_kept (step.Rread w.first count)) (number_in 1 488 w.second) (λ count f.
-    said-kept (codes "rread" ∷ args) (step.Rread w.first count)
-    (ap (λ (vs : List (List ℕ)). words_left (codes "rread" ∷ vs)) (two-is args w e ∙ ap (λ (x : List ℕ). w.first ∷ x ∷ []) (number-is 1 488 w.second count (omega arith) f)))))
-
-said-rwrite : (args : List (List ℕ)) → SaidStep (codes "rwrite" ∷ args) (rwrite_of args)
-said-rwrite [] = tt
-said-rwrite (called ∷ []) = tt
-said-rwrite (called ∷ word ∷ words) = said-kept (codes "rwrite" ∷ called ∷ word ∷ words) (step.Rwrite called (words_left (word ∷ words))) refl
-
-said-import : (word : List ℕ) (args : List (List ℕ)) → SaidOwn (word ∷ args) (import_of word args)
-said-import word args =
-    own-if word args (codes "export") (of_one (λ n. step.Export n) args) _ (said-one (codes "export") (λ n. step.Export n) args (λ a. refl))
-    (own-if word args (codes "import") (of_one (λ n. step.Import n) args) _ (said-one (codes "import") (λ n. step.Import n) args (λ a. refl))
-    (own-if word args (codes "ropen") (ropen_of args) _ (said-ropen args)
-    (own-if word args (codes "rread") (rread_of args) _ (said-rread args)
-    (own-if word args (codes "rwrite") (rwrite_of args) _ (said-rwrite args)
-    (own-if word args (codes "rclose") (of_one (λ n. step.Rclose n) args) None (said-one (codes "rclose") (λ n. step.Rclose n) args (λ a. refl)) tt)))))
-
-said-other : (word : List ℕ) (args : List (List ℕ)) → SaidOwn (word ∷ args) (other_of word args)
-said-other word args =
-    own-if word args (codes "until") (until_of args) _ (said-until args)
-    (own-if word args (codes "refresh") (refresh_of args) _ (said-refresh args)
-    (own-if word args (codes "dial") (of_two (λ n a. step.Dial n a) args) _ (said-two (codes "dial") (λ n a. step.Dial n a) args (λ a b. refl))
-    (own-if word args (codes "announce") (of_two (λ n a. step.Announce n a) args) _ (said-two (codes "announce") (λ n a. step.Announce n a) args (λ a b. refl))
-    (own-if word args (codes "listen") (of_two (λ n f. step.Listen n f) args) _ (said-two (codes "listen") (λ n f. step.Listen n f) args (λ a b. refl))
-    (own-if word args (codes "accept") (of_two (λ n f. step.Accept n f) args) _ (said-two (codes "accept") (λ n f. step.Accept n f) args (λ a b. refl))
-    (own-if word args (codes "reject") (of_one (λ n. step.Reject n) args) _ (said-one (codes "reject") (λ n. step.Reject n) args (λ a. refl))
-    (own-if word args (codes "hangup") (of_one (λ n. step.Hangup n) args) _ (said-one (codes "hangup") (λ n. step.Hangup n) args (λ a. refl))
-    (own-if word args (codes "hread") (hread_of args) _ (said-hread args)
-    (own-if word args (codes "hwrite") (hwrite_of args) _ (said-hwrite args)
-    (own-if word args (codes "dns") (dns_of args) (import_of word args) (said-dns args) (said-import word args)))))))))))
+SaidOwn words (Some (Some s)) = Spells words (line.OfScript s)
+SaidOwn words _ = ⊤
 
 said-step : (word : List ℕ) (args : List (List ℕ)) → SaidOwn (word ∷ args) (step_in_line word args)
-said-step word args =
-    own-if word args (codes "open") (open_of args) _ (said-open args)
-    (own-if word args (codes "read") (read_step_of args) _ (said-read args)
-    (own-if word args (codes "write") (write_of args) _ (said-write args)
-    (own-if word args (codes "writex") (writex_of args) _ (said-writex args)
-    (own-if word args (codes "close") (of_one (λ n. step.Close n) args) _ (said-one (codes "close") (λ n. step.Close n) args (λ a. refl))
-    (own-if word args (codes "ls") (of_one (λ p. step.Ls p) args) _ (said-one (codes "ls") (λ p. step.Ls p) args (λ a. refl))
-    (own-if word args (codes "cs") (cs_of args) (other_of word args) (said-cs args) (said-other word args)))))))
+said-step word args = by (step_in_line word args) refl
+  where
+    by : (o : Option (Option Step)) → step_in_line word args ≡ o → SaidOwn (word ∷ args) o
+    by None is = tt
+    by (Some None) is = tt
+    by (Some (Some s)) is = let spells_step = step-spelled word args s is in record { is = spells_step.is; fit = spells_step.fit }
 
 -- Lines.
 

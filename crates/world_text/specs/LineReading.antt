@@ -1,8 +1,8 @@
 -- A line of a world by itself: what its words say, whatever stands before it.
---     step_of       the step that words say
 --     *_of          a line by its first word, of its arguments
+--     step_in_line  the step of a word and its arguments
 --     read_line     any line
-use Rattle.std.specs.Prelude.{ℕ, ◌&&◌, List, [], ◌∷◌, codes, bytes_eq, Option, Some, None, Result, Ok, Err, nat_le, option_map, if◌then◌else◌}
+use Rattle.std.specs.Prelude.{ℕ, ◌&&◌, List, [], ◌∷◌, map, codes, bytes_eq, Option, Some, None, Result, Ok, Err, nat_le, option_map, if◌then◌else◌}
 use Rattle.std.specs.Option.{option_and_then}
 use Rattle.net_base.specs.declared.names.Mode.{Mode}
 use Rattle.net_base.specs.declared.timer.Timers.{Timers}
@@ -10,10 +10,10 @@ use Rattle.net_base.specs.declared.timer.Timers.TheVariants as timers
 use Rattle.net_base.specs.declared.world.Fate.{Fate}
 use Rattle.net_base.specs.declared.world.Fate.TheVariants as fate
 use Rattle.net_base.specs.declared.world.Step.{Step}
-use Rattle.net_base.specs.declared.world.Step.TheVariants as step
 use Rattle.net_base.specs.Addresses.{parts_at}
-use Rattle.net_base.specs.World.{is_name, is_nets, is_step}
 use Rattle.net_base.specs.Paths.{mode_named}
+use Rattle.net_base.specs.StepWords.{WordKind, AMode, ANumber, ADatagram, HexBytes, PerhapsMode, TheRest, TheRestOf, Value, value_fits, StepMaker, StepRow, step_row, sample_steps}
+use Rattle.net_base.specs.World.{is_name, is_nets}
 use Rattle.world_text.specs.declared.line.Frames.{Frames}
 use Rattle.world_text.specs.declared.line.Frames.TheVariants as frames
 use Rattle.world_text.specs.declared.line.HostLine.TheVariants as host
@@ -133,105 +133,58 @@ start_line args = option_map (λ start. line.OfHost (host.Start start)) (option_
 abbrev pub script_of : List (List ℕ) → Option WorldLine
 script_of args = option_and_then (λ called. if_named called (Some (line.Script called))) (single_word args)
 
--- the step, where its words are of its row
-abbrev pub row_kept : Step → Option Step
-row_kept s = if is_step s then Some s else None
+-- the value that a word spells, whether it fits or not
+abbrev pub value_guessed : (k : WordKind) → List ℕ → Option (Value k)
+value_guessed AMode word = mode_named word
+value_guessed PerhapsMode word = option_map (λ (m : Mode). Some m) (mode_named word)
+value_guessed (ANumber least most) word = number_in least most word
+value_guessed HexBytes word = hex_text word
+value_guessed ADatagram word = hex_text word
+value_guessed _ word = Some word
 
-abbrev pub open_of : List (List ℕ) → Option Step
-open_of (called ∷ path ∷ []) = row_kept (step.Open called path None)
-open_of (called ∷ path ∷ mode ∷ []) = option_and_then (λ (m : Mode). row_kept (step.Open called path (Some m))) (mode_named mode)
-open_of _ = None
+-- .. and with the words behind it, where it fits
+abbrev pub value_kept : (k : WordKind) → List (List ℕ) → Value k → Option (Value k × List (List ℕ))
+value_kept k behind value = if value_fits k value then Some (value, behind) else None
 
-abbrev pub read_step_of : List (List ℕ) → Option Step
-read_step_of args = option_and_then (λ (w : Two). option_and_then (λ count. row_kept (step.Read w.first count)) (number_in 1 65536 w.second)) (two args)
+abbrev pub read_word : (k : WordKind) → List ℕ → List (List ℕ) → Option (Value k × List (List ℕ))
+read_word k word behind = option_and_then (value_kept k behind) (value_guessed k word)
 
-abbrev pub until_of : List (List ℕ) → Option Step
-until_of args = option_and_then (λ word. option_and_then (λ moment. row_kept (step.Until moment)) (number_in 1 1000000000 word)) (single_word args)
+-- a value of the first word, or of all words, and those behind it
+abbrev pub read_value : (k : WordKind) → List (List ℕ) → Option (Value k × List (List ℕ))
+read_value PerhapsMode [] = Some (None, [])
+read_value _ [] = None
+read_value TheRest (word ∷ words) = read_word TheRest (words_left (word ∷ words)) []
+read_value (TheRestOf least most) (word ∷ words) = read_word (TheRestOf least most) (words_left (word ∷ words)) []
+read_value k (word ∷ words) = read_word k word words
 
-abbrev pub write_of : List (List ℕ) → Option Step
-write_of (called ∷ word ∷ words) = row_kept (step.Write called (words_left (word ∷ words)))
-write_of _ = None
+-- the step of the values of the first words, and the words behind those
+abbrev pub read_values : (ks : List WordKind) → StepMaker ks → List (List ℕ) → Option (Step × List (List ℕ))
+read_values [] made words = Some (made, words)
+read_values (k ∷ ks) make words = option_and_then (λ (read : Value k × List (List ℕ)). read_values ks (make read.0) read.1) (read_value k words)
 
-abbrev pub writex_of : List (List ℕ) → Option Step
-writex_of args = option_and_then (λ (w : Two). option_and_then (λ bytes. row_kept (step.Writex w.first bytes)) (hex_text w.second)) (two args)
+abbrev pub step_where_none : Step → List (List ℕ) → Option Step
+step_where_none s [] = Some s
+step_where_none s (word ∷ words) = None
 
-abbrev pub cs_of : List (List ℕ) → Option Step
-cs_of (word ∷ words) = row_kept (step.Cs (words_left (word ∷ words)))
-cs_of [] = None
+-- the step, where no word is left
+abbrev pub whole_step : Option (Step × List (List ℕ)) → Option Step
+whole_step read = option_and_then (λ (r : Step × List (List ℕ)). step_where_none r.0 r.1) read
 
--- a step with one word
-abbrev pub of_one : (List ℕ → Step) → List (List ℕ) → Option Step
-of_one make (word ∷ []) = row_kept (make word)
-of_one make _ = None
+abbrev pub row_by_word : List ℕ → List StepRow → Option StepRow
+row_by_word word [] = None
+row_by_word word (row ∷ rows) = if bytes_eq word row.word then Some row else row_by_word word rows
 
--- a step with two words
-abbrev pub of_two : (List ℕ → List ℕ → Step) → List (List ℕ) → Option Step
-of_two make (word ∷ other ∷ []) = row_kept (make word other)
-of_two make _ = None
+-- the step that a row makes of the first words, and the words behind those
+abbrev pub row_read : List (List ℕ) → StepRow → Option (Step × List (List ℕ))
+row_read words row = read_values row.kinds row.make words
 
--- `refresh` has no words
-abbrev pub refresh_of : List (List ℕ) → Option Step
-refresh_of [] = row_kept step.Refresh
-refresh_of _ = None
-
-abbrev pub hread_of : List (List ℕ) → Option Step
-hread_of args = option_and_then (λ (w : Two). option_and_then (λ count. row_kept (step.Hread w.first count)) (number_in 1 65536 w.second)) (two args)
-
-abbrev pub hwrite_of : List (List ℕ) → Option Step
-hwrite_of args = option_and_then (λ (w : Two). option_and_then (λ bytes. row_kept (step.Hwrite w.first bytes)) (hex_text w.second)) (two args)
-
-abbrev pub dns_of : List (List ℕ) → Option Step
-dns_of args = option_and_then (λ (w : Two). option_and_then (λ times. row_kept (step.Dns w.first times)) (number_in 1 1000 w.second)) (two args)
-
--- imports
-
-abbrev pub ropen_of : List (List ℕ) → Option Step
-ropen_of args =
-    option_and_then (λ (w : Four). option_and_then (λ (m : Mode). row_kept (step.Ropen w.first w.second w.third m)) (mode_named w.fourth)) (four args)
-
-abbrev pub rread_of : List (List ℕ) → Option Step
-rread_of args = option_and_then (λ (w : Two). option_and_then (λ count. row_kept (step.Rread w.first count)) (number_in 1 488 w.second)) (two args)
-
-abbrev pub rwrite_of : List (List ℕ) → Option Step
-rwrite_of (called ∷ word ∷ words) = row_kept (step.Rwrite called (words_left (word ∷ words)))
-rwrite_of _ = None
-
-abbrev pub import_of : List ℕ → List (List ℕ) → Option (Option Step)
-import_of word args =
-    if bytes_eq word (codes "export") then Some (of_one (λ n. step.Export n) args)
-    else (if bytes_eq word (codes "import") then Some (of_one (λ n. step.Import n) args)
-    else (if bytes_eq word (codes "ropen") then Some (ropen_of args)
-    else (if bytes_eq word (codes "rread") then Some (rread_of args)
-    else (if bytes_eq word (codes "rwrite") then Some (rwrite_of args)
-    else (if bytes_eq word (codes "rclose") then Some (of_one (λ n. step.Rclose n) args)
-    else None)))))
-
-abbrev pub other_of : List ℕ → List (List ℕ) → Option (Option Step)
-other_of word args =
-    if bytes_eq word (codes "until") then Some (until_of args)
-    else (if bytes_eq word (codes "refresh") then Some (refresh_of args)
-    else (if bytes_eq word (codes "dial") then Some (of_two (λ n a. step.Dial n a) args)
-    else (if bytes_eq word (codes "announce") then Some (of_two (λ n a. step.Announce n a) args)
-    else (if bytes_eq word (codes "listen") then Some (of_two (λ n f. step.Listen n f) args)
-    else (if bytes_eq word (codes "accept") then Some (of_two (λ n f. step.Accept n f) args)
-    else (if bytes_eq word (codes "reject") then Some (of_one (λ n. step.Reject n) args)
-    else (if bytes_eq word (codes "hangup") then Some (of_one (λ n. step.Hangup n) args)
-    else (if bytes_eq word (codes "hread") then Some (hread_of args)
-    else (if bytes_eq word (codes "hwrite") then Some (hwrite_of args)
-    else (if bytes_eq word (codes "dns") then Some (dns_of args)
-    else import_of word args))))))))))
+-- .. by a word that the row of one of these steps has
+abbrev pub step_begun : List Step → List ℕ → List (List ℕ) → Option (Option (Step × List (List ℕ)))
+step_begun samples word words = option_map (row_read words) (row_by_word word (map step_row samples))
 
 -- the step of a word and its arguments, which are wrong where there is none
 abbrev pub step_in_line : List ℕ → List (List ℕ) → Option (Option Step)
-step_in_line word args =
-    if bytes_eq word (codes "open") then Some (open_of args)
-    else (if bytes_eq word (codes "read") then Some (read_step_of args)
-    else (if bytes_eq word (codes "write") then Some (write_of args)
-    else (if bytes_eq word (codes "writex") then Some (writex_of args)
-    else (if bytes_eq word (codes "close") then Some (of_one (λ n. step.Close n) args)
-    else (if bytes_eq word (codes "ls") then Some (of_one (λ p. step.Ls p) args)
-    else (if bytes_eq word (codes "cs") then Some (cs_of args)
-    else other_of word args))))))
+step_in_line word args = option_map whole_step (step_begun sample_steps word args)
 
 -- Lines.
 

@@ -11,7 +11,6 @@ use Rattle.net_base.specs.declared.world.MediumSpec.{MediumSpec}
 use Rattle.net_base.specs.declared.world.RouteLine.{RouteLine}
 use Rattle.net_base.specs.declared.world.Script.{Script}
 use Rattle.net_base.specs.declared.world.Step.{Step}
-use Rattle.net_base.specs.declared.world.Step.TheVariants as step
 use Rattle.net_base.specs.declared.world.Version.{Version}
 use Rattle.net_base.specs.declared.world.World.{World}
 use Rattle.net_base.specs.declared.timer.Timers.{Timers}
@@ -20,6 +19,7 @@ use Rattle.net_base.specs.ControlWords.{dotted}
 use Rattle.net_base.specs.NdbBundle.{database, causes_of, first_bad}
 use Rattle.net_base.specs.NdbText.{is_newline, is_hash, lines_of}
 use Rattle.net_base.specs.Paths.{proto_name}
+use Rattle.net_base.specs.StepWords.{WordKind, AMode, ANumber, ADatagram, HexBytes, PerhapsMode, Value, ValuesOf, told_in_words}
 use Rattle.net_base.specs.Transcript.{hex_word, mode_word}
 use Rattle.net_base.specs.World.{IsWorld}
 use Rattle.world_text.specs.declared.line.Frames.{Frames}
@@ -113,33 +113,22 @@ host_names hosts = map (λ (h : HostSpec). h.name) hosts
 
 -- Scripts.
 
+-- the words that spell a value
+abbrev pub spelled_value : (k : WordKind) → Value k → List (List ℕ)
+spelled_value AMode m = mode_word m ∷ []
+spelled_value PerhapsMode None = []
+spelled_value PerhapsMode (Some m) = mode_word m ∷ []
+spelled_value (ANumber least most) n = decimal n ∷ []
+spelled_value HexBytes bytes = hex_word bytes ∷ []
+spelled_value ADatagram bytes = hex_word bytes ∷ []
+spelled_value _ text = text ∷ []
+
+abbrev pub spelled_values : (ks : List WordKind) → ValuesOf ks → List (List ℕ)
+spelled_values [] values = []
+spelled_values (k ∷ ks) values = spelled_value k values.first ++ spelled_values ks values.rest
+
 abbrev pub words_of_step : Step → List (List ℕ)
-words_of_step (step.Open called path None) = codes "open" ∷ called ∷ path ∷ []
-words_of_step (step.Open called path (Some m)) = codes "open" ∷ called ∷ path ∷ mode_word m ∷ []
-words_of_step (step.Read called count) = codes "read" ∷ called ∷ decimal count ∷ []
-words_of_step (step.Write called text) = codes "write" ∷ called ∷ text ∷ []
-words_of_step (step.Writex called bytes) = codes "writex" ∷ called ∷ hex_word bytes ∷ []
-words_of_step (step.Close called) = codes "close" ∷ called ∷ []
-words_of_step (step.Ls path) = codes "ls" ∷ path ∷ []
-words_of_step (step.Cs query) = codes "cs" ∷ query ∷ []
-words_of_step (step.Until moment) = codes "until" ∷ decimal moment ∷ []
-words_of_step step.Refresh = codes "refresh" ∷ []
-words_of_step (step.Dial called address) = codes "dial" ∷ called ∷ address ∷ []
-words_of_step (step.Announce called address) = codes "announce" ∷ called ∷ address ∷ []
-words_of_step (step.Listen called from) = codes "listen" ∷ called ∷ from ∷ []
-words_of_step (step.Accept called from) = codes "accept" ∷ called ∷ from ∷ []
-words_of_step (step.Reject called) = codes "reject" ∷ called ∷ []
-words_of_step (step.Hangup called) = codes "hangup" ∷ called ∷ []
-words_of_step (step.Hread called count) = codes "hread" ∷ called ∷ decimal count ∷ []
-words_of_step (step.Hwrite called bytes) = codes "hwrite" ∷ called ∷ hex_word bytes ∷ []
-words_of_step (step.Dns called times) = codes "dns" ∷ called ∷ decimal times ∷ []
--- imports
-words_of_step (step.Export called) = codes "export" ∷ called ∷ []
-words_of_step (step.Import called) = codes "import" ∷ called ∷ []
-words_of_step (step.Ropen called call path m) = codes "ropen" ∷ called ∷ call ∷ path ∷ mode_word m ∷ []
-words_of_step (step.Rread called count) = codes "rread" ∷ called ∷ decimal count ∷ []
-words_of_step (step.Rwrite called text) = codes "rwrite" ∷ called ∷ text ∷ []
-words_of_step (step.Rclose called) = codes "rclose" ∷ called ∷ []
+words_of_step s = told_in_words (λ word ks make values. word ∷ spelled_values ks values) s
 
 abbrev pub line_of_step : Step → List ℕ
 line_of_step s = spaced_line (words_of_step s)

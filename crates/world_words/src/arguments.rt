@@ -1,11 +1,15 @@
 //! The words behind the first word of a line.
-ghost use Rattle.std.specs.Prelude.{◌≡◌, ◌↔◌, ◌∷◌, [], IsTrue, Some, None, MatchOption};
-ghost use Rattle.net_base.specs.declared.world.Step.TheVariants as step;
-ghost use Rattle.world_text.specs.LineReading as reading;
+ghost use Rattle.std.specs.Prelude.{◌≡◌, ◌≢◌, ◌↔◌, ◌∷◌, [], ℕ, IsTrue, Some, None, MatchOption, IfSome, IfNone, OnOk, IfErr};
+ghost use Rattle.net_base.specs.StepWords as kind;
+ghost use Rattle.world_text.specs.declared.line.LineCause.TheVariants as cause;
+ghost use Rattle.world_text.specs.LineReading.{read_value, read_word};
 ghost use Rattle.world_text.specs.WorldWords as spec;
+ghost use Rattle.world_words.specs.declared.fault.LineFault.TheVariants as fault;
 
+use crate::fault::LineFault;
 use std::marker::Model;
 use words::{four_parts, single, split_first, two_parts};
+use world_text::LineCause;
 
 /// What stands behind the first word of a line, which contracts see as its words.
 #[derive(Drop)]
@@ -78,23 +82,45 @@ impl<'a> Arguments<'a> {
         four_parts(self.rest?, b' ')
     }
 
-    /// The first word, and all that stands behind it and its blank.
-    #[tactic(auto, using(crate::proofs::Parts::write_words, crate::proofs::Parts::write_one, crate::proofs::Parts::rwrite_words, crate::proofs::Parts::rwrite_one))]
-    pub(crate) fn name_and_text(&self) -> Option<(&'a [u8], &'a [u8])>
-        ensures write { MatchOption result (reading.write_of self.now ≡ None)
-            (λ w. reading.write_of self.now ≡ reading.row_kept (step.Write w.0.now w.1.now)) }
-        ensures rwrite { MatchOption result (reading.rwrite_of self.now ≡ None)
-            (λ w. reading.rwrite_of self.now ≡ reading.row_kept (step.Rwrite w.0.now w.1.now)) }
+    /// The same words, to be taken one by one.
+    pub(crate) fn words(&self) -> Arguments<'a>
+        ensures { result ≡ self.now }
     {
-        let (name, text) = split_first(self.rest?, b' ');
-        Some((name, text?))
+        Arguments { rest: self.rest }
     }
 
-    /// All of them, with the blanks between them.
-    #[tactic(auto, using(crate::proofs::Parts::cs_words))]
-    pub(crate) fn text(&self) -> Option<&'a [u8]>
-        ensures { MatchOption result (reading.cs_of self.now ≡ None) (λ query. reading.cs_of self.now ≡ reading.row_kept (step.Cs query.now)) }
+    /// Takes the next word.
+    pub(crate) fn next(&mut self) -> Option<&'a [u8]>
+        ensures { MatchOption result ((self.old ≡ []) × (self.new ≡ [])) (λ word. self.old ≡ word.now ∷ self.new) }
     {
-        self.rest
+        let (word, rest) = split_first(self.rest?, b' ');
+        self.rest = rest;
+        Some(word)
+    }
+
+    /// Takes all that is left, with the blanks in it.
+    #[tactic(auto, using(crate::proofs::Parts::text_words, crate::proofs::Parts::short_words))]
+    pub(crate) fn text(&mut self) -> Option<&'a [u8]>
+        ensures none { IfNone result (self.old ≡ []) }
+        ensures left { self.new ≡ [] }
+        ensures text { IfSome result (λ text. read_value kind.TheRest self.old ≡ read_word kind.TheRest text.now []) }
+        ensures short { (least most : ℕ) → IfSome result (λ text.
+            read_value (kind.TheRestOf least most) self.old ≡ read_word (kind.TheRestOf least most) text.now []) }
+    {
+        let rest = self.rest;
+        self.rest = None;
+        rest
+    }
+
+    /// That no word is left.
+    pub(crate) fn end(&self) -> Result<(), LineFault>
+        ensures ok { OnOk result (self.now ≡ []) }
+        ensures wrong { IfErr result (λ e. (e ≡ fault.Cause cause.WrongArgument) × (self.now ≢ [])) }
+    {
+        if self.is_empty() {
+            Ok(())
+        } else {
+            Err(LineFault::Cause(LineCause::WrongArgument))
+        }
     }
 }

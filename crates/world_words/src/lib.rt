@@ -9,6 +9,7 @@ mod media;
 mod names;
 mod remote_paths;
 mod steps;
+mod values;
 
 pub use fault::LineFault;
 pub use lines::read_line;

@@ -1,9 +1,9 @@
 //! A line of a world by itself.
-ghost use Rattle.std.specs.Prelude.{◌≡◌, IfOk, Option};
+ghost use Rattle.std.specs.Prelude.{◌≡◌, IfOk, IfErr, Option, Some};
 ghost use Rattle.world_text.specs.declared.line.WorldLine.{WorldLine};
 ghost use Rattle.net_base.specs.declared.world.Step.{Step};
 ghost use Rattle.world_text.specs.LineReading as spec;
-ghost use Rattle.world_words.specs.Told.{Tells};
+ghost use Rattle.world_words.specs.Told.{IsRefused, Tells};
 
 use crate::arguments::{Arguments, split_line};
 use crate::fault::LineFault;
@@ -95,21 +95,14 @@ fn told(read: Result<Option<WorldLine>, AllocError>) -> Result<WorldLine, LineFa
     }
 }
 
-fn step_told(read: Result<Option<Option<Step>>, AllocError>) -> Result<WorldLine, LineFault>
-    ensures { (step : Option (Option Step)) → IfOk read (λ r. r ≡ step) → Tells result (spec.step_read step) }
+/// What is read of the line of a step.
+#[tactic(auto, using(crate::proofs::Refusals::tells_refused))]
+fn step_told(read: Result<Step, LineFault>) -> Result<WorldLine, LineFault>
+    ensures { (step : Option (Option Step)) → IfOk read (λ s. step ≡ Some (Some s)) → IfErr read (λ e. IsRefused e step)
+        → Tells result (spec.step_read step) }
 {
     match read {
-        Ok(step) => step_read(step),
-        Err(_) => Err(LineFault::Memory),
-    }
-}
-
-fn step_read(read: Option<Option<Step>>) -> Result<WorldLine, LineFault>
-    ensures { Tells result (spec.step_read read) }
-{
-    match read {
-        Some(Some(step)) => Ok(WorldLine::OfScript(step)),
-        Some(None) => Err(LineFault::Cause(LineCause::WrongArgument)),
-        None => Err(LineFault::Cause(LineCause::UnknownWord)),
+        Ok(step) => Ok(WorldLine::OfScript(step)),
+        Err(fault) => Err(fault),
     }
 }
