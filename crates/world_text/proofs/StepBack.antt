@@ -1,5 +1,5 @@
 -- What a step spells is read as it, stands on one line and isn't passed over.
-use Rattle.std.proofs.Common.{◌≡◌, ℕ, ◌<◌, ◌^◌, ◌==◌, true, false, not, List, [], ◌∷◌, ◌++◌, length, refl, sym, ap, subst, ◌∙◌, arith, Option, Some, None, append-nil}
+use Rattle.std.proofs.Common.{◌≡◌, ℕ, ◌<◌, ◌^◌, ◌==◌, true, not, List, [], ◌∷◌, ◌++◌, length, refl, sym, ap, subst, ◌∙◌, arith, Option, Some, None, append-nil}
 use Rattle.std.specs.Prelude.{decimal, option_map, if◌then◌else◌}
 use Rattle.std.specs.Option.{option_and_then}
 use Rattle.std.specs.List.{list_all}
@@ -16,11 +16,10 @@ use Rattle.net_base.specs.Remotes.{is_remote_path}
 use Rattle.net_base.specs.Transcript.{mode_word}
 use Rattle.net_base.specs.World.{is_byte, is_letter, is_text, is_within, is_word}
 use Rattle.net_base.proofs.Shared.{IsWithout, cut_at, one_part, hex-back, hex-without, number-back, some_part}
-use Rattle.world_text.specs.WorldSpelling.{spaced_line, speaks}
 use Rattle.world_text.specs.WorldWords.{words_left}
 use Rattle.net_base.specs.StepWords.{WordKind, AName, AWord, ARemotePath, ANumber, AMode, PerhapsMode, HexBytes, ADatagram, TheRest, TheRestOf, Value, value_fits, ValuesOf, values_fit, StepMaker, worded, is_step}
 use Rattle.world_text.specs.LineReading.{value_kept, read_value, read_values, read_word, row_read, step_in_line, step_read, whole_step, words_line}
-use Rattle.world_text.specs.WorldSpelling.{spelled_value, spelled_values, words_of_step}
+use Rattle.world_text.specs.WorldSpelling.{spaced_line, speaks, spelled_value, spelled_values, words_of_step}
 use Rattle.world_text.proofs.StepRows.{applied, are_letters, are_readable, known, stands_before}
 use Rattle.world_text.proofs.WordsFree.{AreFree, apart-blank, apart-newline, free-append, letters-free, mode-free, name-free, number-free, text-free}
 

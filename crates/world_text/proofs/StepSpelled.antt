@@ -10,11 +10,10 @@ use Rattle.net_base.specs.declared.world.Step.{Step}
 use Rattle.net_base.specs.Paths.{mode_named}
 use Rattle.net_base.specs.Transcript.{mode_word}
 use Rattle.net_base.proofs.Shared.{equal_texts, hex-spelled, number_in-spelled}
-use Rattle.world_text.specs.WorldSpelling.{spaced_line}
 use Rattle.world_text.specs.WorldWords.{words_left}
 use Rattle.net_base.specs.StepWords.{WordKind, AName, AWord, ARemotePath, ANumber, AMode, PerhapsMode, HexBytes, ADatagram, TheRest, TheRestOf, Value, value_fits, ValuesOf, values_fit, StepMaker, StepRow, Worded, worded, step_rows, is_step}
 use Rattle.world_text.specs.LineReading.{value_guessed, value_kept, read_value, read_values, read_word, row_by_word, row_read, step_in_line, step_where_none, whole_step}
-use Rattle.world_text.specs.WorldSpelling.{spelled_value, spelled_values, words_of_step}
+use Rattle.world_text.specs.WorldSpelling.{spaced_line, spelled_value, spelled_values, words_of_step}
 use Rattle.world_text.proofs.StepRows.{applied, are_readable, known, row_with, stands_before}
 
 pub then-some : {A B : Type 0} (f : A → Option B) (o : Option A) (y : B) → option_and_then f o ≡ Some y → (x : A) × (o ≡ Some x) × (f x ≡ Some y)
