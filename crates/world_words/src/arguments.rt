@@ -82,7 +82,7 @@ impl<'a> Arguments<'a> {
         four_parts(self.rest?, b' ')
     }
 
-    /// The same words, to be taken one by one.
+    /// A copy of the words, to be taken one by one.
     pub(crate) fn words(&self) -> Arguments<'a>
         ensures { result ≡ self.now }
     {
