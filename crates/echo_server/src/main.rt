@@ -5,7 +5,7 @@ ghost use Rattle.std.specs.Prelude.{◌≡◌, ◌<◌, ◌≤◌, filter, lengt
 ghost use Rattle.net_base.specs.World.{IsWorld};
 ghost use Rattle.agenda.specs.PrefixLaw.{KeepsPrefixes};
 ghost use Rattle.echo_server.specs.Echoes.{sent};
-ghost use Rattle.echo_server.specs.Giving.{task_given, tasks_given};
+ghost use Rattle.echo_server.specs.Giving.{AskAsGiven, task_given, tasks_given};
 ghost use Rattle.echo_server.specs.Reading.{HaveRead, is_well_client};
 
 mod client;
@@ -56,7 +56,8 @@ fn world_of<S: Source>(alloc: Global, source: &mut S) -> Option<World>
     read_world(alloc, text.as_slice()).ok()
 }
 
-// A run on so many workers. A client that ends well has read what it wrote, and what is read at a call was written at its other end.
+// A run on so many workers: the server and the clients ask what is recorded. A client that ends well has read what it wrote, and what
+// is read at a call was written at its other end.
 fn echoes<R: Threads + Wait + Sync>(
     rt: &R,
     alloc: Global,
@@ -66,6 +67,7 @@ fn echoes<R: Threads + Wait + Sync>(
     requires world { IsWorld world.now }
     requires some { 0 < workers }
     requires few { workers ≤ 16 }
+    ensures asked { IfOk result (λ run. AskAsGiven world.now run.history) }
     ensures read { IfOk result (λ run. HaveRead run.history run.tasks.items) }
     ensures places { IfOk result (λ run. length run.tasks.items ≡ length world.now.scripts) }
     ensures prefixes { IfOk result (λ run. KeepsPrefixes world.now run.history) }

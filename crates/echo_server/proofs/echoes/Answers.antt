@@ -1,9 +1,14 @@
-use Rattle.std.proofs.Common.{sym, subst}
+use Rattle.std.proofs.Common.{ap, sym, subst, ◌∙◌}
 use Rattle.agenda.specs.Given.{AreBegun}
 use Rattle.echo_server.specs.Echoes.{claimed}
+use Rattle.echo_server.specs.Giving.{AskAs, tasks_given}
 use Rattle.echo_server.proofs.Begun.{begun_given}
 use Rattle.echo_server.proofs.Read.{have_read}
 use Rattle.echo_server.proofs.echoes.Goals as goal
+
+pub returns-clause-asked : goal.returns-clause-asked
+returns-clause-asked g c =
+    subst (λ l. AskAs l c.args.world.now c.in_ok-run.run'.history) (c.in_ok-tasks.ensures ∙ ap tasks_given c.len.ensures) c.in_ok-run.ensures.asked
 
 pub returns-clause-read : goal.returns-clause-read
 returns-clause-read g c =
