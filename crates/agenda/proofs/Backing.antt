@@ -19,9 +19,9 @@ use Rattle.host_net.specs.Answering.{AreAfter}
 use Rattle.host_net.specs.Playing.{AreGoing, guests_of, replies_of}
 use Rattle.host_net.proofs.Shared.{replies_after}
 use Rattle.net_guests.specs.Visits.{HasGuest, Visit}
-use Rattle.whole_script.specs.declared.place.PlaceTask.{PlaceTask}
-use Rattle.whole_script.specs.declared.place.PlaceTask.TheVariants as place
-use Rattle.whole_script.specs.Places as places
+use Rattle.played_task.specs.declared.place.PlaceTask.{PlaceTask}
+use Rattle.played_task.specs.declared.place.PlaceTask.TheVariants as place
+use Rattle.played_task.specs.Places as places
 use Rattle.net_base.proofs.Shared.{in_front, script_is}
 use Rattle.history_laws.proofs.Shared.{in_last}
 

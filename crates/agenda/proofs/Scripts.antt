@@ -5,7 +5,7 @@ use Rattle.net_base.specs.declared.world.World.{World}
 use Rattle.net_base.specs.Callers.{IsScript, caller_of}
 use Rattle.net_base.specs.Next.{zone_of}
 use Rattle.net_base.specs.Steps.{no_names}
-use Rattle.whole_script.specs.ScriptTasks.{Scripting, Plays}
+use Rattle.played_task.specs.ScriptTasks.{Scripting, Plays}
 
 -- the caller c of the world v is the caller d of w
 pub plays_at_first : (v w : World) (c d : ℕ) (t : Scripting) → w ≡ v → d ≡ c → ((s : Script) → caller_of w d ≡ IsScript s → Plays (zone_of w) s [] (no_names (zone_of w)) t)

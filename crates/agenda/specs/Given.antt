@@ -13,9 +13,9 @@ use Rattle.net_base.specs.Tasks.{Asking, Tasks, asking_of, told_all}
 use Rattle.history_laws.specs.Asked.{AsksInOrder}
 use Rattle.host_net.specs.Playing.{replies_of}
 use Rattle.net_guests.specs.Visits.{HasGuest, Visit}
-use Rattle.whole_script.specs.declared.place.PlaceTask.{PlaceTask}
-use Rattle.whole_script.specs.declared.place.PlaceTask.TheVariants as place
-use Rattle.whole_script.specs.Places.{GoesOwn}
+use Rattle.played_task.specs.declared.place.PlaceTask.{PlaceTask}
+use Rattle.played_task.specs.declared.place.PlaceTask.TheVariants as place
+use Rattle.played_task.specs.Places.{GoesOwn}
 
 -- the task that is given for a place, if one is
 abbrev pub task_at : {T : Type 0} → List (Option T) → ℕ → Option T

@@ -10,4 +10,4 @@ pub use outcome::{BookedRun, Run, RunError, TaskRun};
 pub use phases::{run, run_in_books};
 pub use run_record::RunEnd;
 pub use tasks::run_tasks;
-pub use whole_script::{EitherTask, OwnTask};
+pub use played_task::{EitherTask, OwnTask};

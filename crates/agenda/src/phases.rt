@@ -9,7 +9,7 @@ ghost use Rattle.net_base.specs.World.{IsWorld};
 ghost use Rattle.net_base.specs.Next.{zone_of};
 ghost use Rattle.net_base.specs.Steps.{no_names};
 ghost use Rattle.net_model.specs.Headline.{Headline};
-ghost use Rattle.whole_script.specs.ScriptTasks.{Plays};
+ghost use Rattle.played_task.specs.ScriptTasks.{Plays};
 ghost use Rattle.host_net.specs.Groups.{all_members, visits};
 ghost use Rattle.net_locks.specs.Rosters.{IsRosterOf};
 ghost use Rattle.net_guests.specs.Visits.{AreFresh};
@@ -29,7 +29,7 @@ use std::alloc::{AllocError, Global};
 use std::marker::Brand;
 use std::sync::Wait;
 use std::thread::Threads;
-use whole_script::{ScriptTask, WholeTask};
+use played_task::{ScriptTask, WholeTask};
 
 /// Runs the scripts of a world on so many workers. Where a thread can't be had, the caller does its work.
 pub fn run<R: Threads + Wait + Sync, G: Gate + Sync>(

@@ -15,7 +15,7 @@ ghost use Rattle.net_guests.specs.Visits.{AreFresh, HasGuest};
 ghost use Rattle.net_locks.specs.Rosters.{IsRosterOf};
 ghost use Rattle.prefix_law.specs.PrefixLaw.{KeepsPrefixes};
 ghost use Rattle.run_record.specs.Ends.{EndsBy};
-ghost use Rattle.whole_script.specs.Places as places;
+ghost use Rattle.played_task.specs.Places as places;
 
 use crate::deal::{Deal, deal_of};
 use crate::outcome::{RunError, TaskRun};
@@ -31,7 +31,7 @@ use std::alloc::{AllocError, Global};
 use std::marker::Brand;
 use std::sync::Wait;
 use std::thread::Threads;
-use whole_script::{OwnTask, PlaceTask};
+use played_task::{OwnTask, PlaceTask};
 
 /// Runs a world on so many workers, with tasks of one's own in the places of scripts: the task of number `c` is played on the host of
 /// the script of number `c`, whose steps aren't. Where there is none the script is played.

@@ -2,8 +2,8 @@
 use Rattle.std.proofs.Common.{◌≡◌, ℕ, zero, suc, ◌+◌, ◌==◌, Bool, true, false, List, [], ◌∷◌, ◌++◌, Option, Some, None, IfSome, codes, if◌then◌else◌, refl, subst, arith}
 use Rattle.std.proofs.lemmas.Option.{none-some, same_Some}
 use Rattle.agenda.specs.Given.{AreBegun}
-use Rattle.whole_script.specs.declared.either.EitherTask.{EitherTask}
-use Rattle.whole_script.specs.declared.either.EitherTask.TheVariants as either
+use Rattle.played_task.specs.declared.either.EitherTask.{EitherTask}
+use Rattle.played_task.specs.declared.either.EitherTask.TheVariants as either
 use Rattle.echo_server.specs.declared.client.EchoClient.{EchoClient}
 use Rattle.echo_server.specs.declared.server.EchoServer.{EchoServer}
 use Rattle.echo_server.specs.Calling as client

@@ -12,8 +12,8 @@ use Rattle.net_base.specs.Next.{own_replies}
 use Rattle.net_base.specs.Steps.{Names}
 use Rattle.agenda.specs.Given.{NoneElse, WasTold, WereTold, task_at}
 use Rattle.agenda.proofs.Shared.{script_at, task_within}
-use Rattle.whole_script.specs.declared.either.EitherTask.{EitherTask}
-use Rattle.whole_script.specs.declared.either.EitherTask.TheVariants as either
+use Rattle.played_task.specs.declared.either.EitherTask.{EitherTask}
+use Rattle.played_task.specs.declared.either.EitherTask.TheVariants as either
 use Rattle.echo_server.specs.declared.client.EchoClient.{EchoClient}
 use Rattle.echo_server.specs.declared.server.EchoServer.{EchoServer}
 use Rattle.echo_server.specs.Calling.{is_well}

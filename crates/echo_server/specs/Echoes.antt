@@ -10,8 +10,8 @@ use Rattle.echo_server.specs.declared.client.EchoClient.{EchoClient}
 use Rattle.echo_server.specs.declared.client.Stage.{Stage}
 use Rattle.echo_server.specs.declared.client.Stage.TheVariants as stage
 use Rattle.echo_server.specs.declared.server.EchoServer.{EchoServer}
-use Rattle.whole_script.specs.declared.either.EitherTask.{EitherTask}
-use Rattle.whole_script.specs.Eithers as either
+use Rattle.played_task.specs.declared.either.EitherTask.{EitherTask}
+use Rattle.played_task.specs.Eithers as either
 use Rattle.echo_server.specs.Calling.{after, after_at, at_stage, echoed, is_echo, came_back, sent_next}
 
 -- the text that a reply is, if it is one

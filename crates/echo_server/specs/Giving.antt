@@ -3,9 +3,9 @@ use Rattle.std.specs.Prelude.{ℕ, zero, suc, ◌==◌, List, [], ◌∷◌, ◌
 use Rattle.net_base.specs.declared.history.Entry.{Entry}
 use Rattle.net_base.specs.declared.world.World.{World}
 use Rattle.agenda.specs.Given.{AskInOrder}
-use Rattle.whole_script.specs.declared.either.EitherTask.{EitherTask}
-use Rattle.whole_script.specs.declared.either.EitherTask.TheVariants as either
-use Rattle.whole_script.specs.Eithers as eithers
+use Rattle.played_task.specs.declared.either.EitherTask.{EitherTask}
+use Rattle.played_task.specs.declared.either.EitherTask.TheVariants as either
+use Rattle.played_task.specs.Eithers as eithers
 use Rattle.echo_server.specs.declared.client.EchoClient.{EchoClient}
 use Rattle.echo_server.specs.declared.server.EchoServer.{EchoServer}
 use Rattle.echo_server.specs.Calling as client

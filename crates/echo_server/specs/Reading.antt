@@ -3,8 +3,8 @@ use Rattle.std.specs.Prelude.{◌≡◌, ℕ, Bool, true, false, List, Option, S
 use Rattle.net_base.specs.declared.history.Entry.{Entry}
 use Rattle.net_base.specs.Next.{own_replies}
 use Rattle.agenda.specs.Given.{task_at}
-use Rattle.whole_script.specs.declared.either.EitherTask.{EitherTask}
-use Rattle.whole_script.specs.declared.either.EitherTask.TheVariants as either
+use Rattle.played_task.specs.declared.either.EitherTask.{EitherTask}
+use Rattle.played_task.specs.declared.either.EitherTask.TheVariants as either
 use Rattle.echo_server.specs.declared.client.EchoClient.{EchoClient}
 use Rattle.echo_server.specs.declared.server.EchoServer.{EchoServer}
 use Rattle.echo_server.specs.Calling.{is_well}

@@ -23,10 +23,10 @@ use Rattle.journal.specs.declared.law.Roster.{Roster}
 use Rattle.journal.specs.declared.tokens.Sight.{Sight}
 use Rattle.journal.specs.Closing.{plain}
 use Rattle.due_moments.specs.Marks.{Covers}
-use Rattle.guest_laws.specs.Guests.{IsOfGuests}
+use Rattle.thread_laws.specs.Guests.{IsOfGuests}
 use Rattle.locked.specs.Acts.{made, act_without_copy}
-use Rattle.guest_laws.specs.Own.{AreNext, AreTimely}
-use Rattle.guest_laws.specs.Works.{entries}
+use Rattle.thread_laws.specs.Own.{AreNext, AreTimely}
+use Rattle.thread_laws.specs.Works.{entries}
 use Rattle.net_locks.specs.declared.clock.Advance.{Advance}
 use Rattle.net_locks.specs.declared.clock.Advance.TheVariants as advance
 use Rattle.net_locks.specs.declared.clock.Standing.{Standing}

@@ -7,7 +7,7 @@ ghost use Rattle.net_base.specs.Callers.{IsScript, caller_of};
 ghost use Rattle.net_base.specs.Next.{zone_of};
 ghost use Rattle.net_base.specs.Stamped.{In};
 ghost use Rattle.due_moments.specs.Marks.{Covers};
-ghost use Rattle.guest_laws.specs.Guests.{IsGuest};
+ghost use Rattle.thread_laws.specs.Guests.{IsGuest};
 ghost use Rattle.net_guests.specs.Visits.{IsFresh, IsWith, Visit};
 ghost use Rattle.net_locks.specs.Turns.{own_seen};
 

@@ -10,7 +10,7 @@ ghost use Rattle.net_base.specs.Next.{zone_of};
 ghost use Rattle.net_base.specs.World.{IsWorld};
 ghost use Rattle.journal.specs.Rule.{caller_numbers};
 ghost use Rattle.duties.specs.Queue.{work_of_duty};
-ghost use Rattle.guest_laws.specs.Guests.{IsOfGuests};
+ghost use Rattle.thread_laws.specs.Guests.{IsOfGuests};
 ghost use Rattle.net_locks.specs.Rosters.{IsRosterOf};
 ghost use Rattle.net_locks.specs.Standings.{AllStand};
 ghost use Rattle.net_guests.specs.Deciding.{LeavesGuest};
@@ -19,7 +19,7 @@ ghost use Rattle.net_locks.specs.Turns.{bare};
 
 use crate::finishing::gather;
 use crate::guest::Guest;
-use guest_laws::histories_of_guests_are_legal;
+use thread_laws::histories_of_guests_are_legal;
 use journal::{ClosedBooks, Journal, Naming, Pass};
 use locked::Machine;
 use ndb_versions::IndexedVersions;

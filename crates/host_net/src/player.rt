@@ -13,7 +13,7 @@ ghost use Rattle.host_net.specs.declared.player.Role.TheVariants as role;
 
 use crate::guest::Guest;
 use crate::net::Net;
-use guest_laws::{guests_begin, locks_keep_actors};
+use thread_laws::{guests_begin, locks_keep_actors};
 use journal::Naming;
 use net_base::{ActorName, Event, Reply, World};
 use net_locks::{Placing, Spot, Turn, WorldActor};
@@ -22,7 +22,7 @@ use script_task::replies_fit;
 use std::alloc::{AllocError, Global};
 use std::marker::Model;
 use std::sync::Wait;
-use whole_script::WholeTask;
+use played_task::WholeTask;
 
 /// Who a caller is.
 #[derive(Clone, Copy, Debug, PartialEq, Eq)]

@@ -28,7 +28,7 @@ use std::marker::Model;
 use std::sync::Wait;
 use std::thread;
 use std::thread::Threads;
-use whole_script::WholeTask as Task;
+use played_task::WholeTask as Task;
 use workers::{Crew, Pace, Shift};
 
 /// As how many calls in vain one counts whose workers waited for one another most of the time.

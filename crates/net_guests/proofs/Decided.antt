@@ -14,9 +14,9 @@ use Rattle.net_base.specs.Tasks.{Tasks}
 use Rattle.journal.specs.declared.law.Roster.{Roster}
 use Rattle.journal.specs.declared.tokens.Sight.{Sight}
 use Rattle.due_moments.specs.Marks.{Marks}
-use Rattle.guest_laws.specs.Guests.{IsGuest}
-use Rattle.guest_laws.specs.Own.{AreNext, AreTimely}
-use Rattle.guest_laws.specs.Works.{noted_net}
+use Rattle.thread_laws.specs.Guests.{IsGuest}
+use Rattle.thread_laws.specs.Own.{AreNext, AreTimely}
+use Rattle.thread_laws.specs.Works.{noted_net}
 use Rattle.net_locks.specs.declared.clock.Advance.{Advance}
 use Rattle.net_locks.specs.declared.clock.Advance.TheVariants as advance
 use Rattle.net_locks.specs.declared.calendar.Calendar.{Calendar}

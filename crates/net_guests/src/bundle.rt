@@ -12,7 +12,7 @@ ghost use Rattle.net_locks.specs.Turns.{own_seen};
 
 use due_moments::Touched;
 use duties::Duties;
-use guest_laws::{guests_begin, guests_meet};
+use thread_laws::{guests_begin, guests_meet};
 use journal::{Journal, Naming, Pass};
 use ndb_versions::IndexedVersions;
 use net_locks::{Bearer, Calendar, Placing, Visitor};

@@ -2,12 +2,12 @@
 ghost use Rattle.std.specs.Prelude.{◌≡◌, ◌==◌, ℕ, List, false};
 ghost use Rattle.net_base.specs.declared.noted.Noted.{Noted};
 ghost use Rattle.journal.specs.Tokens.{HoldsPass};
-ghost use Rattle.guest_laws.specs.Guests.{HandsOver};
+ghost use Rattle.thread_laws.specs.Guests.{HandsOver};
 ghost use Rattle.net_guests.specs.Lent.{IsAway, IsBack, with_sight};
 ghost use Rattle.net_guests.specs.Visits.{IsComplete, IsWith, Visit};
 
 use crate::bundle::Bundle;
-use guest_laws::guests_hand_over;
+use thread_laws::guests_hand_over;
 use journal::{Journal, Naming, Pass};
 use net_locks::{Placing, calendars_stay_known};
 

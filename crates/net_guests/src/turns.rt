@@ -11,7 +11,7 @@ ghost use Rattle.net_guests.specs.Visits.{IsComplete, IsSameVisit, Operated, Tak
 ghost use Rattle.net_locks.specs.Turns.{bare};
 
 use crate::bundle::Bundle;
-use guest_laws::turns_are_these;
+use thread_laws::turns_are_these;
 use journal::Naming;
 use net_base::{ActorName, Event};
 use net_locks::{Locks, Placing, Spot, Turn, WorldActor};

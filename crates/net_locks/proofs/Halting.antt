@@ -15,9 +15,9 @@ use Rattle.journal.specs.declared.tokens.Sight.{Sight}
 use Rattle.journal.specs.Rule.{Lawful}
 use Rattle.journal.specs.Tokens.{HoldsPass, Looked}
 use Rattle.net_actors.specs.Numbers.{count_in}
-use Rattle.guest_laws.specs.Guests.{IsOfGuests}
+use Rattle.thread_laws.specs.Guests.{IsOfGuests}
 use Rattle.net_locks.specs.Rosters.{IsRosterOf}
-use Rattle.guest_laws.specs.Works.{entries, noted_net}
+use Rattle.thread_laws.specs.Works.{entries, noted_net}
 use Rattle.net_locks.specs.declared.clock.Standing.{Standing}
 use Rattle.net_locks.specs.Standings.{AllStand}
 use Rattle.net_locks.specs.Turns.{HasRoom, own_seen}

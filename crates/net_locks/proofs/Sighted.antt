@@ -24,8 +24,8 @@ use Rattle.journal.specs.declared.tokens.Sight.{Sight}
 use Rattle.journal.specs.Rule.{Held}
 use Rattle.journal.specs.Tokens.{HoldsPass, HoldsAll, Looked}
 use Rattle.locked.specs.Acts.{state_at}
-use Rattle.guest_laws.specs.Named.{answer_in, named_opening}
-use Rattle.guest_laws.specs.Works.{entries, noted_net}
+use Rattle.thread_laws.specs.Named.{answer_in, named_opening}
+use Rattle.thread_laws.specs.Works.{entries, noted_net}
 use Rattle.net_locks.specs.declared.clock.Standing.{Standing}
 use Rattle.net_locks.specs.Standings.{AllStand, IsBare, StandsAt, standing_ask}
 use Rattle.net_locks.specs.Turns.{bare}

@@ -19,8 +19,8 @@ use Rattle.due_moments.specs.Marks.{Covers, Marks}
 use Rattle.duties.specs.Owing.{Owes}
 use Rattle.duties.specs.Queue.{Queue}
 use Rattle.duties.specs.WaysOf.{AreWaysOfWorld}
-use Rattle.guest_laws.specs.Guests.{IsGuest, deed_at}
-use Rattle.guest_laws.specs.Works.{noted_net}
+use Rattle.thread_laws.specs.Guests.{IsGuest, deed_at}
+use Rattle.thread_laws.specs.Works.{noted_net}
 use Rattle.net_locks.specs.declared.calendar.Calendar.{Calendar}
 use Rattle.net_locks.specs.declared.turn.Turn.{Turn}
 use Rattle.net_locks.specs.declared.turn.Turn.TheVariants as turn

@@ -10,7 +10,7 @@ use Rattle.net_base.specs.Duties.{conversations}
 use Rattle.duties.specs.declared.due.Due.{Due}
 use Rattle.duties.specs.Ticking.{due_at, dues_of}
 use Rattle.due_moments.specs.Marks.{is_marked_among}
-use Rattle.guest_laws.specs.Works.{noted_net}
+use Rattle.thread_laws.specs.Works.{noted_net}
 use Rattle.net_locks.specs.declared.calendar.Calendar.{Calendar}
 use Rattle.net_locks.specs.declared.clock.Standing.{Standing}
 

@@ -6,5 +6,5 @@ pub mod Facts
 pub mod Standings
 pub mod Knowing
 pub mod Moving
-pub use Rattle.guest_laws.specs.Guests
-pub use Rattle.guest_laws.specs.Named
+pub use Rattle.thread_laws.specs.Guests
+pub use Rattle.thread_laws.specs.Named

@@ -16,8 +16,8 @@ use Rattle.calm_laws.specs.Could.{could}
 use Rattle.journal.specs.declared.law.Roster.{Roster}
 use Rattle.journal.specs.declared.tokens.Sight.{Sight}
 use Rattle.due_moments.specs.Marks.{Covers, Marks}
-use Rattle.guest_laws.specs.Guests.{IsGuest, deed_at}
-use Rattle.guest_laws.specs.Works.{noted_net}
+use Rattle.thread_laws.specs.Guests.{IsGuest, deed_at}
+use Rattle.thread_laws.specs.Works.{noted_net}
 use Rattle.net_locks.specs.declared.clock.Advance.{Advance}
 use Rattle.net_locks.specs.declared.clock.Advance.TheVariants as advance
 use Rattle.net_locks.specs.declared.visitor.Bearer.{Bearer}

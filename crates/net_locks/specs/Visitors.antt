@@ -16,8 +16,8 @@ use Rattle.locked.specs.declared.guarded.Answer.{Answer}
 use Rattle.locked.specs.declared.guarded.Answer.TheVariants as answered
 use Rattle.due_moments.specs.Marks.{Covers, Marks}
 use Rattle.duties.specs.Owing.{most_owed}
-use Rattle.guest_laws.specs.Guests.{HasRecorded, IsGuest, IsGuestTurn, GuestRecords, deed_at}
-use Rattle.guest_laws.specs.Works.{noted_net}
+use Rattle.thread_laws.specs.Guests.{HasRecorded, IsGuest, IsGuestTurn, GuestRecords, deed_at}
+use Rattle.thread_laws.specs.Works.{noted_net}
 use Rattle.net_locks.specs.declared.calendar.Calendar.{Calendar}
 use Rattle.net_locks.specs.declared.turn.Turn.{Turn}
 use Rattle.net_locks.specs.declared.turn.Turn.TheVariants as turn

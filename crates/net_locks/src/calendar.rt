@@ -7,7 +7,7 @@ ghost use Rattle.net_base.specs.declared.world.World.{World as AnyWorld};
 ghost use Rattle.net_base.specs.Actors.{Actor};
 ghost use Rattle.journal.specs.Tokens.{HoldsAll};
 ghost use Rattle.duties.specs.Ticking.{dues_of};
-ghost use Rattle.guest_laws.specs.Works.{noted_net};
+ghost use Rattle.thread_laws.specs.Works.{noted_net};
 ghost use Rattle.net_locks.specs.Standings.{AllStand};
 ghost use Rattle.net_locks.specs.Knowing.{AreMixed, IsKnown, all_touched, due_from, have_told, touched_count};
 
@@ -18,7 +18,7 @@ use crate::placing::Placing;
 use calm_laws::conversations_are_these;
 use due_moments::{DueMoments, puts_keep_the_dues};
 use duties::Due;
-use guest_laws::{locks_keep_actors, nets_of_works_grow};
+use thread_laws::{locks_keep_actors, nets_of_works_grow};
 use history_laws::same_actors_are_equal;
 use journal::{Naming, Pass};
 use locked::View;

@@ -12,8 +12,8 @@ ghost use Rattle.calm_laws.specs.Could.{could, is_full};
 ghost use Rattle.journal.specs.Rule.{Lawful};
 ghost use Rattle.journal.specs.Tokens.{HoldsAll};
 ghost use Rattle.duties.specs.Ticking.{dues_of};
-ghost use Rattle.guest_laws.specs.Guests.{IsGuest, IsOfGuests};
-ghost use Rattle.guest_laws.specs.Works.{noted_net};
+ghost use Rattle.thread_laws.specs.Guests.{IsGuest, IsOfGuests};
+ghost use Rattle.thread_laws.specs.Works.{noted_net};
 ghost use Rattle.net_locks.specs.Standings.{AllStand, FindsBusy, StandsAt, standing_moments, awaited_of, standing_callers, moments_of_dues, has_left};
 ghost use Rattle.net_locks.specs.Moving.{Halts, MayGo, MayLeave, MayMove};
 ghost use Rattle.net_locks.specs.Knowing.{IsKnown};
@@ -32,7 +32,7 @@ use calm_laws::{
 };
 use due_moments::Touched;
 use duties::{Due, Duties, a_move_owes_its_ticks};
-use guest_laws::{
+use thread_laws::{
     guests_record, guests_stay_by_others, locks_keep_actors, nets_of_works_grow, turns_are_these,
 };
 use journal::{Naming, Pass};

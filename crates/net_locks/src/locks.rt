@@ -18,7 +18,7 @@ use crate::opening::NetOpened;
 use crate::placing::Placing;
 use due_moments::Touched;
 use duties::{Duties, WorldWays};
-use guest_laws::no_duty_is_the_clocks;
+use thread_laws::no_duty_is_the_clocks;
 use journal::{Book, Journal, Naming, Pass};
 use locked::{Locked, Machine};
 use net_actors::{Actor, IndexedVersions, is_among, number_of, numbers_are_apart};

@@ -4,7 +4,7 @@ use net_base::{Lines, Octets, Reply, Script, Sequence, Step};
 use script_task::{Request, Task};
 use std::alloc::{AllocError, Global};
 use std::test::*;
-use whole_script::ScriptTask;
+use played_task::ScriptTask;
 
 fn dials(alloc: Global) -> Result<Step, AllocError> {
     Ok(Step::Dial {
