@@ -24,12 +24,12 @@ use net_base::World;
 use net_locks::{Placing, WorldActor};
 use net_model::legal_histories_keep_it;
 use outside::Gate;
+use played_task::{ScriptTask, WholeTask};
 use run_record::RunEnd;
 use std::alloc::{AllocError, Global};
 use std::marker::Brand;
 use std::sync::Wait;
 use std::thread::Threads;
-use played_task::{ScriptTask, WholeTask};
 
 /// Runs the scripts of a world on so many workers. Where a thread can't be had, the caller does its work.
 pub fn run<R: Threads + Wait + Sync, G: Gate + Sync>(
@@ -149,7 +149,8 @@ fn players_of<'a, J: Naming + Placing>(
 
 // The task of a script, or one without steps for another caller.
 pub(crate) fn task_of<'a>(alloc: Global, world: &'a World, caller: u32) -> ScriptTask<'a>
-    ensures { (s : AnyScript) → caller_of world.now caller ≡ IsScript s → Plays (zone_of world.now) s [] (no_names (zone_of world.now)) result }
+    ensures { (s : AnyScript) → caller_of world.now caller ≡ IsScript s
+        → Plays (zone_of world.now) s [] (no_names (zone_of world.now)) result }
 {
     match world.scripts.as_slice().get(caller as usize) {
         Some(script) => ScriptTask::new(alloc, script),

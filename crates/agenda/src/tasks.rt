@@ -26,12 +26,12 @@ use journal::Naming;
 use net_base::World;
 use net_locks::{Placing, WorldActor};
 use outside::Gate;
+use played_task::{OwnTask, PlaceTask};
 use prefix_law::tasks_keep_prefixes;
 use std::alloc::{AllocError, Global};
 use std::marker::Brand;
 use std::sync::Wait;
 use std::thread::Threads;
-use played_task::{OwnTask, PlaceTask};
 
 /// Runs a world on so many workers, with tasks of one's own in the places of scripts: the task of number `c` is played on the host of
 /// the script of number `c`, whose steps aren't. Where there is none the script is played.
@@ -52,9 +52,11 @@ pub fn run_tasks<R: Threads + Wait + Sync, G: Gate + Sync, T: OwnTask + Drop + S
     requires begun { AreBegun T.Keeps tasks.items }
     ensures legal { IfOk result (λ run. IsLegalBy (tasks_of T.asks T.after tasks.items) world.now run.history) }
     ensures timed { IfOk result (λ run. IsTimedBy (tasks_of T.asks T.after tasks.items) world.now run.history) }
-    ensures end { IfOk result (λ run. EndsBy (tasks_of T.asks T.after tasks.items) world.now (after world.now run.history) run.end) }
+    ensures end { IfOk result (λ run. EndsBy (tasks_of T.asks T.after tasks.items) world.now
+        (after world.now run.history) run.end) }
     ensures asked { IfOk result (λ run. AskInOrder T.asks T.after world.now tasks.items run.history) }
-    ensures told { IfOk result (λ run. WereTold T.asks T.after T.Keeps world.now tasks.items run.history run.tasks.items) }
+    ensures told { IfOk result (λ run. WereTold T.asks T.after T.Keeps world.now tasks.items run.history
+        run.tasks.items) }
     ensures places { IfOk result (λ run. length run.tasks.items ≡ length world.now.scripts) }
     ensures none { IfOk result (λ run. NoneElse tasks.items run.tasks.items) }
     ensures prefixes { IfOk result (λ run. KeepsPrefixes world.now run.history) }
@@ -88,7 +90,8 @@ where
     ensures legal { IfOk result (λ run. IsLegalBy J.tasks J.world run.history) }
     ensures timed { IfOk result (λ run. IsTimedBy J.tasks J.world run.history) }
     ensures end { IfOk result (λ run. EndsBy J.tasks J.world (after J.world run.history) run.end) }
-    ensures told { IfOk result (λ run. WereTold T.asks T.after T.Keeps J.world tasks.items run.history run.tasks.items) }
+    ensures told { IfOk result (λ run. WereTold T.asks T.after T.Keeps J.world tasks.items run.history
+        run.tasks.items) }
     ensures places { IfOk result (λ run. length run.tasks.items ≡ length J.world.scripts) }
     ensures none { IfOk result (λ run. NoneElse tasks.items run.tasks.items) }
 {
@@ -154,7 +157,8 @@ fn place_task<'a, T: OwnTask>(
 ) -> PlaceTask<'a, T>
     requires begun { IfSome own (λ t. T.Keeps t []) }
     ensures { (s : AnyScript) → caller_of world.now caller ≡ IsScript s
-        → places.Goes T.asks T.after T.Keeps (option_map (asking_of T.after T.asks) own) (zone_of world.now) s [] (no_names (zone_of world.now)) result }
+        → places.Goes T.asks T.after T.Keeps (option_map (asking_of T.after T.asks) own) (zone_of world.now) s []
+        (no_names (zone_of world.now)) result }
 {
     match own {
         Some(task) => PlaceTask::Own(task),
@@ -179,7 +183,8 @@ fn ended_of<'a, J: Naming + Placing, T: OwnTask + Drop>(
     ensures all { IfOk result (λ back. (c : ℕ) → c < players.entry.callers → HasGuest c back.guests.items) }
     ensures plays { IfOk result (λ back. AreVisitsPlayed J.tasks J.world back.guests.items) }
     ensures same { IfOk result (λ back. back.guests.items ≡ visits (all_members players.entry.groups)) }
-    ensures tasks { IfOk result (λ back. AreBack T.asks T.after T.Keeps J.tasks J.world back.guests.items back.tasks.items) }
+    ensures tasks { IfOk result (λ back. AreBack T.asks T.after T.Keeps J.tasks J.world back.guests.items
+        back.tasks.items) }
     ensures many { IfOk result (λ back. length back.tasks.items ≡ length J.world.scripts) }
     ensures theirs { IfOk result (λ back. AreTheirs J.tasks back.tasks.items) }
 {
@@ -209,7 +214,8 @@ fn rows<T: OwnTask + Drop>(alloc: Global, places: usize) -> Result<Vec<Option<T>
 // The task of a place is there again.
 fn put_back<T: OwnTask + Drop>(tasks: &mut Vec<Option<T>>, place: usize, played: PlaceTask<'_, T>)
     ensures many { length tasks.new.items ≡ length tasks.old.items }
-    ensures own { IfSome (own_task played.entry) (λ t. place < length tasks.old.items → task_at tasks.new.items place ≡ Some t) }
+    ensures own { IfSome (own_task played.entry)
+        (λ t. place < length tasks.old.items → task_at tasks.new.items place ≡ Some t) }
     ensures script { IfNone (own_task played.entry) (tasks.new.items ≡ tasks.old.items) }
     ensures rest { (c : ℕ) → c ≢ place → task_at tasks.new.items c ≡ task_at tasks.old.items c }
 {

@@ -30,7 +30,8 @@ pub fn calm_is_that_nobody_could()
 
 /// Where no full caller could record, and the clock isn't full where it may move, the run isn't limited.
 pub fn nobody_is_limited()
-    ensures { (ts : Tasks) (w : World) (net : Net) → ((c : ℕ) → c < caller_count w → (is_full net c && could ts w net c) ≡ false)
+    ensures { (ts : Tasks) (w : World) (net : Net)
+        → ((c : ℕ) → c < caller_count w → (is_full net c && could ts w net c) ≡ false)
         → (is_full net (clock_number w) && movable_by ts w net) ≡ false → limited_by ts w net ≡ false }
 {}
 
@@ -38,7 +39,8 @@ pub fn nobody_is_limited()
 pub fn somebody_is_limited()
     ensures caller { (ts : Tasks) (w : World) (net : Net) (c : ℕ) → c < caller_count w → is_full net c ≡ true
         → could ts w net c ≡ true → limited_by ts w net ≡ true }
-    ensures clock { (ts : Tasks) (w : World) (net : Net) → is_full net (clock_number w) ≡ true → movable_by ts w net ≡ true
+    ensures clock { (ts : Tasks) (w : World) (net : Net) → is_full net (clock_number w) ≡ true
+        → movable_by ts w net ≡ true
         → limited_by ts w net ≡ true }
 {
     full_callers_limit();
@@ -62,7 +64,8 @@ pub fn targets_are_least()
 
 /// A move in a calm, before the end and where some script isn't through, comes in time where it goes to the target.
 pub fn moves_are_timely()
-    ensures may { (ts : Tasks) (w : World) (net : Net) → calm_by ts w net ≡ true → unfinished_by ts w net ≡ true → net.moment < w.end
+    ensures may { (ts : Tasks) (w : World) (net : Net) → calm_by ts w net ≡ true → unfinished_by ts w net ≡ true
+        → net.moment < w.end
         → movable_by ts w net ≡ true }
     ensures timely { (ts : Tasks) (w : World) (net : Net) (m : ℕ) → movable_by ts w net ≡ true → m ≡ target_by ts w net
         → IsInTimeBy ts net w (event.Move m) }

@@ -78,7 +78,11 @@ fn missing(lines: u64) -> InputError
 // An input with these parts.
 fn check_parts(alloc: Global, parts: &Parts<'_>) -> Result<CheckedInput, InputError>
     requires { parts.now.lines + length parts.now.history.now < 2 ^ 32 }
-    ensures { TellsParts (record { world = parts.now.world.now; lines = parts.now.lines; history = parts.now.history.now }) result }
+    ensures { TellsParts (record {
+      world = parts.now.world.now;
+      lines = parts.now.lines;
+      history = parts.now.history.now;
+    }) result }
 {
     match read_world(alloc, parts.world) {
         Ok(world) => check_history(alloc, world, parts),
@@ -91,7 +95,11 @@ fn check_history(alloc: Global, world: World, parts: &Parts<'_>) -> Result<Check
     requires world { IsWorld world }
     requires read { world_reading parts.now.world.now ≡ Ok world }
     requires room { parts.now.lines + length parts.now.history.now < 2 ^ 32 }
-    ensures { TellsParts (record { world = parts.now.world.now; lines = parts.now.lines; history = parts.now.history.now }) result }
+    ensures { TellsParts (record {
+      world = parts.now.world.now;
+      lines = parts.now.lines;
+      history = parts.now.history.now;
+    }) result }
 {
     match read_transcript(alloc, parts.history) {
         Ok(read) => judge(alloc, CheckedInput::of(world, read)),

@@ -19,7 +19,8 @@ pub struct Parts<'a> {
 /// The parts of an input, or how many lines it has where none is the one between. No byte is copied.
 pub fn split(input: &[u8]) -> Result<Parts<'_>, u64>
     requires { length input.now < 2 ^ 32 }
-    ensures ok { IfOk result (λ p. parts_of input.now ≡ Some (record { world = p.world.now; lines = p.lines; history = p.history.now })) }
+    ensures ok { IfOk result (λ p. parts_of input.now
+        ≡ Some (record { world = p.world.now; lines = p.lines; history = p.history.now })) }
     ensures room { IfOk result (λ p. p.lines + length p.history.now ≤ length input.now) }
     ensures err { IfErr result (λ lines. parts_of input.now ≡ None) }
     ensures count { IfErr result (λ lines. lines ≡ length (cuts_of input.now)) }

@@ -73,7 +73,12 @@ impl Answer {
 /// Tells that words give no command, and gives the status that the call ends with.
 pub fn tell_usage<K: Sink>(sink: &mut K) -> u8
     ensures { Told spec.usage result
-        (record { held = K.held sink.old; holds = K.held sink.new; before = K.faults sink.old; after = K.faults sink.new }) }
+        (record {
+          held = K.held sink.old;
+          holds = K.held sink.new;
+          before = K.faults sink.old;
+          after = K.faults sink.new;
+        }) }
 {
     tell(sink, 1, b"! usage\n")
 }
@@ -81,7 +86,12 @@ pub fn tell_usage<K: Sink>(sink: &mut K) -> u8
 /// Tells an answer, or why there is none, and gives the status that the call ends with.
 pub fn tell_answer<K: Sink>(sink: &mut K, answered: Result<Answer, TakeError>) -> u8
     ensures { IsTold answered result
-        (record { held = K.held sink.old; holds = K.held sink.new; before = K.faults sink.old; after = K.faults sink.new }) }
+        (record {
+          held = K.held sink.old;
+          holds = K.held sink.new;
+          before = K.faults sink.old;
+          after = K.faults sink.new;
+        }) }
 {
     match answered {
         Ok(answer) => tell(sink, answer.status, answer.text.as_slice()),
@@ -92,7 +102,12 @@ pub fn tell_answer<K: Sink>(sink: &mut K, answered: Result<Answer, TakeError>) -
 // Tells why there is no answer. An input over the limit is answered as a bad one.
 fn tell_error<K: Sink>(sink: &mut K, error: TakeError) -> u8
     ensures { IsTold (Err error) result
-        (record { held = K.held sink.old; holds = K.held sink.new; before = K.faults sink.old; after = K.faults sink.new }) }
+        (record {
+          held = K.held sink.old;
+          holds = K.held sink.new;
+          before = K.faults sink.old;
+          after = K.faults sink.new;
+        }) }
 {
     match error {
         TakeError::TooLarge => tell(sink, 2, b"! line 0 cause 9\n"),
@@ -104,7 +119,12 @@ fn tell_error<K: Sink>(sink: &mut K, error: TakeError) -> u8
 // Writes a text, and gives the status where it is written whole.
 fn tell<K: Sink>(sink: &mut K, status: u8, text: &[u8]) -> u8
     ensures { Told (record { status = status; text = text.now }) result
-        (record { held = K.held sink.old; holds = K.held sink.new; before = K.faults sink.old; after = K.faults sink.new }) }
+        (record {
+          held = K.held sink.old;
+          holds = K.held sink.new;
+          before = K.faults sink.old;
+          after = K.faults sink.new;
+        }) }
 {
     match write_all(sink, text) {
         Ok(()) => status,

@@ -152,7 +152,8 @@ impl Conv {
 impl Conv {
     // Whether a row of the table answers the work.
     fn is_ready(&self, work: &Work) -> bool
-        ensures { (now : ℕ) → result ≡ is_some (spec.conv_step self.now.slot work.now.event work.now.with now self.now.conv) }
+        ensures { (now : ℕ) → result ≡ is_some (spec.conv_step self.now.slot work.now.event work.now.with now
+            self.now.conv) }
     {
         match &work.event {
             Event::Begin { generation } => self.is_raised(*generation, true),
@@ -185,7 +186,8 @@ impl Conv {
     fn answer(&mut self, now: u64, work: &Work) -> Result<Option<Outcome>, AllocError>
         requires in_time { now < 2 ^ 63 }
         requires short { IsShort self.old.conv }
-        ensures ok { IfOk result (λ answer. spec.conv_step self.old.slot work.now.event work.now.with now self.old.conv ≡ as_step self.new.conv answer) }
+        ensures ok { IfOk result (λ answer. spec.conv_step self.old.slot work.now.event work.now.with now
+            self.old.conv ≡ as_step self.new.conv answer) }
         ensures slot { self.new.slot ≡ self.old.slot }
         ensures err { OnErr result (self.new ≡ self.old) }
         ensures memory { OnErr result (work_takes now work.now self.old.conv ≡ true) }

@@ -200,7 +200,8 @@ impl IlCore {
 
     /// Whether the moment has come at which it asks once more.
     pub fn is_due(&self, now: u64) -> bool
-        ensures { conv.tick_reply (timer.timer_ticks now self.now.timer).says ≡ (if result then reply.Ticked else reply.NotDue) }
+        ensures { conv.tick_reply (timer.timer_ticks now self.now.timer).says
+            ≡ (if result then reply.Ticked else reply.NotDue) }
     {
         match self.kept.due() {
             Some(due) => due <= now,

@@ -124,7 +124,8 @@ fn add_spots<L: Ledger>(
     requires each { AreSpots index.now spots.now }
     requires tuples { TuplesRead index.now read.old.tuples.keys ips.old.items }
     requires spots { SpotsRead index.now read.old.spots.keys ips.old.items }
-    ensures ips { OnOk result (Gathers (flat_map (numbers_at index.now Address) spots.now) ips.old.items ips.new.items) }
+    ensures ips { OnOk result (Gathers (flat_map (numbers_at index.now Address) spots.now) ips.old.items
+        ips.new.items) }
     ensures tuples { OnOk result (TuplesRead index.now read.new.tuples.keys ips.new.items) }
     ensures spots { OnOk result (SpotsRead index.now read.new.spots.keys ips.new.items) }
     ensures cost { steps.new ≤ steps.old + length spots.now }

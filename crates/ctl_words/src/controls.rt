@@ -112,7 +112,9 @@ fn connect_from(line: &[u8], at: &[u8], last: &[u8]) -> Option<Ctl>
 
 // What `announce` and these arguments say.
 fn announce(line: &[u8], arguments: &[u8]) -> Option<Ctl>
-    ensures { result ≡ spec.checked_control line.now (option_and_then (λ (at : List ℕ). spec.announce_of (spec.parts_of_place at)) (spec.single (slice_split (λ b. b == 32) arguments.now))) }
+    ensures { result ≡ spec.checked_control line.now
+        (option_and_then (λ (at : List ℕ). spec.announce_of (spec.parts_of_place at))
+        (spec.single (slice_split (λ b. b == 32) arguments.now))) }
 {
     match single(arguments, b' ') {
         Some(at) => announce_at(line, at),
@@ -189,7 +191,8 @@ fn announce_anywhere(line: &[u8], last: &[u8]) -> Option<Ctl>
 
 // What `bind` and these arguments say.
 fn bind(line: &[u8], arguments: &[u8]) -> Option<Ctl>
-    ensures { result ≡ spec.checked_control line.now (spec.with_number (λ n. ctl.Bind n) (slice_split (λ b. b == 32) arguments.now)) }
+    ensures { result ≡ spec.checked_control line.now
+        (spec.with_number (λ n. ctl.Bind n) (slice_split (λ b. b == 32) arguments.now)) }
 {
     let only = single(arguments, b' ')?;
     match port(only) {
@@ -200,7 +203,8 @@ fn bind(line: &[u8], arguments: &[u8]) -> Option<Ctl>
 
 // What `ttl` and these arguments say.
 fn ttl(line: &[u8], arguments: &[u8]) -> Option<Ctl>
-    ensures { result ≡ spec.checked_control line.now (spec.with_number (λ n. ctl.Ttl n) (slice_split (λ b. b == 32) arguments.now)) }
+    ensures { result ≡ spec.checked_control line.now
+        (spec.with_number (λ n. ctl.Ttl n) (slice_split (λ b. b == 32) arguments.now)) }
 {
     let only = single(arguments, b' ')?;
     match byte(only) {
@@ -211,7 +215,8 @@ fn ttl(line: &[u8], arguments: &[u8]) -> Option<Ctl>
 
 // What `tos` and these arguments say.
 fn tos(line: &[u8], arguments: &[u8]) -> Option<Ctl>
-    ensures { result ≡ spec.checked_control line.now (spec.with_number (λ n. ctl.Tos n) (slice_split (λ b. b == 32) arguments.now)) }
+    ensures { result ≡ spec.checked_control line.now
+        (spec.with_number (λ n. ctl.Tos n) (slice_split (λ b. b == 32) arguments.now)) }
 {
     let only = single(arguments, b' ')?;
     match byte(only) {

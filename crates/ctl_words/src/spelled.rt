@@ -48,7 +48,8 @@ pub fn write_ctl(ctl: &Ctl, out: &mut [u8; 48]) -> usize
 /// Whether a line is the one that a control is written as, or its short form.
 pub fn is_spelled(line: &[u8], control: &Ctl) -> bool
     requires { spec.control_in_range control.now ≡ true }
-    ensures { result ≡ (bytes_eq line.now (spec.spelling control.now) || option_map_or (λ (short : List ℕ). bytes_eq line.now short) (spec.short_spelling control.now) false) }
+    ensures { result ≡ (bytes_eq line.now (spec.spelling control.now) || option_map_or
+        (λ (short : List ℕ). bytes_eq line.now short) (spec.short_spelling control.now) false) }
 {
     let mut out = [0; 48];
     let len = write_ctl(control, &mut out);
@@ -57,7 +58,8 @@ pub fn is_spelled(line: &[u8], control: &Ctl) -> bool
 
 // Whether a line is the short form of a control.
 fn is_short(line: &[u8], control: &Ctl) -> bool
-    ensures { result ≡ option_map_or (λ (short : List ℕ). bytes_eq line.now short) (spec.short_spelling control.now) false }
+    ensures { result ≡ option_map_or (λ (short : List ℕ). bytes_eq line.now short) (spec.short_spelling control.now)
+        false }
 {
     match *control {
         Ctl::Announce {
@@ -111,7 +113,8 @@ fn write_place_with_port(
     last: u16,
 ) -> usize
     requires { length word.now ≤ 11 }
-    ensures { Lays (word.now ++ spec.place (record { ip = ip; port = port }) ++ codes " " ++ decimal last) out.old out.new result }
+    ensures { Lays (word.now ++ spec.place (record { ip = ip; port = port }) ++ codes " " ++ decimal last) out.old
+        out.new result }
 {
     write(
         out,

@@ -197,7 +197,8 @@ fn open(
     file: FileName,
     mode: Mode,
 ) -> Result<Request, AllocError>
-    ensures { IfOk result (λ q. q ≡ spec.opens_call_file name.now file mode (steps.fid_of steps.call_name fids.now.names)) }
+    ensures { IfOk result (λ q. q ≡ spec.opens_call_file name.now file mode
+        (steps.fid_of steps.call_name fids.now.names)) }
 {
     match fids.get(b".c") {
         Some(fid) => open_file(alloc, &Octets::from_slice(alloc, name)?, fid, file, mode),

@@ -78,7 +78,12 @@ impl Model for Dial {
 
     ghost Value = { Dialling };
 
-    ghost view = { λ d. record { called = d.name; address = d.address; phase = d.phase; lines = drop d.tried d.lines } };
+    ghost view = { λ d. record {
+      called = d.name;
+      address = d.address;
+      phase = d.phase;
+      lines = drop d.tried d.lines;
+    } };
 }
 
 impl Dial {

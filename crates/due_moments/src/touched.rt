@@ -22,7 +22,12 @@ impl Model for Touched {
 
     ghost Value = { Marks };
 
-    ghost view = { λ t. record { actors = t.actors.items; since = t.since; last = t.last; room = vec_capacity t.actors - vec_len t.actors } };
+    ghost view = { λ t. record {
+      actors = t.actors.items;
+      since = t.since;
+      last = t.last;
+      room = vec_capacity t.actors - vec_len t.actors;
+    } };
 }
 
 #[tactic(auto, using(crate::proofs::Covering::covers_other))]

@@ -125,7 +125,8 @@ impl Home {
     // A conversation connects with the pair that was granted.
     fn connects(self, slot: u32, generation: u64, reply: &Reply, owed: &mut Duties)
         requires { most_following reply.now ≤ owed.old.room }
-        ensures list { (r : AnyAddr) (p : Option ℕ) → AddsAsked self (event.Grant slot generation r p) reply.now owed.old owed.new }
+        ensures list { (r : AnyAddr) (p : Option ℕ) → AddsAsked self (event.Grant slot generation r p) reply.now
+            owed.old owed.new }
         ensures room { owed.old.room ≤ owed.new.room + most_following reply.now }
     {
         if let Reply::Granted { pair, start, limit } = reply {

@@ -54,7 +54,8 @@ impl EchoClient {
     }
 
     fn message(&self) -> Option<&Octets>
-        ensures { MatchOption result (spec.sent_next self.now ≡ None) (λ text. spec.sent_next self.now ≡ Some text.now) }
+        ensures { MatchOption result (spec.sent_next self.now ≡ None)
+            (λ text. spec.sent_next self.now ≡ Some text.now) }
     {
         self.messages.as_slice().get(self.echoed)
     }

@@ -18,7 +18,8 @@ use words::number_in;
 #[tactic(auto, using(crate::proofs::Told::found_by, crate::proofs::Told::only_by, crate::proofs::Told::refused_by, crate::proofs::Told::bad_by))]
 pub fn read_transcript(alloc: Global, bytes: &[u8]) -> Result<(History, Option<Octets>), LineError>
     ensures found { IfOk result (λ read. SpellsHistory bytes.now read.0 read.1) }
-    ensures only { (h : List Entry) (summary : Option (List ℕ)) → SpellsHistory bytes.now h summary → Tells h summary result }
+    ensures only { (h : List Entry) (summary : Option (List ℕ)) → SpellsHistory bytes.now h summary
+        → Tells h summary result }
     ensures refused { IfErr result (Refuses (IsBadText bytes.now)) }
     ensures bad { (line cause : ℕ) → IsBadText bytes.now line cause → TellsBad line cause result }
 {

@@ -12,7 +12,8 @@ use crate::fault::LineError;
 pub(crate) fn read_summary(before: u64, text: &[u8]) -> Result<(), LineError>
     requires room { before + 5 < 2 ^ 64 }
     ensures ok { IfOk result (λ _. spec.fault_from spec.summary_tests before (parts_at 10 text.now) ≡ None) }
-    ensures bad { IfErr result (λ e. spec.TellsFault e (spec.fault_from spec.summary_tests before (parts_at 10 text.now))) }
+    ensures bad { IfErr result (λ e. spec.TellsFault e
+        (spec.fault_from spec.summary_tests before (parts_at 10 text.now))) }
 {
     let Some(rest) = behind_steps(text) else {
         return bad_behind(before);

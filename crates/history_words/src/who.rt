@@ -78,7 +78,8 @@ pub fn put_station(out: &mut Octets, world: &World, to: Option<u32>) -> Result<(
 
 /// A caller by its number: a script, the courier of a medium, or the clock.
 pub fn put_caller(out: &mut Octets, world: &World, caller: u32) -> Result<(), AllocError>
-    ensures { OnOk result (out.new ≡ out.old ++ spaced (caller_words world.now caller (callers.caller_of world.now caller))) }
+    ensures { OnOk result (out.new ≡ out.old ++ spaced
+        (caller_words world.now caller (callers.caller_of world.now caller))) }
 {
     match world.scripts.as_slice().get(caller as usize) {
         Some(script) => put_script(out, world, caller, script),
@@ -94,7 +95,8 @@ fn put_script(
     script: &Script,
 ) -> Result<(), AllocError>
     requires { slice_get world.now.scripts caller ≡ Some script.now }
-    ensures { OnOk result (out.new ≡ out.old ++ spaced (caller_words world.now caller (callers.caller_of world.now caller))) }
+    ensures { OnOk result (out.new ≡ out.old ++ spaced
+        (caller_words world.now caller (callers.caller_of world.now caller))) }
 {
     put_numbered(out, world, b"script", caller as u64, script.host)
 }
@@ -102,7 +104,8 @@ fn put_script(
 // A caller that is no script.
 fn put_other_caller(out: &mut Octets, world: &World, caller: u32) -> Result<(), AllocError>
     requires { length world.now.scripts ≤ caller }
-    ensures { OnOk result (out.new ≡ out.old ++ spaced (caller_words world.now caller (callers.other_caller world.now caller))) }
+    ensures { OnOk result (out.new ≡ out.old ++ spaced
+        (caller_words world.now caller (callers.other_caller world.now caller))) }
 {
     let place = caller as usize - world.scripts.len();
     let media = world.media.len();

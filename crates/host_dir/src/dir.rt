@@ -62,7 +62,12 @@ impl Model for Dir {
       proto = d.proto;
       ways = d.ways;
       starts = d.starts;
-      dir = record { slots = d.slots.slots; pairs = d.slots.pairs; ports = d.ports.used; starts = given_with d.proto d.slots.pairs };
+      dir = record {
+        slots = d.slots.slots;
+        pairs = d.slots.pairs;
+        ports = d.ports.used;
+        starts = given_with d.proto d.slots.pairs;
+      };
     } };
 }
 

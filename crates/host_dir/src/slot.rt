@@ -51,7 +51,14 @@ impl Model for Slot {
 
     ghost Value = { AnySlot };
 
-    ghost view = { λ s. record { kind = s.kind; generation = s.generation; bound = s.bound; key = s.key; pair = s.pair; calls = s.calls } };
+    ghost view = { λ s. record {
+      kind = s.kind;
+      generation = s.generation;
+      bound = s.bound;
+      key = s.key;
+      pair = s.pair;
+      calls = s.calls;
+    } };
 }
 
 impl Slot {

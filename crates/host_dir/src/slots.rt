@@ -325,7 +325,10 @@ impl Slots {
         requires { n < length self.old.slots }
         ensures { self.new ≡ record self.old {
           slots =
-              slice_set self.old.slots n (record (slot_at self.old.slots n) { kind = state_name.Announced; key = Some key });
+              slice_set self.old.slots n (record (slot_at self.old.slots n) {
+                kind = state_name.Announced;
+                key = Some key;
+              });
         } }
     {
         let slot = &mut self.slots[n as usize];
@@ -350,7 +353,8 @@ impl Slots {
         ensures value { result ≡ slice_get (slot_at self.old.slots n).calls 0 }
         ensures rest { self.new ≡ record self.old {
           slots =
-              slice_set self.old.slots n (record (slot_at self.old.slots n) { calls = drop 1 (slot_at self.old.slots n).calls });
+              slice_set self.old.slots n (record (slot_at self.old.slots n)
+              { calls = drop 1 (slot_at self.old.slots n).calls });
         } }
     {
         let slot = &mut self.slots[n as usize];
@@ -362,7 +366,10 @@ impl Slots {
         requires { n < length self.old.slots }
         ensures { self.new ≡ record self.old {
           slots =
-              slice_set self.old.slots n (record (slot_at self.old.slots n) { kind = state_name.Withdrawn; calls = [] });
+              slice_set self.old.slots n (record (slot_at self.old.slots n) {
+                kind = state_name.Withdrawn;
+                calls = [];
+              });
         } }
     {
         let slot = &mut self.slots[n as usize];
@@ -374,7 +381,10 @@ impl Slots {
         requires within { n < length self.old.slots }
         requires new { pair_place pair 1 self.old.pairs ≡ None }
         ensures ok { OnOk result (self.new ≡ record {
-          slots = slice_set self.old.slots n (record (slot_at self.old.slots n) { kind = state_name.Granted; pair = Some pair });
+          slots = slice_set self.old.slots n (record (slot_at self.old.slots n) {
+            kind = state_name.Granted;
+            pair = Some pair;
+          });
           pairs = self.old.pairs ++ pair ∷ [];
         }) }
         ensures err { OnErr result (self.new ≡ self.old) }
@@ -393,10 +403,17 @@ impl Slots {
         requires new { pair_place pair 1 self.old.pairs ≡ None }
         ensures ok { OnOk result (self.new ≡ record {
           slots = slice_set
-              (slice_set self.old.slots at.free (record free_slot { kind = state_name.Granted; generation = generation; pair = Some pair }))
+              (slice_set self.old.slots at.free (record free_slot {
+                kind = state_name.Granted;
+                generation = generation;
+                pair = Some pair;
+              }))
               at.listener
               (record (slot_at self.old.slots at.listener) {
-                calls = (slot_at self.old.slots at.listener).calls ++ record { slot = at.free; generation = generation } ∷ [];
+                calls = (slot_at self.old.slots at.listener).calls ++ record {
+                  slot = at.free;
+                  generation = generation;
+                } ∷ [];
               });
           pairs = self.old.pairs ++ pair ∷ [];
         }) }

@@ -42,7 +42,8 @@ impl Starts {
 
     /// The start that comes after so many: that of the next line, or else the next drawn word, where 0 becomes 1.
     pub fn after(&self, given: usize) -> u32
-        ensures { (w : AnyWorld) → self.now.seed ≡ w.seed → result ≡ host_start w self.now.host self.now.lines (given + 1) }
+        ensures { (w : AnyWorld) → self.now.seed ≡ w.seed
+            → result ≡ host_start w self.now.host self.now.lines (given + 1) }
     {
         let lines = self.lines.as_slice();
         match lines.get(given) {

@@ -18,15 +18,15 @@ use crate::net::Net;
 use crate::player::{Player, Role};
 use crate::players::{Group, Players};
 use calm_laws::histories_are_their_callers;
-use thread_laws::histories_of_guests_are_legal;
 use journal::Naming;
 use net_base::{ActorName, Event, With, Work, World};
 use net_locks::{Advance, Placing, Standing, WorldActor};
 use outside::Gate;
+use played_task::WholeTask;
 use script_task::{Planned, plan};
 use std::alloc::{AllocError, Global};
 use std::sync::Wait;
-use played_task::WholeTask;
+use thread_laws::histories_of_guests_are_legal;
 
 fn bare(event: Event) -> Work
     ensures { result ≡ turns.bare event }

@@ -19,7 +19,6 @@ ghost use Rattle.net_locks.specs.Turns.{bare};
 
 use crate::finishing::gather;
 use crate::guest::Guest;
-use thread_laws::histories_of_guests_are_legal;
 use journal::{ClosedBooks, Journal, Naming, Pass};
 use locked::Machine;
 use ndb_versions::IndexedVersions;
@@ -32,6 +31,7 @@ use outside::Gate;
 use script_task::Request;
 use std::alloc::{AllocError, Global};
 use std::sync::{Arc, Wait};
+use thread_laws::histories_of_guests_are_legal;
 
 /// Every actor of a world behind its lock, each at its number.
 #[derive(Drop)]

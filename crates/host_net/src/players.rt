@@ -1,5 +1,5 @@
 //! Players in groups, one for each worker.
-ghost use Rattle.std.specs.Prelude.{◌≡◌, ◌⊎◌, ℕ, ◌<◌, ◌≤◌, ◌++◌, List, [], length, true, false, None, option_map, IfNone, IfOk, IfSome};
+ghost use Rattle.std.specs.Prelude.{◌≡◌, ◌⊎◌, ℕ, ◌<◌, ◌≤◌, ◌↔◌, ◌++◌, IsTrue, List, [], length, true, false, None, Some, option_map, IfNone, IfOk, IfSome};
 ghost use Rattle.std.specs.Prelude.{OnErr, OnOk, slice_index_or};
 ghost use Rattle.std.specs.List.{list_any};
 ghost use Rattle.net_base.specs.declared.history.Entry.{Entry};
@@ -11,6 +11,7 @@ ghost use Rattle.host_net.specs.Answering.{AreAfter, CannotTellOf, IsAnsweredOf,
 ghost use Rattle.host_net.specs.Groups.{AreWaiting, all_members, all_seats, caller, callers_of, dealt, joined, members, no_players, seat_of, seats, visits, with_last};
 ghost use Rattle.host_net.specs.Playing.{AreGoing, AreVisitsPlayed, IsSamePlayer, IsWaiting, guests_of};
 ghost use Rattle.net_guests.specs.Visits.{HasGuest};
+ghost use Rattle.workers.specs.Calling.{IsPaceOf, Story};
 ghost use Rattle.host_net.specs.declared.player.Played.TheVariants as played;
 ghost use Rattle.host_net.specs.declared.player.Role.TheVariants as role;
 ghost use Rattle.host_net.specs.declared.players.Round.TheVariants.{Whole};
@@ -22,13 +23,13 @@ use journal::Naming;
 use net_base::World;
 use net_locks::{Placing, WorldActor};
 use outside::Gate;
+use played_task::WholeTask as Task;
 use std::alloc::{AllocError, Global};
 use std::hint::spin_loop;
 use std::marker::Model;
 use std::sync::Wait;
 use std::thread;
 use std::thread::Threads;
-use played_task::WholeTask as Task;
 use workers::{Crew, Pace, Shift};
 
 /// As how many calls in vain one counts whose workers waited for one another most of the time.
@@ -161,7 +162,9 @@ impl<J: Naming + Placing, T: Task + Drop> Players<J, T> {
     }
 
     /// Whether threads were asked for and one couldn't be had.
-    pub fn lacks_threads(&self) -> bool {
+    pub fn lacks_threads(&self) -> bool
+        ensures { (s : Story) → IsPaceOf s self.now.pace → IsTrue result ↔ (s.threads ≡ Some false) }
+    {
         self.pace.lacks_threads()
     }
 
@@ -252,8 +255,10 @@ fn add_parts<J: Naming + Placing, T: Task + Drop>(
     parts: &mut Vec<(Guest<J>, T)>,
 ) -> Result<(), AllocError>
     ensures same { OnOk result (guests_of parts.new.items ≡ guests_of parts.old.items ++ visits (members group)) }
-    ensures plays { OnOk result (AreVisitsPlayed J.tasks J.world (guests_of parts.old.items) → AreVisitsPlayed J.tasks J.world (guests_of parts.new.items)) }
-    ensures goes { OnOk result (AreGoing T.Goes J.tasks J.world parts.old.items → AreGoing T.Goes J.tasks J.world parts.new.items) }
+    ensures plays { OnOk result (AreVisitsPlayed J.tasks J.world (guests_of parts.old.items)
+        → AreVisitsPlayed J.tasks J.world (guests_of parts.new.items)) }
+    ensures goes { OnOk result (AreGoing T.Goes J.tasks J.world parts.old.items
+        → AreGoing T.Goes J.tasks J.world parts.new.items) }
 {
     let Group {
         players,
@@ -270,8 +275,10 @@ fn add_player_parts<J: Naming + Placing, T: Task + Drop>(
     parts: &mut Vec<(Guest<J>, T)>,
 ) -> Result<(), AllocError>
     ensures same { OnOk result (guests_of parts.new.items ≡ guests_of parts.old.items ++ visits players.items) }
-    ensures plays { OnOk result (AreVisitsPlayed J.tasks J.world (guests_of parts.old.items) → AreVisitsPlayed J.tasks J.world (guests_of parts.new.items)) }
-    ensures goes { OnOk result (AreGoing T.Goes J.tasks J.world parts.old.items → AreGoing T.Goes J.tasks J.world parts.new.items) }
+    ensures plays { OnOk result (AreVisitsPlayed J.tasks J.world (guests_of parts.old.items)
+        → AreVisitsPlayed J.tasks J.world (guests_of parts.new.items)) }
+    ensures goes { OnOk result (AreGoing T.Goes J.tasks J.world parts.old.items
+        → AreGoing T.Goes J.tasks J.world parts.new.items) }
 {
     players.reverse();
     while let Some(player) = players.pop() {
@@ -286,8 +293,10 @@ fn add_clock_part<J: Naming + Placing, T: Task + Drop>(
     parts: &mut Vec<(Guest<J>, T)>,
 ) -> Result<(), AllocError>
     ensures same { OnOk result (guests_of parts.new.items ≡ guests_of parts.old.items ++ visits (with_last [] clock)) }
-    ensures plays { OnOk result (AreVisitsPlayed J.tasks J.world (guests_of parts.old.items) → AreVisitsPlayed J.tasks J.world (guests_of parts.new.items)) }
-    ensures goes { OnOk result (AreGoing T.Goes J.tasks J.world parts.old.items → AreGoing T.Goes J.tasks J.world parts.new.items) }
+    ensures plays { OnOk result (AreVisitsPlayed J.tasks J.world (guests_of parts.old.items)
+        → AreVisitsPlayed J.tasks J.world (guests_of parts.new.items)) }
+    ensures goes { OnOk result (AreGoing T.Goes J.tasks J.world parts.old.items
+        → AreGoing T.Goes J.tasks J.world parts.new.items) }
 {
     match clock {
         Some(player) => {
@@ -305,7 +314,8 @@ fn add_guests<J: Naming + Placing, T: Task + Drop>(
     guests: &mut Vec<Guest<J>>,
 ) -> Result<(), AllocError>
     ensures same { OnOk result (guests.new.items ≡ guests.old.items ++ visits (members group)) }
-    ensures plays { OnOk result (AreVisitsPlayed J.tasks J.world guests.old.items → AreVisitsPlayed J.tasks J.world guests.new.items) }
+    ensures plays { OnOk result (AreVisitsPlayed J.tasks J.world guests.old.items
+        → AreVisitsPlayed J.tasks J.world guests.new.items) }
 {
     let Group {
         players,
@@ -322,7 +332,8 @@ fn add_players<J: Naming + Placing, T: Task + Drop>(
     guests: &mut Vec<Guest<J>>,
 ) -> Result<(), AllocError>
     ensures same { OnOk result (guests.new.items ≡ guests.old.items ++ visits players.items) }
-    ensures plays { OnOk result (AreVisitsPlayed J.tasks J.world guests.old.items → AreVisitsPlayed J.tasks J.world guests.new.items) }
+    ensures plays { OnOk result (AreVisitsPlayed J.tasks J.world guests.old.items
+        → AreVisitsPlayed J.tasks J.world guests.new.items) }
 {
     players.reverse();
     while let Some(player) = players.pop() {
@@ -336,7 +347,8 @@ fn add_clock<J: Naming + Placing, T: Task + Drop>(
     guests: &mut Vec<Guest<J>>,
 ) -> Result<(), AllocError>
     ensures same { OnOk result (guests.new.items ≡ guests.old.items ++ visits (with_last [] clock)) }
-    ensures plays { OnOk result (AreVisitsPlayed J.tasks J.world guests.old.items → AreVisitsPlayed J.tasks J.world guests.new.items) }
+    ensures plays { OnOk result (AreVisitsPlayed J.tasks J.world guests.old.items
+        → AreVisitsPlayed J.tasks J.world guests.new.items) }
 {
     match clock {
         Some(player) => {
@@ -422,7 +434,8 @@ impl<J: Naming + Placing> Net<J, WorldActor<J>> {
     where
         J: Send + Sync,
         ensures seats { all_seats groups.new ≡ all_seats groups.old }
-        ensures rest { list_any (λ g. g.memory) groups.new ≡ false → AreWaiting J.tasks J.world (all_members groups.new) }
+        ensures rest { list_any (λ g. g.memory) groups.new ≡ false
+            → AreWaiting J.tasks J.world (all_members groups.new) }
     {
         pace.begin();
         for _ in rt.forever() {

@@ -56,9 +56,12 @@ pub fn encode_il(sport: u16, dport: u16, message: &IlMsg, out: &mut [u8]) -> usi
 pub fn decode_il(bytes: &[u8]) -> Result<IlView<'_>, IlError>
     requires { length bytes.now ≤ 65535 }
     // What is read is spelled so.
-    ensures found { IfOk result (λ v. SpellsIl v.sport v.dport (message_in v.kind v.spec v.id v.ack v.text.now) bytes.now) }
+    ensures found { IfOk result (λ v. SpellsIl v.sport v.dport (message_in v.kind v.spec v.id v.ack v.text.now)
+        bytes.now) }
     // What is spelled so is read.
-    ensures only { (sport dport : ℕ) (m : IlMsg) → SpellsIl sport dport m bytes.now → IsOkAnd result (λ v. (v.sport ≡ sport) × (v.dport ≡ dport) × (message_in v.kind v.spec v.id v.ack v.text.now ≡ m)) }
+    ensures only { (sport dport : ℕ) (m : IlMsg) → SpellsIl sport dport m bytes.now
+        → IsOkAnd result (λ v. (v.sport ≡ sport) × (v.dport ≡ dport)
+        × (message_in v.kind v.spec v.id v.ack v.text.now ≡ m)) }
     // Which fault it is: the first of these.
     ensures short { IsErrOf result IlError.Short ↔ (length bytes.now < 18) }
     ensures sum { IsErrOf result IlError.Sum ↔ (HasIlHeader bytes.now × (word_at 0 bytes.now ≢ il_sum bytes.now)) }
@@ -109,7 +112,8 @@ fn header_bytes(
     ack: u32,
     total: u16,
 ) -> [u8; 18]
-    ensures value { (text : List ℕ) → 18 + length text ≡ total → result ++ text ≡ il_with 0 sport dport (message_in kind spec id ack text) }
+    ensures value { (text : List ℕ) → 18 + length text ≡ total
+        → result ++ text ≡ il_with 0 sport dport (message_in kind spec id ack text) }
     ensures fits { (text : List ℕ) → IsMessage (message_in kind spec id ack text) }
 {
     let mut bytes = [0; HEADER];

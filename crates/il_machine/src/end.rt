@@ -148,7 +148,11 @@ impl IlEnd {
 
     /// Becomes Closed.
     fn close(&mut self, cause: Option<Cause>)
-        ensures { self.new ≡ record self.old { state = state.Closed; cause = cause; timer = timer.stops self.old.timer } }
+        ensures { self.new ≡ record self.old {
+          state = state.Closed;
+          cause = cause;
+          timer = timer.stops self.old.timer;
+        } }
     {
         self.state = IlState::Closed;
         self.cause = cause;

@@ -12,7 +12,8 @@ pub fn come_in_turn(unread: &mut Unread, early: &mut Early, got: u64) -> u64
     requires few { got < 2 ^ 32 }
     requires room { length unread.old.texts + length early.old ≤ 64 }
     requires near { AreWithin got (got + 20) early.old }
-    ensures moved { unread.new ≡ record unread.old { texts = unread.old.texts ++ (in_turn (length early.old) got early.old).texts } }
+    ensures moved { unread.new ≡ record unread.old
+        { texts = unread.old.texts ++ (in_turn (length early.old) got early.old).texts } }
     ensures left { early.new ≡ (in_turn (length early.old) got early.old).early }
     ensures got { result ≡ got + length (in_turn (length early.old) got early.old).texts }
     ensures near { AreWithin (result + 1) (result + 20) early.new }

@@ -61,14 +61,17 @@ pub fn decode_ip(bytes: &[u8]) -> Result<IpView<'_>, WireError>
     // What is read is spelled so.
     ensures found { IfOk result (λ v. SpellsIpv4 (view v.header) v.payload.now bytes.now) }
     // What is spelled so is read.
-    ensures only { (h : Ipv4) (payload : List ℕ) → SpellsIpv4 h payload bytes.now → IsOkAnd result (λ v. (view v.header ≡ h) × (v.payload.now ≡ payload)) }
+    ensures only { (h : Ipv4) (payload : List ℕ) → SpellsIpv4 h payload bytes.now
+        → IsOkAnd result (λ v. (view v.header ≡ h) × (v.payload.now ≡ payload)) }
     // Which fault it is: the first of these.
     ensures short { IsErrOf result WireError.Short ↔ (length bytes.now < 20) }
     ensures version { IsErrOf result WireError.Version ↔ (HasIpHeader bytes.now × (version bytes.now ≢ 4)) }
     ensures options { IsErrOf result WireError.Options ↔ (IsVersion4 bytes.now × (length_words bytes.now ≢ 5)) }
     ensures fragment { IsErrOf result WireError.Fragment ↔ (HasNoOptions bytes.now × (fragment bytes.now ≢ 0)) }
-    ensures sum { IsErrOf result WireError.Sum ↔ (IsNoFragment bytes.now × (word_at 10 bytes.now ≢ header_sum bytes.now)) }
-    ensures length { IsErrOf result WireError.Length ↔ (HasHeaderSum bytes.now × (total_length bytes.now ≢ length bytes.now)) }
+    ensures sum { IsErrOf result WireError.Sum ↔ (IsNoFragment bytes.now
+        × (word_at 10 bytes.now ≢ header_sum bytes.now)) }
+    ensures length { IsErrOf result WireError.Length
+        ↔ (HasHeaderSum bytes.now × (total_length bytes.now ≢ length bytes.now)) }
 {
     if bytes.len() < HEADER {
         return Err(WireError::Short);

@@ -41,11 +41,15 @@ pub fn decode_udp(src: u32, dst: u32, bytes: &[u8]) -> Result<UdpView<'_>, WireE
     // What is read is spelled so.
     ensures found { IfOk result (λ v. SpellsUdp (address src v.sport) (address dst v.dport) v.text.now bytes.now) }
     // What is spelled so is read.
-    ensures only { (sport dport : ℕ) (text : List ℕ) → SpellsUdp (address src sport) (address dst dport) text bytes.now → IsOkAnd result (λ v. (v.sport ≡ sport) × (v.dport ≡ dport) × (v.text.now ≡ text)) }
+    ensures only { (sport dport : ℕ) (text : List ℕ)
+        → SpellsUdp (address src sport) (address dst dport) text bytes.now
+        → IsOkAnd result (λ v. (v.sport ≡ sport) × (v.dport ≡ dport) × (v.text.now ≡ text)) }
     // Which fault it is: the first of these.
     ensures short { IsErrOf result WireError.Short ↔ (length bytes.now < 8) }
-    ensures sum { IsErrOf result WireError.Sum ↔ (HasUdpHeader bytes.now × (sum_field bytes.now ≢ 0) × (sum_field bytes.now ≢ received_sum src dst bytes.now)) }
-    ensures length { IsErrOf result WireError.Length ↔ (HasUdpSum src dst bytes.now × (udp_length bytes.now ≢ length bytes.now)) }
+    ensures sum { IsErrOf result WireError.Sum ↔ (HasUdpHeader bytes.now × (sum_field bytes.now ≢ 0)
+        × (sum_field bytes.now ≢ received_sum src dst bytes.now)) }
+    ensures length { IsErrOf result WireError.Length
+        ↔ (HasUdpSum src dst bytes.now × (udp_length bytes.now ≢ length bytes.now)) }
     // It has no other fault.
     ensures faults { IfErr result (λ e. (e ≡ WireError.Short) ⊎ ((e ≡ WireError.Sum) ⊎ (e ≡ WireError.Length))) }
 {

@@ -120,9 +120,11 @@ impl<J: Naming, M: Machine> Guarded<J, M> {
     ) -> View
         ensures front { LookedWith J.run.roster self.old pass.old result.front self.new pass.new }
         ensures ready { MatchOption work.entry (result.ready ≡ false)
-            (λ w. result.ready ≡ is_some (M.answer (state_at M.begin M.answer self.old.actor pass.new.seen) now w.now)) }
+            (λ w. result.ready ≡ is_some (M.answer (state_at M.begin M.answer self.old.actor pass.new.seen) now
+            w.now)) }
         ensures due { result.due ≡ M.due_of (state_at M.begin M.answer self.old.actor pass.new.seen) }
-        ensures generation { result.generation ≡ M.generation_of (state_at M.begin M.answer self.old.actor pass.new.seen) }
+        ensures generation { result.generation ≡ M.generation_of
+            (state_at M.begin M.answer self.old.actor pass.new.seen) }
     {
         let ready = match work {
             Some(work) => self.machine.ready(now, work),
@@ -154,7 +156,8 @@ fn entry_of(actor: ActorName, asked: Asked<'_>, event: Event, outcome: &mut Outc
     requires copy { event ≡ asked.work.now.event }
     requires twice { outcome.old.copy ≡ Some outcome.old.reply }
     ensures outcome { outcome.new ≡ act_without_copy outcome.old }
-    ensures entry { result ≡ (made actor asked.entry.caller asked.entry.now asked.entry.work.now asked.entry.cites outcome.old).entry }
+    ensures entry { result ≡ (made actor asked.entry.caller asked.entry.now asked.entry.work.now asked.entry.cites
+        outcome.old).entry }
 {
     let Some(copy) = outcome.copy.take() else {
         unreachable!()

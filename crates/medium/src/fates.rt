@@ -93,7 +93,8 @@ impl Fates {
 fn lines_in_order(alloc: Global, spec: &MediumSpec) -> Result<VecDeque<FateRange>, AllocError>
     requires { is_medium spec.now.number spec.now ≡ true }
     ensures order { IfOk result (λ lines. AreInOrder lines.items) }
-    ensures alike { IfOk result (λ lines. (m : ℕ) → find (names_fate m) lines.items ≡ find (names_fate m) spec.now.fates) }
+    ensures alike { IfOk result (λ lines. (m : ℕ)
+        → find (names_fate m) lines.items ≡ find (names_fate m) spec.now.fates) }
 {
     let mut lines = Vec::from_slice(alloc, spec.fates.as_slice())?;
     lines.sort_by_key(|line| line.first)?;
@@ -109,7 +110,8 @@ fn fate_after(
 ) -> Fate
     requires rates { HasRates spec.now }
     requires order { AreInOrder lines.old.items }
-    ensures fate { result ≡ unwrap_or (fate_line (laid + 1) lines.old.items) (rule.fate_by_rates spec.now ((pcg32 words.old).0 % 1000)) }
+    ensures fate { result ≡ unwrap_or (fate_line (laid + 1) lines.old.items)
+        (rule.fate_by_rates spec.now ((pcg32 words.old).0 % 1000)) }
     ensures words { words.new ≡ next 64 multiplier_64 words.old }
     ensures order { AreInOrder lines.new.items }
     ensures alike { FindsAlike laid lines.old.items lines.new.items }

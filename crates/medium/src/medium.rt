@@ -45,7 +45,13 @@ impl Model for Medium {
 
     ghost Value = { OnMedium };
 
-    ghost view = { λ m. record { spec = m.fates.spec; seed = m.fates.seed; laid = m.fates.laid; queue = m.queue.items; held = m.held } };
+    ghost view = { λ m. record {
+      spec = m.fates.spec;
+      seed = m.fates.seed;
+      laid = m.fates.laid;
+      queue = m.queue.items;
+      held = m.held;
+    } };
 
     ghost invariant = { λ m. AllSpelled m.queue.items × AllSpelled (option_to_list m.held) };
 }
@@ -66,11 +72,15 @@ impl Medium {
     /// Lays a packet for a station, if one is named and the packet isn't too long.
     pub fn put(&mut self, to: Option<u32>, packet: &Packet) -> Result<Laid, AllocError>
         // It is the step of a medium, while frames can be numbered.
-        ensures reply { self.old.laid + 1 < 2 ^ 64 → IfOk result (λ laid. laid_reply_of laid ≡ (puts self.old.spec self.old.seed to packet.now (medium_laid self.old)).outcome.reply) }
-        ensures state { self.old.laid + 1 < 2 ^ 64 → OnOk result (medium_laid self.new ≡ (puts self.old.spec self.old.seed to packet.now (medium_laid self.old)).state) }
+        ensures reply { self.old.laid + 1 < 2 ^ 64 → IfOk result
+            (λ laid. laid_reply_of laid ≡ (puts self.old.spec self.old.seed to packet.now
+            (medium_laid self.old)).outcome.reply) }
+        ensures state { self.old.laid + 1 < 2 ^ 64 → OnOk result
+            (medium_laid self.new ≡ (puts self.old.spec self.old.seed to packet.now (medium_laid self.old)).state) }
         // What isn't laid, and why; what is laid is the packet's bytes.
         ensures no_station { IfOk result (λ laid. (laid ≡ Laid.NoStation) ↔ (to ≡ None)) }
-        ensures too_big { IfOk result (λ laid. (laid ≡ Laid.TooBig) ↔ (IsSome to × (self.old.spec.mtu < datagram_length packet.now.body))) }
+        ensures too_big { IfOk result (λ laid. (laid ≡ Laid.TooBig)
+            ↔ (IsSome to × (self.old.spec.mtu < datagram_length packet.now.body))) }
         ensures bytes { IfOk result (λ laid. PutsBytes self.old self.new to (packet_spelling packet.now) laid) }
         // Where memory ran out nothing has changed; it is taken for what is laid alone.
         ensures err { OnErr result (self.new ≡ self.old) }
@@ -113,7 +123,9 @@ impl Medium {
     pub fn take(&mut self) -> Result<Taken, AllocError>
         requires { IsPending self.old }
         // It is the step of a medium, and takes the oldest copy.
-        ensures step { IfOk result (λ taken. takes (medium_laid self.old).queue (medium_laid self.old).held (medium_laid self.old) ≡ Some (medium_leaves (reply.Copy taken.frame) (Some taken) (medium_laid self.new))) }
+        ensures step { IfOk result (λ taken. takes (medium_laid self.old).queue (medium_laid self.old).held
+            (medium_laid self.old) ≡ Some (medium_leaves (reply.Copy taken.frame) (Some taken)
+            (medium_laid self.new))) }
         ensures first { IfOk result (TakesFirst self.old self.new) }
         ensures err { OnErr result (self.new ≡ self.old) }
         // A packet without a text takes no memory.
@@ -140,7 +152,8 @@ impl Medium {
     // Tells whether the packet's datagram is longer than the mtu.
     fn is_too_long(&self, packet: &Packet) -> bool
         ensures long { IsTrue result ↔ (self.now.spec.mtu < datagram_length packet.now.body) }
-        ensures short { IsFalse result → (datagram_length packet.now.body ≤ self.now.spec.mtu) × (self.now.spec.mtu ≤ 16384) }
+        ensures short { IsFalse result → (datagram_length packet.now.body ≤ self.now.spec.mtu)
+            × (self.now.spec.mtu ≤ 16384) }
     {
         let mtu = self.fates.mtu() as usize;
         match &packet.body {

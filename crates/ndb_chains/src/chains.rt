@@ -34,7 +34,8 @@ impl Chains {
     pub fn push(&mut self, bucket: usize) -> Result<(), AllocError>
         requires { bucket < width_of self.old }
         ensures width { width_of self.new ≡ width_of self.old }
-        ensures chains { OnOk result ((buckets : List ℕ) → AreChains self.old buckets → AreChains self.new (bucket ∷ buckets)) }
+        ensures chains { OnOk result ((buckets : List ℕ) → AreChains self.old buckets
+            → AreChains self.new (bucket ∷ buckets)) }
         ensures err { OnErr result ((buckets : List ℕ) → AreChains self.old buckets → AreChains self.new buckets) }
     {
         let entry = self.nexts.len();

@@ -86,7 +86,8 @@ fn answer_question<L: Ledger>(
     steps: &mut Steps<L>,
 ) -> Result<Octets, AllocError>
     requires { (12 ≤ question.now.end) × (question.now.end ≤ 271) × (question.now.end ≤ length message.now) }
-    ensures reply { IfOk result (λ reply. reply ≡ spec.reply_of message.now question.now (spec.rcode_of index.now question.now) (spec.records_of index.now question.now)) }
+    ensures reply { IfOk result (λ reply. reply ≡ spec.reply_of message.now question.now
+        (spec.rcode_of index.now question.now) (spec.records_of index.now question.now)) }
     ensures cost { steps.new ≤ steps.old + looks_of index.now question.now }
 {
     let mut records = Records::behind(alloc, question.end);
@@ -137,9 +138,11 @@ fn add_known<L: Ledger>(
     steps: &mut Steps<L>,
 ) -> Result<u16, AllocError>
     requires { AreFewTaken records.old }
-    ensures rcode { IfOk result (λ rcode. rcode ≡ (if spec.is_unknown index.now (spec.key_of question.now) then 3 else 0)) }
+    ensures rcode { IfOk result (λ rcode. rcode ≡ (if spec.is_unknown index.now
+        (spec.key_of question.now) then 3 else 0)) }
     ensures small { IfOk result (λ rcode. rcode < 16) }
-    ensures took { IfOk result (λ rcode. AddsTaken records.old (spec.records_found index.now question.now.kind (spec.key_of question.now)) records.new) }
+    ensures took { IfOk result (λ rcode. AddsTaken records.old
+        (spec.records_found index.now question.now.kind (spec.key_of question.now)) records.new) }
     ensures cost { steps.new ≤ steps.old + looks_of index.now question.now }
 {
     let Some(key) = key_of(alloc, question)? else {

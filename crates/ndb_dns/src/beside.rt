@@ -31,7 +31,8 @@ fn add_at_spots<L: Ledger>(
     steps: &mut Steps<L>,
 ) -> Result<(), AllocError>
     requires { SpotsWithin index.now spots.now }
-    ensures values { OnOk result (values.new ≡ values.old ++ flat_map (spec.beside attr.now value.now other.now) (spot_tuples index.now spots.now)) }
+    ensures values { OnOk result (values.new ≡ values.old ++ flat_map (spec.beside attr.now value.now other.now)
+        (spot_tuples index.now spots.now)) }
     ensures cost { steps.new ≤ steps.old + length spots.now }
 {
     for spot in spots {
@@ -96,8 +97,10 @@ pub fn names_beside<L: Ledger>(
     other: &[u8],
     steps: &mut Steps<L>,
 ) -> Result<IndexSet<Vec<u8>>, AllocError>
-    ensures names { IfOk result (λ names. names_seen names.keys ≡ answers.names_beside attr.now value.now other.now index.now) }
-    ensures valid { IfOk result (λ names. list_all (λ name. labels.is_domain_name (labels.labels_of name)) (names_seen names.keys) ≡ true) }
+    ensures names { IfOk result (λ names. names_seen names.keys ≡ answers.names_beside attr.now value.now other.now
+        index.now) }
+    ensures valid { IfOk result (λ names. list_all (λ name. labels.is_domain_name (labels.labels_of name))
+        (names_seen names.keys) ≡ true) }
     ensures cost { steps.new ≤ steps.old + found attr.now value.now index.now }
 {
     let values = values_beside(alloc, index, attr, value, other, steps)?;

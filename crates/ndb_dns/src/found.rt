@@ -27,7 +27,8 @@ pub fn add_found<L: Ledger>(
     steps: &mut Steps<L>,
 ) -> Result<(), AllocError>
     requires { AreFewTaken records.old }
-    ensures took { OnOk result (AddsTaken records.old (spec.records_beside index.now kind key.now.attr.now key.now.value) records.new) }
+    ensures took { OnOk result (AddsTaken records.old
+        (spec.records_beside index.now kind key.now.attr.now key.now.value) records.new) }
     ensures cost { steps.new ≤ steps.old + looks_beside index.now kind key.now.attr.now key.now.value }
 {
     if kind == ADDRESS {
@@ -50,7 +51,9 @@ fn add_named<L: Ledger>(
     steps: &mut Steps<L>,
 ) -> Result<(), AllocError>
     requires { AreFewTaken records.old }
-    ensures took { OnOk result (AddsTaken records.old (map (spec.naming_record kind) (spec.names_beside key.now.attr.now key.now.value other.now index.now)) records.new) }
+    ensures took { OnOk result (AddsTaken records.old
+        (map (spec.naming_record kind) (spec.names_beside key.now.attr.now key.now.value other.now index.now))
+        records.new) }
     ensures cost { steps.new ≤ steps.old + found key.now.attr.now key.now.value index.now }
 {
     let names = names_beside(alloc, index, key.attr, key.value.as_slice(), other, steps)?;
@@ -66,7 +69,8 @@ fn add_names(
 ) -> Result<(), AllocError>
     requires few { AreFewTaken records.old }
     requires valid { list_all (λ name. is_domain_name (labels_of name)) (names_seen names.now.keys) ≡ true }
-    ensures { OnOk result (AddsTaken records.old (map (spec.naming_record kind) (names_seen names.now.keys)) records.new) }
+    ensures { OnOk result (AddsTaken records.old (map (spec.naming_record kind) (names_seen names.now.keys))
+        records.new) }
 {
     for name in names.as_slice() {
         let entry = naming_record(alloc, kind, name.as_slice())?;
@@ -120,8 +124,10 @@ fn add_alias<L: Ledger>(
     steps: &mut Steps<L>,
 ) -> Result<(), AllocError>
     requires { AreFewTaken records.old }
-    ensures took { OnOk result (AddsTaken records.old (spec.alias_records index.now (spec.alias_of name.now index.now)) records.new) }
-    ensures cost { steps.new ≤ steps.old + found (codes "dom") name.now index.now + alias_looks index.now (spec.alias_of name.now index.now) }
+    ensures took { OnOk result (AddsTaken records.old
+        (spec.alias_records index.now (spec.alias_of name.now index.now)) records.new) }
+    ensures cost { steps.new ≤ steps.old + found (codes "dom") name.now index.now + alias_looks index.now
+        (spec.alias_of name.now index.now) }
 {
     let names = names_beside(alloc, index, b"dom", name, b"cname", steps)?;
     let Some(alias) = names.as_slice().first() else {

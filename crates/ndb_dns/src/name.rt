@@ -45,9 +45,11 @@ pub fn read_name(alloc: Global, bytes: &[u8], place: u64) -> Result<Name, DnsErr
     // What is read stands there.
     ensures found { IfOk result (λ n. ReadsName bytes.now place n.text n.end) }
     // What stands there is read.
-    ensures only { (text : List ℕ) (end : ℕ) → ReadsName bytes.now place text end → IfOk result (λ n. (n.text ≡ text) × (n.end ≡ end)) }
+    ensures only { (text : List ℕ) (end : ℕ) → ReadsName bytes.now place text end
+        → IfOk result (λ n. (n.text ≡ text) × (n.end ≡ end)) }
     // Where none stands there, or memory runs out, is an error, and there is no other.
-    ensures refused { IfErr result (λ e. IsRunRefused e ((text : List ℕ) (end : ℕ) → ReadsName bytes.now place text end → ⊥)) }
+    ensures refused { IfErr result (λ e. IsRunRefused e
+        ((text : List ℕ) (end : ℕ) → ReadsName bytes.now place text end → ⊥)) }
 {
     let mut text = Octets::new(alloc);
     let first = add_run(bytes, place as usize, &mut text)?;

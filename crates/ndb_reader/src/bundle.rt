@@ -41,7 +41,8 @@ impl Bundle {
         requires within { number < length self.now.ends.items }
         requires lines { out.old.lines ≡ [] }
         requires pairs { out.old.pairs ≡ [] }
-        ensures { OnOk result ((d : File) → out.new ≡ with_tuples (get_or (files_of self.now) number d).tuples out.old) }
+        ensures { OnOk result ((d : File) → out.new ≡ with_tuples (get_or (files_of self.now) number d).tuples
+            out.old) }
     {
         let first = tuple_begin(&self.ends, number);
         add_tuples(&self.db, first, self.ends[number].tuple as usize, out)?;

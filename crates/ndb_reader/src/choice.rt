@@ -198,7 +198,8 @@ fn rows_of(
     requires files { AreByName (names_seen names.now.keys) (files_of bundle.now) chains.now }
     requires within { first ≤ length (files_of bundle.now) }
     ensures tuples { IfSome result (λ end. tuples_of (take end (files_of bundle.now))
-        ≡ tuples_of (take first (files_of bundle.now)) ++ flat_map (spec.tuples_named (files_of bundle.now)) (names_seen names.now.keys)) }
+        ≡ tuples_of (take first (files_of bundle.now)) ++ flat_map (spec.tuples_named (files_of bundle.now))
+        (names_seen names.now.keys)) }
     ensures rise { IfSome result (λ end. first ≤ end) }
     ensures within { IfSome result (λ end. end ≤ length (files_of bundle.now)) }
 {

@@ -70,8 +70,10 @@ impl Files {
         requires sound { AreFiled self.old }
         requires zeros { list_any text.is_zero line.now ≡ true → zeros ≡ true }
         ensures sound { OnOk result (AreFiled self.new) }
-        ensures good { OnOk result (bundle.least_of_causes (bundle.causes_of (not (text.is_empty (spec.filed self.old).last)) line.now) ≡ None) }
-        ensures pairs { OnOk result (spec.filed self.new ≡ spec.line_filed (text.pairs_of line.now) (spec.filed self.old)) }
+        ensures good { OnOk result (bundle.least_of_causes
+            (bundle.causes_of (not (text.is_empty (spec.filed self.old).last)) line.now) ≡ None) }
+        ensures pairs { OnOk result (spec.filed self.new ≡ spec.line_filed (text.pairs_of line.now)
+            (spec.filed self.old)) }
         ensures some { IfOk result (λ some. some ≡ not (text.is_empty (text.words_of line.now))) }
         ensures bad { IfErr result (λ e. Tells e (option_map (λ (c : ℕ). (number, c))
             (bundle.least_of_causes (bundle.causes_of (not (text.is_empty (spec.filed self.old).last)) line.now)))) }
@@ -144,7 +146,8 @@ impl Files {
         requires pairs { (spec.filed self).pairs ≡ [] }
         ensures sound { IfOk result (λ bundle. spec.AreBundled bundle) }
         ensures some { IfOk result (λ bundle. 0 < length bundle.ends.items) }
-        ensures files { IfOk result (λ bundle. spec.files_of bundle ≡ (spec.filed self).closed ++ spec.file_grown (spec.filed self) ∷ []) }
+        ensures files { IfOk result (λ bundle. spec.files_of bundle ≡ (spec.filed self).closed ++ spec.file_grown
+            (spec.filed self) ∷ []) }
     {
         let mut files = self;
         files.end_tuple()?;

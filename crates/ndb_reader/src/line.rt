@@ -63,7 +63,8 @@ pub(crate) fn read_line(
     ensures good { OnOk result (least_of_causes (causes_of has_tuple line.now) ≡ None) }
     ensures pairs { OnOk result (growing.new ≡ with_pairs (spec.pairs_of line.now) growing.old) }
     ensures some { IfOk result (λ some. some ≡ not (spec.is_empty (spec.words_of line.now))) }
-    ensures bad { IfErr result (λ e. Tells e (option_map (λ (c : ℕ). (number, c)) (least_of_causes (causes_of has_tuple line.now)))) }
+    ensures bad { IfErr result (λ e. Tells e (option_map (λ (c : ℕ). (number, c))
+        (least_of_causes (causes_of has_tuple line.now)))) }
 {
     let words = words_of(line, growing)?;
     match least_cause(line, words, has_tuple, zeros) {

@@ -64,7 +64,8 @@ impl Words {
 /// The words of a line that doesn't begin with `%`, up to one that begins with `#`. Their pairs go onto the line that is open.
 pub(crate) fn read_words(line: &[u8], growing: &mut Growing) -> Result<Words, AllocError>
     ensures words { IfOk result (λ words. AreWords words (spec.words_behind 0 line.now)) }
-    ensures pairs { OnOk result (growing.new ≡ with_pairs (map spec.word_pair (spec.words_behind 0 line.now)) growing.old) }
+    ensures pairs { OnOk result (growing.new ≡ with_pairs (map spec.word_pair (spec.words_behind 0 line.now))
+        growing.old) }
 {
     let mut words = Words::new();
     let mut rest = line;

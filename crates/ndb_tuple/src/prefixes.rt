@@ -100,7 +100,8 @@ impl Prefixes {
 
     /// The prefixes of these networks.
     pub fn of(alloc: Global, networks: &[Network<'_>]) -> Result<Prefixes, AllocError>
-        ensures { IfOk result (λ prefixes. (ip : ℕ) → covers prefixes ip ≡ spec.is_on (map network_seen networks.now) ip) }
+        ensures { IfOk result (λ prefixes. (ip : ℕ) → covers prefixes ip ≡ spec.is_on (map network_seen networks.now)
+            ip) }
     {
         let mut prefixes = Prefixes::new(alloc);
         for network in networks {

@@ -54,7 +54,12 @@ impl Desk {
     ) -> Result<Desk, AllocError>
         requires nets { is_nets host.now.nets ≡ true }
         requires some { 0 < length (arc_value dbs.now) }
-        ensures { IfOk result (λ d. d ≡ record { dbs = arc_value dbs.now; name = host.now.name; nets = host.now.nets; version = 0 }) }
+        ensures { IfOk result (λ d. d ≡ record {
+          dbs = arc_value dbs.now;
+          name = host.now.name;
+          nets = host.now.nets;
+          version = 0;
+        }) }
     {
         Ok(Desk {
             alloc,
@@ -67,7 +72,8 @@ impl Desk {
 
     /// Whether the desk has an answer at a moment, in ms.
     pub fn ready(&self, now: u64, event: &Event) -> bool
-        ensures { result ≡ is_some (spec.desk_reply self.now.dbs (host_at_desk self.now) event.now now (desk_at self.now)) }
+        ensures { result ≡ is_some (spec.desk_reply self.now.dbs (host_at_desk self.now) event.now now
+            (desk_at self.now)) }
     {
         match event {
             Event::Cs { .. } => true,
@@ -84,8 +90,10 @@ impl Desk {
     /// The answer to an event, where there is one.
     #[tactic(auto, using(crate::proofs::ByKind::told_steps))]
     pub fn answer(&mut self, now: u64, event: &Event) -> Result<Outcome, AllocError>
-        requires { IsTrue (is_some (spec.desk_reply self.old.dbs (host_at_desk self.old) event.now now (desk_at self.old))) }
-        ensures ok { IfOk result (λ o. spec.desk_step self.old.dbs (host_at_desk self.old) event.now now (desk_at self.old)
+        requires { IsTrue (is_some (spec.desk_reply self.old.dbs (host_at_desk self.old) event.now now
+            (desk_at self.old))) }
+        ensures ok { IfOk result (λ o. spec.desk_step self.old.dbs (host_at_desk self.old) event.now now
+            (desk_at self.old)
             ≡ Some (record { state = desk_at self.new; outcome = o })) }
         ensures same { self.new ≡ record self.old { version = self.new.version } }
         ensures err { OnErr result (self.new ≡ self.old) }
@@ -99,9 +107,11 @@ impl Desk {
 
     /// The answer to an event that leaves the desk as it is.
     fn tell(&self, event: &Event, now: u64) -> Result<Outcome, AllocError>
-        requires some { IsTrue (is_some (spec.desk_reply self.now.dbs (host_at_desk self.now) event.now now (desk_at self.now))) }
+        requires some { IsTrue (is_some (spec.desk_reply self.now.dbs (host_at_desk self.now) event.now now
+            (desk_at self.now))) }
         requires leaves { leaves_desk event.now ≡ true }
-        ensures ok { IfOk result (Replies (spec.desk_reply self.now.dbs (host_at_desk self.now) event.now now (desk_at self.now))) }
+        ensures ok { IfOk result (Replies (spec.desk_reply self.now.dbs (host_at_desk self.now) event.now now
+            (desk_at self.now))) }
         ensures memory { OnErr result (desk_takes event.now ≡ true) }
     {
         match event {

@@ -106,7 +106,8 @@ fn is_on(shown: Option<u32>, medium: Option<u32>) -> bool
 
 // The packet that a caller's first duty gives.
 fn packet_given<'a>(caller: &'a Caller<'_>) -> Option<&'a Packet>
-    ensures { (w : AnyWorld) (h : List AnyEntry) (c : ℕ) → IsCallerKept w h c caller.now → option_copied result ≡ given_packet (with_of (owed w h c)) }
+    ensures { (w : AnyWorld) (h : List AnyEntry) (c : ℕ) → IsCallerKept w h c caller.now
+        → option_copied result ≡ given_packet (with_of (owed w h c)) }
 {
     match caller.owed.first() {
         Some(duty) => packet_in(&duty.work.with),
@@ -133,7 +134,8 @@ fn put_spelled(
 ) -> Result<(), AllocError>
     requires early { moment ≤ 1000000000 }
     requires fits { datagram_length packet.now.body < 2 ^ 16 }
-    ensures record { OnOk result (out.new ≡ out.old ++ packet_record (seen_at_moment moment (packet_spelling packet.now))) }
+    ensures record { OnOk result (out.new ≡ out.old ++ packet_record
+        (seen_at_moment moment (packet_spelling packet.now))) }
     ensures fits { OnOk result (IsPacket packet.now) }
     ensures read { OnOk result (datagram_packet (packet_spelling packet.now) ≡ packet.now) }
 {

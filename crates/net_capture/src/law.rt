@@ -8,5 +8,6 @@ ghost use Rattle.net_capture.specs.Capture.{frames, laid_at, frame_place};
 
 /// The frames of a legal history are those that its entries laid, none left out, in the order of stamps.
 pub fn frames_are_laid()
-    ensures { (w : World) (h : List Entry) → IsWorld w → IsLegal w h → map frame_place (frames w h) ≡ filter_map laid_at h }
+    ensures { (w : World) (h : List Entry) → IsWorld w → IsLegal w h
+        → map frame_place (frames w h) ≡ filter_map laid_at h }
 {}

@@ -105,9 +105,11 @@ impl Past {
     ) -> Result<Option<Thing>, AllocError>
         requires { KnowsFrames history.now came.now.keys }
         ensures thing { IfOk result (λ thing. thing
-            ≡ spec.laid_thing history.now key (spec.laid_by history.now self.old.frames entry.now key.1 to self.old.place)) }
+            ≡ spec.laid_thing history.now key (spec.laid_by history.now self.old.frames entry.now key.1 to
+            self.old.place)) }
         ensures past { OnOk result (self.new
-            ≡ spec.with_laid key (spec.laid_by history.now self.old.frames entry.now key.1 to self.old.place) self.old) }
+            ≡ spec.with_laid key (spec.laid_by history.now self.old.frames entry.now key.1 to self.old.place)
+            self.old) }
     {
         let frame = Frame {
             number: key.1,
@@ -125,7 +127,8 @@ impl Past {
 
     // Where a packet comes from, by the entry that owed its put.
     fn source_of(&self, owner: Option<&Entry>) -> Option<Source>
-        ensures { (owed : Option AnyEntry) → option_copied owner.entry ≡ owed → result ≡ option_and_then (frames.source_of self.now.frames) owed }
+        ensures { (owed : Option AnyEntry) → option_copied owner.entry ≡ owed
+            → result ≡ option_and_then (frames.source_of self.now.frames) owed }
     {
         match owner {
             Some(owner) => source_of(&self.frames, owner),
@@ -135,7 +138,8 @@ impl Past {
 
     // A copy of a frame comes at the last row.
     fn receive(&mut self, key: Key) -> Result<Option<Thing>, AllocError>
-        ensures thing { IfOk result (λ thing. thing ≡ spec.arrow_to self.old.place (frames.frame_at self.old.frames key)) }
+        ensures thing { IfOk result (λ thing. thing ≡ spec.arrow_to self.old.place
+            (frames.frame_at self.old.frames key)) }
         ensures past { OnOk result (self.new ≡ spec.with_arrived key self.old) }
     {
         let Some(frame) = frame_at(&self.frames, key) else {

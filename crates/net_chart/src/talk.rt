@@ -200,7 +200,8 @@ impl Talks {
     }
 
     fn start_by(&self, owner: Option<&Entry>) -> Option<u32>
-        ensures { (owed : Option AnyEntry) → option_copied owner.entry ≡ owed → result ≡ option_and_then (spec.start_of_entry self.now) owed }
+        ensures { (owed : Option AnyEntry) → option_copied owner.entry ≡ owed
+            → result ≡ option_and_then (spec.start_of_entry self.now) owed }
     {
         match owner {
             Some(owner) => self.start_of(owner),

@@ -53,7 +53,8 @@ fn talk_width(talks: &Talks) -> u64
 }
 
 fn put_host(out: &mut Octets, host: Option<&HostSpec>) -> Result<(), AllocError>
-    ensures { OnOk result ((named : Option AnyHost) → option_copied host.entry ≡ named → out.new ≡ out.old ++ spec.host_text named) }
+    ensures { OnOk result ((named : Option AnyHost) → option_copied host.entry ≡ named
+        → out.new ≡ out.old ++ spec.host_text named) }
 {
     match host {
         Some(host) => put_escaped(out, host.name.as_slice()),
@@ -113,7 +114,8 @@ fn put_columns(
     bottom: u64,
     columns: &[ActorName],
 ) -> Result<(), AllocError>
-    ensures { OnOk result (out.new ≡ out.old ++ flat_map (spec.talk_column world.now bottom) (enumerate_from 0 columns.now)) }
+    ensures { OnOk result (out.new ≡ out.old ++ flat_map (spec.talk_column world.now bottom)
+        (enumerate_from 0 columns.now)) }
 {
     for (number, actor) in columns.iter().enumerate() {
         put_column(out, world, bottom, number as u64, *actor)?;
@@ -129,7 +131,8 @@ fn put_things(
     entries: &[Entry],
     talks: &Talks,
 ) -> Result<(), AllocError>
-    ensures { OnOk result (out.new ≡ out.old ++ drawing_of page.now (talks_drawn page.now.brief entries.now talks.now)) }
+    ensures { OnOk result (out.new ≡ out.old ++ drawing_of page.now
+        (talks_drawn page.now.brief entries.now talks.now)) }
 {
     let came = arrivals_in(alloc, entries)?;
     let mut past = Past::new(alloc);

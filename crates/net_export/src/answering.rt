@@ -24,7 +24,8 @@ pub fn answers<E: Entries>(
 ) -> Result<Lines, AllocError>
     requires session { spec.IsSessionOf world.now caller bytes.now }
     requires legal { IsLegal world.now (E.list history.now) }
-    ensures { IfOk result (λ lines. (ms : List AnyTmsg) (s : AnyScript) → AreMessages bytes.now ms → slice_get world.now.scripts caller ≡ Some s
+    ensures { IfOk result (λ lines. (ms : List AnyTmsg) (s : AnyScript) → AreMessages bytes.now ms
+        → slice_get world.now.scripts caller ≡ Some s
         → lines ≡ spec.answers_in_history world.now s.host ms caller (E.list history.now)) }
 {
     let owes = owes_after(alloc, world, history, caller)?;

@@ -14,12 +14,14 @@ ghost use Rattle.sessions.specs.Worlds.{HaveHosts, HaveStreams, IsTranslated};
 
 /// In a legal history, timed or not, a script owes as many events as its entries count.
 pub fn what_is_owed_is_counted()
-    ensures { (w : World) (h : List Entry) (c : ℕ) → IsLegal w h → c < length w.scripts → length (owed w h c) ≡ count_after w c 0 h }
+    ensures { (w : World) (h : List Entry) (c : ℕ) → IsLegal w h → c < length w.scripts
+        → length (owed w h c) ≡ count_after w c 0 h }
 {}
 
 /// In a legal history each reply to an event of a session grants it or is a few short words: no list is ever told as a refusal.
 pub fn session_replies_are_told()
-    ensures { (w : World) (h : List Entry) (c : ℕ) (bytes : List ℕ) → IsLegal w h → IsSessionOf w c bytes → AreTold (own_replies h c) }
+    ensures { (w : World) (h : List Entry) (c : ℕ) (bytes : List ℕ) → IsLegal w h → IsSessionOf w c bytes
+        → AreTold (own_replies h c) }
 {}
 
 /// Each session of a translated world is a script of its host there.

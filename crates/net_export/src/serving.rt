@@ -245,7 +245,8 @@ fn keep(
     reply: &Reply,
 ) -> Result<(), AllocError>
     ensures opened { OnOk result (rising opened.new ≡ open_by (rising opened.old) message.now reply.now) }
-    ensures found { OnOk result (found_lines found.new ≡ found_by (known table.now) (found_lines found.old) message.now reply.now) }
+    ensures found { OnOk result (found_lines found.new ≡ found_by (known table.now) (found_lines found.old)
+        message.now reply.now) }
     ensures err_opened { OnErr result (rising opened.new ≡ rising opened.old) }
     ensures err_found { OnErr result (found_lines found.new ≡ found_lines found.old) }
 {

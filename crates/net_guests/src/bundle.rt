@@ -12,7 +12,6 @@ ghost use Rattle.net_locks.specs.Turns.{own_seen};
 
 use due_moments::Touched;
 use duties::Duties;
-use thread_laws::{guests_begin, guests_meet};
 use journal::{Journal, Naming, Pass};
 use ndb_versions::IndexedVersions;
 use net_locks::{Bearer, Calendar, Placing, Visitor};
@@ -20,6 +19,7 @@ use script_task::Names;
 use std::alloc::{AllocError, Global};
 use std::marker::Model;
 use std::sync::Arc;
+use thread_laws::{guests_begin, guests_meet};
 
 /// A caller with what it has at the locks, and the names that it has bound. Clauses see these, its number and the moment, and
 /// what else is known of it. It may be without its number while the clock has that, so whether it is complete is said of each

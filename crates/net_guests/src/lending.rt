@@ -7,9 +7,9 @@ ghost use Rattle.net_guests.specs.Lent.{IsAway, IsBack, with_sight};
 ghost use Rattle.net_guests.specs.Visits.{IsComplete, IsWith, Visit};
 
 use crate::bundle::Bundle;
-use thread_laws::guests_hand_over;
 use journal::{Journal, Naming, Pass};
 use net_locks::{Placing, calendars_stay_known};
+use thread_laws::guests_hand_over;
 
 impl<J: Naming + Placing> Bundle<J> {
     /// The number of this caller goes to the clock's guest, with which it then is; who was with that is still.
@@ -40,10 +40,12 @@ impl<J: Naming + Placing> Bundle<J> {
         requires other { (clock.old.visit.caller == self.old.visit.caller) ≡ false }
         ensures complete { IsComplete J.world J.run.roster self.new }
         ensures back { IsBack self.old.visit clock.old.visit.now self.new.visit }
-        ensures with_itself { (v : Visit) → IsAway J.world v self.old → IsWith J.world J.run.roster v clock.old.visit.sight
+        ensures with_itself { (v : Visit) → IsAway J.world v self.old
+            → IsWith J.world J.run.roster v clock.old.visit.sight
             → IsWith J.world J.run.roster v self.new.visit.sight }
         ensures others { (v : Visit) → (v.caller == self.old.visit.caller) ≡ false
-            → IsWith J.world J.run.roster v clock.old.visit.sight → IsWith J.world J.run.roster v clock.new.visit.sight }
+            → IsWith J.world J.run.roster v clock.old.visit.sight
+            → IsWith J.world J.run.roster v clock.new.visit.sight }
         ensures clock { IsComplete J.world J.run.roster clock.new }
         ensures same { clock.new.visit ≡ with_sight clock.old.visit clock.new.visit.sight }
         ensures seen { clock.new.visit.sight.seen ≡ clock.old.visit.sight.seen }

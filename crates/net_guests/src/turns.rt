@@ -11,7 +11,6 @@ ghost use Rattle.net_guests.specs.Visits.{IsComplete, IsSameVisit, Operated, Tak
 ghost use Rattle.net_locks.specs.Turns.{bare};
 
 use crate::bundle::Bundle;
-use thread_laws::turns_are_these;
 use journal::Naming;
 use net_base::{ActorName, Event};
 use net_locks::{Locks, Placing, Spot, Turn, WorldActor};
@@ -19,6 +18,7 @@ use outside::Gate;
 use script_task::{Effect, Names, Planned, Request, effects_settle, plan};
 use std::alloc::AllocError;
 use std::sync::Wait;
+use thread_laws::turns_are_these;
 
 /// Where the actor of a guest's first duty stands.
 pub fn first_spot<J: Naming + Placing>(
@@ -66,7 +66,8 @@ impl<J: Naming + Placing> Bundle<J> {
         ensures duty { (d : AnyDuty) → slice_get self.old.visit.owed 0 ≡ Some d
             → TakesPasses J.tasks J.world d.actor (work_of_duty d) (Some d.cites) self.old.visit result self.new.visit }
         ensures free { self.old.visit.owed ≡ []
-            → TakesPasses J.tasks J.world (name.Medium medium) (bare event.Take) None self.old.visit result self.new.visit }
+            → TakesPasses J.tasks J.world (name.Medium medium) (bare event.Take) None self.old.visit result
+            self.new.visit }
     {
         turns_are_these();
         if self.owes() {

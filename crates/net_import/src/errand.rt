@@ -152,7 +152,10 @@ impl Rclose {
     /// Closes the file, where this is left by earlier steps.
     #[tactic(auto, using(crate::specs::ErrandLaws::rclose_fresh))]
     pub fn new(alloc: Global, name: &[u8], left: &Left) -> Result<Rclose, AllocError>
-        ensures value { IfOk result (λ t. t ≡ record { name = name.now; errand = spec.close_errand name.now left.now }) }
+        ensures value { IfOk result (λ t. t ≡ record {
+          name = name.now;
+          errand = spec.close_errand name.now left.now;
+        }) }
         ensures stands { IfOk result (λ t. spec.Begins t.errand left.now (step.Rclose name.now)) }
     {
         let errand = Errand::close(alloc, name, left)?;

@@ -18,13 +18,13 @@ use crate::placing::Placing;
 use calm_laws::conversations_are_these;
 use due_moments::{DueMoments, puts_keep_the_dues};
 use duties::Due;
-use thread_laws::{locks_keep_actors, nets_of_works_grow};
 use history_laws::same_actors_are_equal;
 use journal::{Naming, Pass};
 use locked::View;
 use net_base::{ActorName, Proto};
 use std::alloc::Global;
 use std::sync::Wait;
+use thread_laws::{locks_keep_actors, nets_of_works_grow};
 
 /// When conversations were due, after all entries before a stamp. What is known of it stays known after more entries.
 #[derive(Debug, Drop)]

@@ -32,14 +32,14 @@ use calm_laws::{
 };
 use due_moments::Touched;
 use duties::{Due, Duties, a_move_owes_its_ticks};
-use thread_laws::{
-    guests_record, guests_stay_by_others, locks_keep_actors, nets_of_works_grow, turns_are_these,
-};
 use journal::{Naming, Pass};
 use locked::{Answer, Asked};
 use net_base::{ActorName, Event, With, Work, World};
 use outside::Gate;
 use std::sync::Wait;
+use thread_laws::{
+    guests_record, guests_stay_by_others, locks_keep_actors, nets_of_works_grow, turns_are_these,
+};
 
 /// What became of the clock.
 #[derive(Clone, Copy, Debug, PartialEq, Eq)]
@@ -152,7 +152,8 @@ impl<J: Naming + Placing> Locks<J, WorldActor<J>> {
         requires moment { now ≡ moment_of pass.old.seen }
         requires all { AllStand J.tasks J.world J.run.roster pass.old standings.now }
         ensures same { pass.new ≡ pass.old }
-        ensures finds { FindsBusy (could J.tasks J.world (noted_net J.world pass.old.seen)) (is_full (noted_net J.world pass.old.seen))
+        ensures finds { FindsBusy (could J.tasks J.world (noted_net J.world pass.old.seen))
+            (is_full (noted_net J.world pass.old.seen))
             (standing_callers standings.now) result }
     {
         nets_of_works_grow();

@@ -8,5 +8,6 @@ ghost use Rattle.net_locks.specs.Knowing.{IsKnown};
 
 /// It's known after more entries.
 pub fn calendars_stay_known()
-    ensures { (w : World) (log log' : List Noted) (k : Calendar) → IsPrefix log log' → IsKnown w log k → IsKnown w log' k }
+    ensures { (w : World) (log log' : List Noted) (k : Calendar) → IsPrefix log log' → IsKnown w log k
+        → IsKnown w log' k }
 {}

@@ -18,7 +18,6 @@ use crate::opening::NetOpened;
 use crate::placing::Placing;
 use due_moments::Touched;
 use duties::{Duties, WorldWays};
-use thread_laws::no_duty_is_the_clocks;
 use journal::{Book, Journal, Naming, Pass};
 use locked::{Locked, Machine};
 use net_actors::{Actor, IndexedVersions, is_among, number_of, numbers_are_apart};
@@ -26,6 +25,7 @@ use net_base::{ActorName, Event, With, Work, World};
 use outside::Gate;
 use std::alloc::{AllocError, Global};
 use std::sync::{Arc, Wait};
+use thread_laws::no_duty_is_the_clocks;
 use workers::{Awaited, Marks, Spot};
 
 /// Every actor of a world behind its lock, each at its number, with the journal of the run.

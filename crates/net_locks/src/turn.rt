@@ -22,15 +22,15 @@ use crate::placing::Placing;
 use crate::visitor::{Bearer, Visitor};
 use due_moments::Touched;
 use duties::{Duties, Duty};
-use thread_laws::{
-    few_calls_wait, guests_look, guests_record, locks_keep_actors, moves_are_the_clocks,
-    no_duty_is_the_clocks, turns_are_these,
-};
 use journal::Naming;
 use locked::{Answer, Asked, Locked};
 use net_base::{ActorName, Body, Event, IlKind, Outcome, Reply, With, Work};
 use outside::Gate;
 use std::sync::Wait;
+use thread_laws::{
+    few_calls_wait, guests_look, guests_record, locks_keep_actors, moves_are_the_clocks,
+    no_duty_is_the_clocks, turns_are_these,
+};
 
 /// What became of a turn.
 #[derive(Debug, Drop)]
@@ -95,7 +95,8 @@ impl<J: Naming + Placing> Locks<J, WorldActor<J>> {
     ) -> Turn
         requires complete { IsVisitor J.world J.run.roster visitor.old }
         requires free { visitor.old.duties.list ≡ [] }
-        requires turn { IsGuestTurn J.world visitor.old.bearer.caller visitor.old.bearer.pass [] actor (bare event) None }
+        requires turn { IsGuestTurn J.world visitor.old.bearer.caller visitor.old.bearer.pass [] actor (bare event)
+            None }
         requires other { same_actor actor Clock ≡ false }
         ensures complete { IsVisitor J.world J.run.roster visitor.new }
         ensures same { IsSameBearer visitor.old.bearer visitor.new.bearer }
@@ -126,8 +127,10 @@ impl<J: Naming + Placing> Locks<J, WorldActor<J>> {
     // The lock of the first duty's actor, where the world has it.
     fn lock_of_first(&self, duties: &Duties) -> Option<&Locked<J, WorldActor<J>>>
         requires some { (d : AnyDuty) × (slice_get duties.now.list 0 ≡ Some d) }
-        ensures some { (d : AnyDuty) → slice_get duties.now.list 0 ≡ Some d → IfSome result (λ l. l.now.actor ≡ d.actor) }
-        ensures none { (d : AnyDuty) → slice_get duties.now.list 0 ≡ Some d → IsNone result → has_actor J.world d.actor ≡ false }
+        ensures some { (d : AnyDuty) → slice_get duties.now.list 0 ≡ Some d
+            → IfSome result (λ l. l.now.actor ≡ d.actor) }
+        ensures none { (d : AnyDuty) → slice_get duties.now.list 0 ≡ Some d → IsNone result
+            → has_actor J.world d.actor ≡ false }
     {
         let first = duties.first().unwrap();
         self.lock_of(first.actor)
@@ -152,7 +155,8 @@ impl<J: Naming + Placing> Locks<J, WorldActor<J>> {
         ensures same { IsSameBearer bearer.old bearer.new }
         ensures here { bearer.new.now ≡ moment_noted bearer.new.pass.seen }
         ensures attempted { (d : AnyDuty) → slice_get duties.now.list 0 ≡ Some d
-            → Attempted J.tasks J.world J.run.roster d.actor (work_of_duty d) (Some d.cites) bearer.old result bearer.new }
+            → Attempted J.tasks J.world J.run.roster d.actor (work_of_duty d) (Some d.cites) bearer.old result
+            bearer.new }
     {
         no_duty_is_the_clocks();
         let first = duties.first().unwrap();
@@ -177,7 +181,8 @@ impl<J: Naming + Placing> Locks<J, WorldActor<J>> {
         requires other { same_actor lock.now.actor Clock ≡ false }
         ensures same { IsSameBearer bearer.old bearer.new }
         ensures here { bearer.new.now ≡ moment_noted bearer.new.pass.seen }
-        ensures attempted { Attempted J.tasks J.world J.run.roster lock.now.actor work.now cites bearer.old result bearer.new }
+        ensures attempted { Attempted J.tasks J.world J.run.roster lock.now.actor work.now cites bearer.old result
+            bearer.new }
     {
         few_calls_wait();
         guests_look();

@@ -27,13 +27,15 @@ pub fn legal_histories_are_plain()
 /// finished, and so many answered, as the definitions count.
 pub fn steps_stand_in_order()
     ensures each { (h : ℕ) (k : Kept) (s : Step) → Begins (step_play h k s) [] }
-    ensures in_order { (w : World) (h : List Entry) (c : ℕ) (s : Script) → IsLegal w h → caller_of w c ≡ IsScript s → KeepsScript w h c s }
+    ensures in_order { (w : World) (h : List Entry) (c : ℕ) (s : Script) → IsLegal w h → caller_of w c ≡ IsScript s
+        → KeepsScript w h c s }
 {}
 
 /// Each answer to a query of cs is what the database of the version that the desk told last lists for the host that asks, or why
 /// it lists nothing.
 pub fn cs_answers_are_lists()
-    ensures { (w : World) (h : List Entry) (k : ℕ) (x : Entry) (query : List ℕ) → IsLegal w h → slice_get h k ≡ Some x → x.event ≡ event.Cs query → AnswersCs w (take k h) x query }
+    ensures { (w : World) (h : List Entry) (k : ℕ) (x : Entry) (query : List ℕ) → IsLegal w h → slice_get h k ≡ Some x
+        → x.event ≡ event.Cs query → AnswersCs w (take k h) x query }
 {}
 
 /// Of the versions of a world's database one is in force at each moment: the last one whose own moment has come.

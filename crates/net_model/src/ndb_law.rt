@@ -17,13 +17,16 @@ pub fn lines_read_once()
 
 /// A line spells pairs exactly where it begins no file and has no cause but that of its place, and then it spells its own.
 pub fn lines_are_spelled()
-    ensures reads { (line : List ℕ) (pairs : List NdbPair) → ReadsLine line pairs → (pairs_of line ≡ pairs) × (causes_of true line ≡ []) }
-    ensures spelled { (line : List ℕ) → is_file_line line ≡ false → causes_of true line ≡ [] → ReadsLine line (pairs_of line) }
+    ensures reads { (line : List ℕ) (pairs : List NdbPair) → ReadsLine line pairs → (pairs_of line ≡ pairs)
+        × (causes_of true line ≡ []) }
+    ensures spelled { (line : List ℕ) → is_file_line line ≡ false → causes_of true line ≡ []
+        → ReadsLine line (pairs_of line) }
 {}
 
 /// The lines of a file spell one list of tuples at most.
 pub fn files_read_once()
-    ensures { (lines : List (List ℕ)) (ts us : List (List (List NdbPair))) → ReadsFile lines ts → ReadsFile lines us → ts ≡ us }
+    ensures { (lines : List (List ℕ)) (ts us : List (List (List NdbPair))) → ReadsFile lines ts → ReadsFile lines us
+        → ts ≡ us }
 {}
 
 /// A text of one file spells tuples exactly where it has no bad line, and then it spells its own.
@@ -46,7 +49,8 @@ pub fn bundles_are_spelled()
 pub fn written_databases_read_back()
     ensures whole { (text : List ℕ) (db : List (List (List NdbPair))) → reading text ≡ Some db → is_file_whole db ≡ true
         → reading (db_text db) ≡ Some db }
-    ensures not_whole { (text : List ℕ) (db : List (List (List NdbPair))) → reading text ≡ Some db → is_file_whole db ≡ false
+    ensures not_whole { (text : List ℕ) (db : List (List (List NdbPair))) → reading text ≡ Some db
+        → is_file_whole db ≡ false
         → (db ≢ []) × (reading (db_text db) ≡ Some []) }
     ensures first { (text : List ℕ) (db : List (List (List NdbPair))) → reading text ≡ Some db
         → is_file_first (local_file (lines_of text)).tuples ≡ true → is_file_whole db ≡ true }
@@ -54,7 +58,8 @@ pub fn written_databases_read_back()
 
 /// A text reads as one database at most.
 pub fn texts_read_once()
-    ensures { (text : List ℕ) (db other : List (List (List NdbPair))) → reading text ≡ Some db → reading text ≡ Some other → db ≡ other }
+    ensures { (text : List ℕ) (db other : List (List (List NdbPair))) → reading text ≡ Some db
+        → reading text ≡ Some other → db ≡ other }
 {}
 
 /// A line without a quote has the words that white space parts.
@@ -64,7 +69,8 @@ pub fn words_without_quotes()
 
 /// The line that is told is the first with a cause, and the cause is its least.
 pub fn bad_lines_are_first()
-    ensures { (text : List ℕ) (line cause : ℕ) → bad_line text ≡ Some (line, cause) → IsFirstBadFile causes_of (lines_of text) line cause }
+    ensures { (text : List ℕ) (line cause : ℕ) → bad_line text ≡ Some (line, cause)
+        → IsFirstBadFile causes_of (lines_of text) line cause }
 {}
 
 /// Bad lines, worked by hand.
@@ -80,7 +86,8 @@ pub fn worked_bad_lines()
 /// Readings, worked by hand.
 pub fn worked_readings()
     ensures quoted { reading (codes "a=\"b c\" d\r\n\te=f\"g #h\n")
-        ≡ Some (((pair (codes "a") (codes "b c") ∷ pair (codes "d") [] ∷ []) ∷ (pair (codes "e") (codes "f\"g") ∷ []) ∷ []) ∷ []) }
+        ≡ Some (((pair (codes "a") (codes "b c") ∷ pair (codes "d") [] ∷ []) ∷ (pair (codes "e") (codes "f\"g") ∷ [])
+        ∷ []) ∷ []) }
     ensures chosen { reading (codes "database=\n\tfile=x file=y file=x\n%file x\na=b\n%file y\nc=d\n%file x\ne=f\n%file z\ng=h\n")
         ≡ Some (tuple (codes "a") (codes "b") ∷ tuple (codes "e") (codes "f") ∷ tuple (codes "c") (codes "d") ∷ []) }
     ensures no_local { reading (codes "%file x\na=b\n") ≡ Some [] }
@@ -95,6 +102,7 @@ pub fn worked_written_databases()
         ≡ codes "a=\"b c\" d=\n\te=f\"g\n" }
     ensures not_whole { reading (codes "database file=x\n%file x\ndatabase file=x\n")
         ≡ Some (((pair (codes "database") [] ∷ pair (codes "file") (codes "x") ∷ []) ∷ []) ∷ []) }
-    ensures read_as_none { reading (db_text (((pair (codes "database") [] ∷ pair (codes "file") (codes "x") ∷ []) ∷ []) ∷ []))
+    ensures read_as_none { reading (db_text (((pair (codes "database") [] ∷ pair (codes "file") (codes "x") ∷ [])
+        ∷ []) ∷ []))
         ≡ Some [] }
 {}

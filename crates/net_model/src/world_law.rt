@@ -16,8 +16,10 @@ use world_text::{worlds_are_spelled, worlds_have_texts};
 
 /// What is written of a world, with a whole database in each version, says this world, and is read back as it.
 pub fn written_worlds_read_back()
-    ensures spelled { (w : World) → IsWorld w → All (λ (v : Version). is_file_whole v.db ≡ true) w.dbs → IsWorldText (world_file_text w) w }
-    ensures read { (w : World) → IsWorld w → All (λ (v : Version). is_file_whole v.db ≡ true) w.dbs → world_reading (world_file_text w) ≡ Ok w }
+    ensures spelled { (w : World) → IsWorld w → All (λ (v : Version). is_file_whole v.db ≡ true) w.dbs
+        → IsWorldText (world_file_text w) w }
+    ensures read { (w : World) → IsWorld w → All (λ (v : Version). is_file_whole v.db ≡ true) w.dbs
+        → world_reading (world_file_text w) ≡ Ok w }
 {
     written_databases_read_back();
     worlds_have_texts();

@@ -81,7 +81,10 @@ impl Fids {
 
     /// Binds a name that isn't bound.
     pub fn bind(&mut self, name: &[u8], fid: Fid) -> Result<(), TreeError>
-        ensures ok { OnOk result (self.new ≡ record { names = name_in_front name.now (bound_file fid) self.old.names; reserved = None }) }
+        ensures ok { OnOk result (self.new ≡ record {
+          names = name_in_front name.now (bound_file fid) self.old.names;
+          reserved = None;
+        }) }
         ensures err { OnErr result (self.new ≡ self.old) }
         ensures bad_fid { IsErrOf result BadFid ↔ (steps.is_among self.old.names name.now ≡ true) }
         ensures causes { IfErr result (λ e. (e ≡ BadFid) ⊎ (e ≡ Memory)) }
@@ -120,7 +123,10 @@ impl Fids {
     fn bind_reserved(&mut self, name: &[u8], fid: Fid)
         requires free { steps.is_among self.old.names name.now ≡ false }
         requires room { self.old.reserved ≡ Some name.now }
-        ensures { self.new ≡ record { names = name_in_front name.now (bound_file fid) self.old.names; reserved = None } }
+        ensures { self.new ≡ record {
+          names = name_in_front name.now (bound_file fid) self.old.names;
+          reserved = None;
+        } }
     {
         if let Some(text) = self.kept.take() {
             // there is room for it
@@ -131,7 +137,10 @@ impl Fids {
     // Binds a copy of the name.
     fn bind_copied(&mut self, name: &[u8], fid: Fid) -> Result<(), AllocError>
         requires free { steps.is_among self.old.names name.now ≡ false }
-        ensures ok { OnOk result (self.new ≡ record { names = name_in_front name.now (bound_file fid) self.old.names; reserved = None }) }
+        ensures ok { OnOk result (self.new ≡ record {
+          names = name_in_front name.now (bound_file fid) self.old.names;
+          reserved = None;
+        }) }
         ensures err { OnErr result (self.new ≡ self.old) }
     {
         let text = Vec::from_slice(self.alloc, name)?;

@@ -52,7 +52,8 @@ fn node_of(path: &[u8]) -> Option<Node>
 
 // What the parts behind `/net/` would name.
 fn under_net(path: &[u8]) -> Option<Node>
-    ensures { (root net : List ℕ) → result ≡ kept_node (spec.node_of (root ∷ net ∷ slice_split (λ b. b == 47) path.now)) }
+    ensures { (root net : List ℕ) → result ≡ kept_node
+        (spec.node_of (root ∷ net ∷ slice_split (λ b. b == 47) path.now)) }
 {
     let (name, rest) = split_first(path, b'/');
     match rest {

@@ -15,7 +15,8 @@ pub fn nobody_owes()
 
 /// A history has at most one fault.
 pub fn a_fault_is_one()
-    ensures { (w : World) (h : List Entry) (s t : ℕ) (r q : Rule) → IsFault w h s r → IsFault w h t q → (s ≡ t) × (r ≡ q) }
+    ensures { (w : World) (h : List Entry) (s t : ℕ) (r q : Rule) → IsFault w h s r → IsFault w h t q → (s ≡ t)
+        × (r ≡ q) }
 {}
 
 /// A history is legal and timed, or it has a fault.

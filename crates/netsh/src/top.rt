@@ -63,7 +63,12 @@ fn read_and_answer<S: Source>(
     source: &mut S,
 ) -> Result<Answer, TakeError>
     ensures answered { IsAnswered (question_read question.entry)
-        (record { left = S.left source.old; rest = S.left source.new; before = S.faults source.old; after = S.faults source.new }) result }
+        (record {
+          left = S.left source.old;
+          rest = S.left source.new;
+          before = S.faults source.old;
+          after = S.faults source.new;
+        }) result }
     ensures reads { S.reads source.new ≤ S.reads source.old + most_reads (Some (question_read question.entry)) }
 {
     if !has_input(question) {
@@ -84,7 +89,12 @@ fn read_and_run<R: Threads + Wait + Sync, S: Source, G: Gate + Sync>(
     requires some { 0 < workers }
     requires few { workers ≤ 16 }
     ensures answered { IsAnswered (AnyRun workers)
-        (record { left = S.left source.old; rest = S.left source.new; before = S.faults source.old; after = S.faults source.new }) result }
+        (record {
+          left = S.left source.old;
+          rest = S.left source.new;
+          before = S.faults source.old;
+          after = S.faults source.new;
+        }) result }
     ensures reads { S.reads source.new ≤ S.reads source.old + most_reads (Some (AnyRun workers)) }
 {
     let input = read_to_end(alloc, source, INPUT_LIMIT)?;
@@ -102,7 +112,12 @@ fn read_and_export<R: Threads + Wait + Sync, S: Source, G: Gate + Sync>(
     requires some { 0 < workers }
     requires few { workers ≤ 16 }
     ensures answered { IsAnswered (AnyExport workers)
-        (record { left = S.left source.old; rest = S.left source.new; before = S.faults source.old; after = S.faults source.new }) result }
+        (record {
+          left = S.left source.old;
+          rest = S.left source.new;
+          before = S.faults source.old;
+          after = S.faults source.new;
+        }) result }
     ensures reads { S.reads source.new ≤ S.reads source.old + most_reads (Some (AnyExport workers)) }
 {
     let input = read_to_end(alloc, source, INPUT_LIMIT)?;
@@ -140,15 +155,29 @@ fn ask_words<S: Source, K: Sink>(
     source: &mut S,
     sink: &mut K,
 ) -> Asked
-    ensures answered { (status : ℕ) → result ≡ Asked.Answered status → Ends (command_of (map string_bytes words.now)) status
-        (record { left = S.left source.old; rest = S.left source.new; before = S.faults source.old; after = S.faults source.new })
-        (record { held = K.held sink.old; holds = K.held sink.new; before = K.faults sink.old; after = K.faults sink.new })
+    ensures answered { (status : ℕ) → result ≡ Asked.Answered status
+        → Ends (command_of (map string_bytes words.now)) status
+        (record {
+          left = S.left source.old;
+          rest = S.left source.new;
+          before = S.faults source.old;
+          after = S.faults source.new;
+        })
+        (record {
+          held = K.held sink.old;
+          holds = K.held sink.new;
+          before = K.faults sink.old;
+          after = K.faults sink.new;
+        })
         × (words_wait (command_of (map string_bytes words.now)) ≡ false) }
-    ensures run { (workers : ℕ) → result ≡ Asked.Run workers → (command_of (map string_bytes words.now) ≡ Some (AnyRun workers))
+    ensures run { (workers : ℕ) → result ≡ Asked.Run workers
+        → (command_of (map string_bytes words.now) ≡ Some (AnyRun workers))
         × (source.new ≡ source.old) × (sink.new ≡ sink.old) }
-    ensures big { (messages : ℕ) → result ≡ Asked.Big messages → (command_of (map string_bytes words.now) ≡ Some (AnyBig messages))
+    ensures big { (messages : ℕ) → result ≡ Asked.Big messages
+        → (command_of (map string_bytes words.now) ≡ Some (AnyBig messages))
         × (source.new ≡ source.old) × (sink.new ≡ sink.old) }
-    ensures export { (workers : ℕ) → result ≡ Asked.Export workers → (command_of (map string_bytes words.now) ≡ Some (AnyExport workers))
+    ensures export { (workers : ℕ) → result ≡ Asked.Export workers
+        → (command_of (map string_bytes words.now) ≡ Some (AnyExport workers))
         × (source.new ≡ source.old) × (sink.new ≡ sink.old) }
     ensures reads { S.reads source.new ≤ S.reads source.old + most_reads (command_of (map string_bytes words.now)) }
 {
@@ -173,11 +202,31 @@ pub fn ask<S: Source, K: Sink>(
     ensures waits { IsNone result ↔ IsTrue (words_wait (command_of (map string_bytes words.now))) }
     ensures untouched { IfNone result ((source.new ≡ source.old) × (sink.new ≡ sink.old)) }
     ensures ends { IfSome result (λ status. Ends (command_of (map string_bytes words.now)) status
-        (record { left = S.left source.old; rest = S.left source.new; before = S.faults source.old; after = S.faults source.new })
-        (record { held = K.held sink.old; holds = K.held sink.new; before = K.faults sink.old; after = K.faults sink.new })) }
+        (record {
+          left = S.left source.old;
+          rest = S.left source.new;
+          before = S.faults source.old;
+          after = S.faults source.new;
+        })
+        (record {
+          held = K.held sink.old;
+          holds = K.held sink.new;
+          before = K.faults sink.old;
+          after = K.faults sink.new;
+        })) }
     ensures causes { IfSome result (λ status. Causes (command_of (map string_bytes words.now)) status
-        (record { left = S.left source.old; rest = S.left source.new; before = S.faults source.old; after = S.faults source.new })
-        (record { held = K.held sink.old; holds = K.held sink.new; before = K.faults sink.old; after = K.faults sink.new })) }
+        (record {
+          left = S.left source.old;
+          rest = S.left source.new;
+          before = S.faults source.old;
+          after = S.faults source.new;
+        })
+        (record {
+          held = K.held sink.old;
+          holds = K.held sink.new;
+          before = K.faults sink.old;
+          after = K.faults sink.new;
+        })) }
     ensures reads { S.reads source.new ≤ S.reads source.old + most_reads (command_of (map string_bytes words.now)) }
 {
     match ask_words(alloc, words, source, sink) {
@@ -196,11 +245,31 @@ pub fn netsh<R: Threads + Wait + Sync, S: Source, K: Sink, G: Gate + Sync>(
     gate: &G,
 ) -> u8
     ensures ends { Ends (command_of (map string_bytes words.now)) result
-        (record { left = S.left source.old; rest = S.left source.new; before = S.faults source.old; after = S.faults source.new })
-        (record { held = K.held sink.old; holds = K.held sink.new; before = K.faults sink.old; after = K.faults sink.new }) }
+        (record {
+          left = S.left source.old;
+          rest = S.left source.new;
+          before = S.faults source.old;
+          after = S.faults source.new;
+        })
+        (record {
+          held = K.held sink.old;
+          holds = K.held sink.new;
+          before = K.faults sink.old;
+          after = K.faults sink.new;
+        }) }
     ensures causes { Causes (command_of (map string_bytes words.now)) result
-        (record { left = S.left source.old; rest = S.left source.new; before = S.faults source.old; after = S.faults source.new })
-        (record { held = K.held sink.old; holds = K.held sink.new; before = K.faults sink.old; after = K.faults sink.new }) }
+        (record {
+          left = S.left source.old;
+          rest = S.left source.new;
+          before = S.faults source.old;
+          after = S.faults source.new;
+        })
+        (record {
+          held = K.held sink.old;
+          holds = K.held sink.new;
+          before = K.faults sink.old;
+          after = K.faults sink.new;
+        }) }
     ensures reads { S.reads source.new ≤ S.reads source.old + most_reads (command_of (map string_bytes words.now)) }
 {
     match ask_words(alloc, words, source, sink) {
@@ -251,7 +320,12 @@ pub fn netsh_surely<R: Threads + Wait + Sync, G: Gate + Sync>(
         (record { held = None; holds = None; before = 0; after = 0 }) }
     ensures surely { (result ≢ 6) × (result ≢ 7) }
     ensures well { (asked : AnyCommand) → command_of (map string_bytes words.now) ≡ Some asked
-        → HasGood (reads_input asked) asked (record { left = Some source.old; rest = Some source.new; before = 0; after = 0 })
+        → HasGood (reads_input asked) asked (record {
+          left = Some source.old;
+          rest = Some source.new;
+          before = 0;
+          after = 0;
+        })
         → EndsWell asked result ⊎ (result ≡ 8) }
 {
     netsh(rt, alloc, words, source, sink, gate)

@@ -46,7 +46,12 @@ fn read_and_answer<S: Source>(
     source: &mut S,
 ) -> Result<Answer, TakeError>
     ensures answered { IsAnswered (command_read command.entry)
-        (record { left = S.left source.old; rest = S.left source.new; before = S.faults source.old; after = S.faults source.new }) result }
+        (record {
+          left = S.left source.old;
+          rest = S.left source.new;
+          before = S.faults source.old;
+          after = S.faults source.new;
+        }) result }
     ensures reads { S.reads source.new ≤ S.reads source.old + most_reads (Some (command_read command.entry)) }
 {
     let input = read_to_end(alloc, source, limit_of(command))?;
@@ -61,11 +66,31 @@ pub fn netview<S: Source, K: Sink>(
     sink: &mut K,
 ) -> u8
     ensures ends { Ends (command_of (map string_bytes words.now)) result
-        (record { left = S.left source.old; rest = S.left source.new; before = S.faults source.old; after = S.faults source.new })
-        (record { held = K.held sink.old; holds = K.held sink.new; before = K.faults sink.old; after = K.faults sink.new }) }
+        (record {
+          left = S.left source.old;
+          rest = S.left source.new;
+          before = S.faults source.old;
+          after = S.faults source.new;
+        })
+        (record {
+          held = K.held sink.old;
+          holds = K.held sink.new;
+          before = K.faults sink.old;
+          after = K.faults sink.new;
+        }) }
     ensures causes { Causes (command_of (map string_bytes words.now)) result
-        (record { left = S.left source.old; rest = S.left source.new; before = S.faults source.old; after = S.faults source.new })
-        (record { held = K.held sink.old; holds = K.held sink.new; before = K.faults sink.old; after = K.faults sink.new }) }
+        (record {
+          left = S.left source.old;
+          rest = S.left source.new;
+          before = S.faults source.old;
+          after = S.faults source.new;
+        })
+        (record {
+          held = K.held sink.old;
+          holds = K.held sink.new;
+          before = K.faults sink.old;
+          after = K.faults sink.new;
+        }) }
     ensures reads { S.reads source.new ≤ S.reads source.old + most_reads (command_of (map string_bytes words.now)) }
 {
     match read_words(words) {

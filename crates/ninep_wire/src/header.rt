@@ -27,7 +27,8 @@ pub(crate) fn header_of(bytes: &[u8]) -> Result<Header<'_>, NinepError>
     ensures fields { IfOk result (λ h. h.fields.now ≡ drop 7 bytes.now) }
     ensures sized { IfOk result (λ h. HasSize bytes.now) }
     ensures short { IsErrOf result NinepError.Short ↔ (length bytes.now < 7) }
-    ensures size { IsErrOf result NinepError.Size ↔ (HasHeader bytes.now × ((size_field bytes.now ≢ length bytes.now) ⊎ (longest < length bytes.now))) }
+    ensures size { IsErrOf result NinepError.Size
+        ↔ (HasHeader bytes.now × ((size_field bytes.now ≢ length bytes.now) ⊎ (longest < length bytes.now))) }
     ensures memory { IsErrOf result NinepError.Memory → ⊥ }
     ensures bad_type { IsErrOf result NinepError.BadType → ⊥ }
     ensures field { IsErrOf result NinepError.Field → ⊥ }

@@ -17,13 +17,16 @@ pub fn decode_r(alloc: Global, bytes: &[u8]) -> Result<Rmsg, NinepError>
     // What is read is spelled so.
     ensures found { IfOk result (λ m. SpellsR m bytes.now) }
     // What is spelled so is read, unless memory runs out.
-    ensures only { (m : Rmsg) → SpellsR m bytes.now → IfOk result (λ r. r ≡ m) × IfErr result (λ e. e ≡ NinepError.Memory) }
+    ensures only { (m : Rmsg) → SpellsR m bytes.now → IfOk result (λ r. r ≡ m)
+        × IfErr result (λ e. e ≡ NinepError.Memory) }
     // What is read may be written again.
     ensures again { IfOk result (λ m. (length (r_bytes m) ≤ longest) × (length (r_qids m) < 17)) }
     // Which fault it is: the first of these.
     ensures short { IsErrOf result NinepError.Short ↔ (length bytes.now < 7) }
-    ensures size { IsErrOf result NinepError.Size ↔ (HasHeader bytes.now × ((size_field bytes.now ≢ length bytes.now) ⊎ (longest < length bytes.now))) }
-    ensures bad_type { IsErrOf result NinepError.BadType ↔ (HasSize bytes.now × (is_r_type (type_field bytes.now) ≡ false)) }
+    ensures size { IsErrOf result NinepError.Size
+        ↔ (HasHeader bytes.now × ((size_field bytes.now ≢ length bytes.now) ⊎ (longest < length bytes.now))) }
+    ensures bad_type { IsErrOf result NinepError.BadType
+        ↔ (HasSize bytes.now × (is_r_type (type_field bytes.now) ≡ false)) }
     ensures field { IsErrOf result NinepError.Field → HasRType bytes.now × ((m : Rmsg) → SpellsR m bytes.now → ⊥) }
 {
     let header = header_of(bytes)?;

@@ -78,7 +78,8 @@ impl<'a> Runner<'a> {
 
     // Whether some caller could record.
     fn goes_on(&self) -> bool
-        ensures { (w : AnyWorld) → Tracks w self.now → result ≡ list_any (could_go w self.now.history.entries) (calm.callers w) }
+        ensures { (w : AnyWorld) → Tracks w self.now
+            → result ≡ list_any (could_go w self.now.history.entries) (calm.callers w) }
     {
         for caller in 0..self.callers.len() {
             if self.could(caller) {
@@ -165,7 +166,8 @@ impl<'a> Runner<'a> {
 
     // The least of a moment and those for which callers wait.
     fn least_awaited(&self, last: u64) -> u64
-        ensures { (w : AnyWorld) → Tracks w self.now → result ≡ calm.least last (awaited_moments w self.now.history.entries) }
+        ensures { (w : AnyWorld) → Tracks w self.now
+            → result ≡ calm.least last (awaited_moments w self.now.history.entries) }
     {
         let mut least = last;
         for caller in &self.callers {

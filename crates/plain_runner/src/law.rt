@@ -14,7 +14,8 @@ use net_actors::few_works_are_small;
 /// A legal history of a world has few entries, so that its actors can count on, and in a timed one it is early.
 pub fn histories_are_short()
     ensures few { (w : World) (h : List Entry) → IsWorld w → IsLegal w h → length h < 2 ^ 30 }
-    ensures small { (w : World) (h : List Entry) (a : ActorName) → IsWorld w → IsLegal w h → IsSmallActor (state w h a) }
+    ensures small { (w : World) (h : List Entry) (a : ActorName) → IsWorld w → IsLegal w h
+        → IsSmallActor (state w h a) }
     ensures early { (w : World) (h : List Entry) → IsWorld w → IsTimed w h → moment w h < 2 ^ 63 }
 {
     callers_have_room();

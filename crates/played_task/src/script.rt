@@ -178,7 +178,8 @@ fn take_reply(
         → through ≡ spec.is_played (spec.told_by_task left.old task.old (slice_get steps.now finished) reply) names) }
     ensures goes_on { IfOk result (λ through. through ≡ false
         → task.new ≡ spec.told_by_task left.old task.old (slice_get steps.now finished) reply) }
-    ensures left { OnOk result (left.new ≡ spec.left_by (spec.told_by_task left.old task.old (slice_get steps.now finished) reply) left.old) }
+    ensures left { OnOk result (left.new ≡ spec.left_by
+        (spec.told_by_task left.old task.old (slice_get steps.now finished) reply) left.old) }
     ensures err { OnErr result (spec.begun_by left.new task.new (slice_get steps.now finished)
         ≡ spec.begun_by left.old task.old (slice_get steps.now finished)) }
     ensures kept { OnErr result (left.new ≡ left.old) }

@@ -14,5 +14,6 @@ ghost use Rattle.net_base.specs.World.{IsWorld};
 pub fn some_duty_is_ready()
     ensures { (w : World) (h : List Entry) (c : ℕ) → IsWorld w → IsLegal w h → owes (after w h) c ≡ true
         → (b : ℕ) × (d : Duty) × (ds : List Duty) × (b < caller_count w) × (owed w h b ≡ d ∷ ds)
-        × IsSome (actor_step w d.actor ((after w h).actors d.actor) (after w h).moment (record { event = d.event; with = d.with })) }
+        × IsSome (actor_step w d.actor ((after w h).actors d.actor) (after w h).moment
+        (record { event = d.event; with = d.with })) }
 {}

@@ -40,7 +40,13 @@ impl Model for Player {
 
     ghost Value = { Playing };
 
-    ghost view = { λ p. record { holdings = p.fids; finished = p.finished; task = p.task; effect = p.effect; left = p.left } };
+    ghost view = { λ p. record {
+      holdings = p.fids;
+      finished = p.finished;
+      task = p.task;
+      effect = p.effect;
+      left = p.left;
+    } };
 
     ghost invariant = { λ p. IfSome p.effect (λ e. EffectHasRoom e p.fids) };
 }

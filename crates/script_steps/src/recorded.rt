@@ -64,7 +64,8 @@ fn note_entry(
     entry: &Entry,
 ) -> Result<(), AllocError>
     requires { entry.now.caller < length runner.now.callers.items }
-    ensures { OnOk result ((w : AnyWorld) (c : ℕ) (s : AnyScript) (n : ℕ) → Tracks w runner.now → slice_get w.scripts c ≡ Some s
+    ensures { OnOk result ((w : AnyWorld) (c : ℕ) (s : AnyScript) (n : ℕ) → Tracks w runner.now
+        → slice_get w.scripts c ≡ Some s
         → latest_at latest.new.entries (c, n) ≡ cond (is_of_step w runner.now.history.entries c s n entry.now)
         (latest_noted stamp (latest_at latest.old.entries (c, n))) (latest_at latest.old.entries (c, n))) }
 {
@@ -83,7 +84,8 @@ fn note_entry(
 // A step recorded an entry.
 fn note(latest: &mut LatestSteps, key: StepKey, stamp: usize) -> Result<(), AllocError>
     ensures { OnOk result ((other : ℕ × ℕ) → latest_at latest.new.entries other
-        ≡ cond (same_step key other) (latest_noted stamp (latest_at latest.old.entries key)) (latest_at latest.old.entries other)) }
+        ≡ cond (same_step key other) (latest_noted stamp (latest_at latest.old.entries key))
+        (latest_at latest.old.entries other)) }
 {
     let before = last_of(latest, key);
     latest.insert(

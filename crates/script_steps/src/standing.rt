@@ -22,7 +22,8 @@ pub fn finished(runner: &Runner<'_>, caller: u32) -> Option<usize>
 }
 
 fn finished_steps(caller: &Caller<'_>) -> Option<usize>
-    ensures { (w : AnyWorld) (h : List AnyEntry) (c : ℕ) (s : AnyScript) → IsCallerKept w h c caller.now → slice_get w.scripts c ≡ Some s
+    ensures { (w : AnyWorld) (h : List AnyEntry) (c : ℕ) (s : AnyScript) → IsCallerKept w h c caller.now
+        → slice_get w.scripts c ≡ Some s
         → result ≡ Some (finished_by (zone_of w) (own_replies h c) s) }
 {
     match &caller.role {
@@ -34,7 +35,8 @@ fn finished_steps(caller: &Caller<'_>) -> Option<usize>
 
 /// How many steps of a script are answered: what it owes belongs to the step of its last own event.
 pub fn answered(caller: &Caller<'_>) -> usize
-    ensures { (w : AnyWorld) (h : List AnyEntry) (c : ℕ) (s : AnyScript) → IsCallerKept w h c caller.now → slice_get w.scripts c ≡ Some s
+    ensures { (w : AnyWorld) (h : List AnyEntry) (c : ℕ) (s : AnyScript) → IsCallerKept w h c caller.now
+        → slice_get w.scripts c ≡ Some s
         → result ≡ answered_by w h (c, s) }
 {
     if owes(caller) {

@@ -58,7 +58,8 @@ fn put_scripts(
 ) -> Result<(), AllocError>
     requires followed { Followed world.now entries.now record.now.runner }
     requires latest { AreLatest world.now entries.now (length entries.now) record.now.latest.entries }
-    ensures { OnOk result (out.new ≡ out.old ++ spec.scripts_text world.now entries.now lines.now (enumerate_from 0 world.now.scripts)) }
+    ensures { OnOk result (out.new ≡ out.old ++ spec.scripts_text world.now entries.now lines.now
+        (enumerate_from 0 world.now.scripts)) }
 {
     let mut left = lines;
     let scripts = world.scripts.as_slice();
@@ -98,7 +99,8 @@ fn put_script(
     requires caller { IsCallerKept world.now player.entries.now player.number player.caller.now }
     requires script { slice_get world.now.scripts player.number ≡ Some player.script.now }
     requires latest { AreLatest world.now player.entries.now (length player.entries.now) player.latest.now.entries }
-    ensures { OnOk result (out.new ≡ out.old ++ spec.script_text world.now player.entry.entries.now lines.now (player.entry.number, player.entry.script.now)) }
+    ensures { OnOk result (out.new ≡ out.old ++ spec.script_text world.now player.entry.entries.now lines.now
+        (player.entry.number, player.entry.script.now)) }
 {
     for step in 0..player.script.steps.len() {
         put_step(out, alloc, world, player, lines, step)?;
@@ -118,7 +120,8 @@ fn put_step(
     requires caller { IsCallerKept world.now player.entries.now player.number player.caller.now }
     requires script { slice_get world.now.scripts player.number ≡ Some player.script.now }
     requires latest { AreLatest world.now player.entries.now (length player.entries.now) player.latest.now.entries }
-    ensures { OnOk result (out.new ≡ out.old ++ spec.step_text world.now player.entry.entries.now lines.now (player.entry.number, player.entry.script.now) step) }
+    ensures { OnOk result (out.new ≡ out.old ++ spec.step_text world.now player.entry.entries.now lines.now
+        (player.entry.number, player.entry.script.now) step) }
 {
     put_place(out, lines, step, player.number)?;
     out.append(b": ")?;
@@ -137,7 +140,8 @@ fn put_state(
     requires caller { IsCallerKept world.now player.entries.now player.number player.caller.now }
     requires script { slice_get world.now.scripts player.number ≡ Some player.script.now }
     requires latest { AreLatest world.now player.entries.now (length player.entries.now) player.latest.now.entries }
-    ensures { OnOk result (out.new ≡ out.old ++ spec.state_text world.now player.entry.entries.now (player.entry.number, player.entry.script.now) step) }
+    ensures { OnOk result (out.new ≡ out.old ++ spec.state_text world.now player.entry.entries.now
+        (player.entry.number, player.entry.script.now) step) }
 {
     let finished = answered(player.caller);
     if step < finished {

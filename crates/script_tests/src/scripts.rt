@@ -1,10 +1,10 @@
 //! A script, from its first request to its last.
 use crate::holding::no_names;
 use net_base::{Lines, Octets, Reply, Script, Sequence, Step};
+use played_task::ScriptTask;
 use script_task::{Request, Task};
 use std::alloc::{AllocError, Global};
 use std::test::*;
-use played_task::ScriptTask;
 
 fn dials(alloc: Global) -> Result<Step, AllocError> {
     Ok(Step::Dial {

@@ -26,7 +26,8 @@ pub fn answers_by<E: Entries>(
     entries: &E,
     owes: bool,
 ) -> Result<Lines, AllocError>
-    ensures { IfOk result (λ lines. (ms : List AnyTmsg) → AreMessages bytes.now ms → AreTold (own_replies (E.list entries.now) caller)
+    ensures { IfOk result (λ lines. (ms : List AnyTmsg) → AreMessages bytes.now ms
+        → AreTold (own_replies (E.list entries.now) caller)
         → lines ≡ answers_to (spec.session host) spec.first ms (answered_of owes (E.list entries.now) caller)) }
 {
     let mut session = Session::new(alloc, host)?;
@@ -53,7 +54,8 @@ fn serve_first<'a, E: Entries>(
     requires sound { IsSound (seen_table session.old.table) }
     ensures served { IfOk result (λ first. MatchOption first
         (IsLastMessage session.old.host (session_state session.old) bytes.now replies.old)
-        (λ x. IsServedFirst session.old.host (session_state session.old) (session_state session.new) bytes.now x.1.now x.0 replies.old replies.new)) }
+        (λ x. IsServedFirst session.old.host (session_state session.old) (session_state session.new) bytes.now x.1.now
+        x.0 replies.old replies.new)) }
     ensures sound { IfOk result (λ first. IfSome first (λ x. IsSound (seen_table session.new.table))) }
     ensures shorter { IfOk result (λ first. IfSome first (λ x. length x.1.now < length bytes.now)) }
     ensures host { session.new.host ≡ session.old.host }

@@ -41,7 +41,8 @@ pub fn is_told(reply: &Reply) -> bool
 fn replied(alloc: Global, table: &Table, message: &Tmsg, reply: &Reply) -> Result<Rmsg, AllocError>
     requires { IsTmsg message.now }
     ensures told { IfOk result (λ m. m ≡ told_by_reply (seen_table table.now) message.now reply.now) }
-    ensures short { OnOk result (spec.is_granting reply.now ≡ false → length (told_reply_text reply.now) ≤ spec.longest_error) }
+    ensures short { OnOk result (spec.is_granting reply.now ≡ false → length (told_reply_text reply.now)
+        ≤ spec.longest_error) }
 {
     if is_granting(reply) {
         return granted(alloc, table, message, reply);

@@ -80,7 +80,8 @@ fn own_count<E: Entries>(entries: &E, caller: u32) -> usize
 #[tactic(auto, using(crate::proofs::OwnReplies::own_at, crate::proofs::OwnReplies::other_at, crate::proofs::OwnReplies::none_behind))]
 fn next_own<E: Entries>(entries: &E, caller: u32, first: usize) -> Option<(&Reply, usize)>
     ensures { MatchOption result (own_replies (drop first (E.list entries.entry.now)) caller ≡ [])
-        (λ x. own_replies (drop first (E.list entries.entry.now)) caller ≡ x.0.now ∷ own_replies (drop x.1 (E.list entries.entry.now)) caller) }
+        (λ x. own_replies (drop first (E.list entries.entry.now)) caller
+        ≡ x.0.now ∷ own_replies (drop x.1 (E.list entries.entry.now)) caller) }
 {
     for stamp in first..entries.count() {
         let entry = entries.entry(stamp);

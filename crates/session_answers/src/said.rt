@@ -25,7 +25,8 @@ pub fn said_bytes(
 ) -> Result<Octets, AllocError>
     requires message { IsTmsg message.now }
     requires short { table.now.msize ≤ longest }
-    ensures { IfOk result (λ bytes. bytes ≡ r_bytes (spec.said_at_once (seen_table table.now) (found_lines found.now) message.now)) }
+    ensures { IfOk result (λ bytes. bytes ≡ r_bytes
+        (spec.said_at_once (seen_table table.now) (found_lines found.now) message.now)) }
 {
     let answer = said(alloc, table, found, message)?;
     encode_r(alloc, &answer)
@@ -148,7 +149,8 @@ fn walk_answer(
     newfid: u32,
     names: &Lines,
 ) -> Result<Rmsg, AllocError>
-    ensures { IfOk result (λ m. m ≡ spec.of_known tag ((seen_table table.now).fids fid) (spec.walk_answer (seen_table table.now) tag fid newfid names.now)) }
+    ensures { IfOk result (λ m. m ≡ spec.of_known tag ((seen_table table.now).fids fid)
+        (spec.walk_answer (seen_table table.now) tag fid newfid names.now)) }
 {
     let Some(target) = table.fids.get(fid) else {
         return error(alloc, tag, b"bad fid");
@@ -215,7 +217,8 @@ fn read_answer(
     offset: u64,
     count: u32,
 ) -> Result<Rmsg, AllocError>
-    ensures { IfOk result (λ m. m ≡ spec.of_used tag ((seen_table table.now).fids fid) (spec.read_answer (seen_table table.now) (found_lines found.now) tag fid offset count)) }
+    ensures { IfOk result (λ m. m ≡ spec.of_used tag ((seen_table table.now).fids fid)
+        (spec.read_answer (seen_table table.now) (found_lines found.now) tag fid offset count)) }
 {
     let Some(target) = table.fids.get(fid) else {
         return error(alloc, tag, b"bad fid");

@@ -60,8 +60,10 @@ impl Session {
         requires message { IsTmsg message.now }
         requires short { self.old.table.msize ≤ longest }
         ensures served { IfOk result (λ answer.
-            outcome_by ((told.session_of self.old.host).serves (session_state self.old) message.now) replies.old ≡ served answer (session_state self.new) replies.new) }
-        ensures heard { IfOk result (λ answer. IfSome answer (λ bytes. seen_table self.new.table ≡ table_next (seen_table self.old.table) message.now)) }
+            outcome_by ((told.session_of self.old.host).serves (session_state self.old) message.now) replies.old
+            ≡ served answer (session_state self.new) replies.new) }
+        ensures heard { IfOk result (λ answer. IfSome answer
+            (λ bytes. seen_table self.new.table ≡ table_next (seen_table self.old.table) message.now)) }
         ensures host { self.new.host ≡ self.old.host }
     {
         match step_of(self.alloc, &self.table, message)? {
@@ -74,7 +76,8 @@ impl Session {
     fn tell(&mut self, message: &Tmsg) -> Result<Octets, AllocError>
         requires message { IsTmsg message.now }
         requires short { self.old.table.msize ≤ longest }
-        ensures told { IfOk result (λ answer. spec.told (session_state self.old) message.now ≡ Gives answer (session_state self.new)) }
+        ensures told { IfOk result (λ answer. spec.told (session_state self.old) message.now
+            ≡ Gives answer (session_state self.new)) }
         ensures heard { OnOk result (seen_table self.new.table ≡ table_next (seen_table self.old.table) message.now) }
         ensures host { self.new.host ≡ self.old.host }
     {
@@ -94,8 +97,10 @@ impl Session {
         requires short { self.old.table.msize ≤ longest }
         requires step { IsServed step }
         ensures served { IfOk result (λ answer.
-            outcome_by (told.steps_by self.old.host (session_state self.old) message.now (Some step)) replies.old ≡ served answer (session_state self.new) replies.new) }
-        ensures heard { IfOk result (λ answer. IfSome answer (λ bytes. seen_table self.new.table ≡ table_next (seen_table self.old.table) message.now)) }
+            outcome_by (told.steps_by self.old.host (session_state self.old) message.now (Some step)) replies.old
+            ≡ served answer (session_state self.new) replies.new) }
+        ensures heard { IfOk result (λ answer. IfSome answer
+            (λ bytes. seen_table self.new.table ≡ table_next (seen_table self.old.table) message.now)) }
         ensures host { self.new.host ≡ self.old.host }
     {
         match self.play(step, replies)? {
@@ -109,7 +114,8 @@ impl Session {
         requires message { IsTmsg message.now }
         requires short { self.old.table.msize ≤ longest }
         ensures told { IfOk result (λ answer.
-            told.last_by (session_state self.old) message.now self.old.names.names (Some reply.now) ≡ Gives answer (session_state self.new)) }
+            told.last_by (session_state self.old) message.now self.old.names.names (Some reply.now)
+            ≡ Gives answer (session_state self.new)) }
         ensures heard { OnOk result (seen_table self.new.table ≡ table_next (seen_table self.old.table) message.now) }
         ensures host { self.new.host ≡ self.old.host }
     {
@@ -122,7 +128,8 @@ impl Session {
     // Takes a message that had no step.
     fn hear(&mut self, message: &Tmsg) -> Result<(), AllocError>
         ensures table { OnOk result (seen_table self.new.table ≡ table_next (seen_table self.old.table) message.now) }
-        ensures found { OnOk result (found_lines self.new.found ≡ found_after (found_lines self.old.found) message.now) }
+        ensures found { OnOk result (found_lines self.new.found ≡ found_after (found_lines self.old.found)
+            message.now) }
         ensures names { self.new.names ≡ self.old.names }
         ensures host { self.new.host ≡ self.old.host }
     {
@@ -137,7 +144,8 @@ impl Session {
         replies: &mut Replies<'r, E>,
     ) -> Result<Option<&'r Reply>, AllocError>
         requires { IsServed step }
-        ensures plays { IfOk result (λ reply. Reaches self.old.host self.old.names.names step replies.old self.new.names.names (option_copied reply) replies.new) }
+        ensures plays { IfOk result (λ reply. Reaches self.old.host self.old.names.names step replies.old
+            self.new.names.names (option_copied reply) replies.new) }
         ensures table { self.new.table ≡ self.old.table }
         ensures found { self.new.found ≡ self.old.found }
         ensures host { self.new.host ≡ self.old.host }
@@ -158,7 +166,8 @@ impl Session {
 
     // A write to cs leaves its lines to be read, and they go with their fid.
     fn keep_lines(&mut self, message: &Tmsg, reply: &Reply) -> Result<(), AllocError>
-        ensures found { OnOk result (found_lines self.new.found ≡ found_by (seen_table self.old.table) (found_lines self.old.found) message.now reply.now) }
+        ensures found { OnOk result (found_lines self.new.found ≡ found_by (seen_table self.old.table)
+            (found_lines self.old.found) message.now reply.now) }
         ensures table { self.new.table ≡ self.old.table }
         ensures names { self.new.names ≡ self.old.names }
         ensures host { self.new.host ≡ self.old.host }

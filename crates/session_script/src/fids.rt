@@ -41,7 +41,8 @@ impl Fids {
 
     /// The fid was opened, where it stands for something. It takes no memory.
     pub fn use_it(&mut self, fid: u32)
-        ensures { fid_stands self.new ≡ with_fid fid (option_map target_opened (fid_stands self.old fid)) (fid_stands self.old) }
+        ensures { fid_stands self.new ≡ with_fid fid (option_map target_opened (fid_stands self.old fid))
+            (fid_stands self.old) }
     {
         if let Some(target) = self.entries.get_mut(&fid) {
             target.is_used = true;

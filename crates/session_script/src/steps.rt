@@ -109,7 +109,8 @@ fn read_step(
     offset: u64,
     count: u32,
 ) -> Result<Option<Step>, AllocError>
-    ensures { IfOk result (λ step. step ≡ option_and_then (spec.read_step (seen_table table.now) fid offset count) (known.used (seen_table table.now) fid)) }
+    ensures { IfOk result (λ step. step ≡ option_and_then (spec.read_step (seen_table table.now) fid offset count)
+        (known.used (seen_table table.now) fid)) }
 {
     let Some(target) = table.used(fid) else {
         return Ok(None);
@@ -153,7 +154,8 @@ fn write_step(
     fid: u32,
     bytes: &Octets,
 ) -> Result<Option<Step>, AllocError>
-    ensures { IfOk result (λ step. step ≡ option_and_then (spec.write_step fid bytes.now) (known.used (seen_table table.now) fid)) }
+    ensures { IfOk result (λ step. step ≡ option_and_then (spec.write_step fid bytes.now)
+        (known.used (seen_table table.now) fid)) }
 {
     let Some(target) = table.used(fid) else {
         return Ok(None);
@@ -167,7 +169,8 @@ fn write_step(
 }
 
 fn close_step(alloc: Global, table: &Table, fid: u32) -> Result<Option<Step>, AllocError>
-    ensures { IfOk result (λ step. step ≡ option_and_then (spec.close_step fid) (known.used (seen_table table.now) fid)) }
+    ensures { IfOk result (λ step. step ≡ option_and_then (spec.close_step fid)
+        (known.used (seen_table table.now) fid)) }
 {
     let Some(target) = table.used(fid) else {
         return Ok(None);

@@ -48,9 +48,11 @@ fn add_step<'a>(
     steps: &mut StepList,
     bytes: &'a [u8],
 ) -> Result<&'a [u8], ExportError>
-    ensures found { IfOk result (λ rest. TakesBytes (seen_table table.old) (seen_table table.new) steps.old steps.new bytes.now rest.now) }
+    ensures found { IfOk result (λ rest. TakesBytes (seen_table table.old) (seen_table table.new) steps.old steps.new
+        bytes.now rest.now) }
     ensures shorter { IfOk result (λ rest. length rest.now < length bytes.now) }
-    ensures bad { IsErrOf result ExportError.BadStream → (m : AnyTmsg) (rest : List ℕ) → Begins table.old.msize m bytes.now rest → ⊥ }
+    ensures bad { IsErrOf result ExportError.BadStream → (m : AnyTmsg) (rest : List ℕ)
+        → Begins table.old.msize m bytes.now rest → ⊥ }
 {
     match first_message(alloc, table.msize, bytes) {
         Ok((message, rest)) => match hear_first(alloc, table, steps, &message) {
@@ -69,7 +71,8 @@ fn hear_first(
     message: &Tmsg,
 ) -> Result<(), AllocError>
     ensures table { OnOk result (seen_table table.new ≡ spec.table_next (seen_table table.old) message.now) }
-    ensures steps { OnOk result (steps.new ≡ steps.old ++ option_to_list (spec.message_step (seen_table table.old) message.now)) }
+    ensures steps { OnOk result (steps.new ≡ steps.old ++ option_to_list
+        (spec.message_step (seen_table table.old) message.now)) }
 {
     let step = step_of(alloc, table, message)?;
     add(steps, step)?;
@@ -89,7 +92,8 @@ fn add(steps: &mut StepList, step: Option<Step>) -> Result<(), AllocError>
 /// The message that the bytes begin with, which is no longer than this, and the bytes behind it.
 pub fn first_message(alloc: Global, msize: u32, bytes: &[u8]) -> Result<(Tmsg, &[u8]), ExportError>
     ensures found { IfOk result (λ x. Begins msize x.0 bytes.now x.1.now) }
-    ensures bad { IsErrOf result ExportError.BadStream → (m : AnyTmsg) (rest : List ℕ) → Begins msize m bytes.now rest → ⊥ }
+    ensures bad { IsErrOf result ExportError.BadStream → (m : AnyTmsg) (rest : List ℕ) → Begins msize m bytes.now rest
+        → ⊥ }
 {
     let Some(size) = size_of(msize, bytes) else {
         return Err(ExportError::BadStream);
@@ -103,8 +107,10 @@ pub fn first_message(alloc: Global, msize: u32, bytes: &[u8]) -> Result<(Tmsg, &
 
 // How many bytes the first message has, where they are there and no more than this.
 fn size_of(msize: u32, bytes: &[u8]) -> Option<usize>
-    ensures told { IfSome result (λ size. (size ≡ little_number 4 bytes.now) × (size ≤ msize) × (size ≤ length bytes.now)) }
-    ensures none { IfNone result (4 ≤ length bytes.now → little_number 4 bytes.now ≤ msize → little_number 4 bytes.now ≤ length bytes.now → ⊥) }
+    ensures told { IfSome result (λ size. (size ≡ little_number 4 bytes.now) × (size ≤ msize)
+        × (size ≤ length bytes.now)) }
+    ensures none { IfNone result (4 ≤ length bytes.now → little_number 4 bytes.now ≤ msize
+        → little_number 4 bytes.now ≤ length bytes.now → ⊥) }
 {
     if bytes.len() < 4 {
         return None;

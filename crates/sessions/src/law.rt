@@ -32,10 +32,12 @@ pub fn a_session_is_answered()
     ensures messages { hex_digits (flat_map t_bytes worked.messages) ≡ worked.feed }
     ensures stream { AreMessages (flat_map t_bytes worked.messages) worked.messages }
     ensures script { script worked.messages ≡ worked.steps }
-    ensures answers { map hex_digits (answers_to (session 0) first worked.messages worked.worked_replies) ≡ worked.worked_answers }
+    ensures answers { map hex_digits (answers_to (session 0) first worked.messages worked.worked_replies)
+        ≡ worked.worked_answers }
 {}
 
 /// Each step of a session's script is one that a world file can say.
 pub fn scripts_can_be_said()
-    ensures { (bytes : List ℕ) (steps : List Step) → list_all is_byte bytes ≡ true → IsScript bytes steps → list_all is_step steps ≡ true }
+    ensures { (bytes : List ℕ) (steps : List Step) → list_all is_byte bytes ≡ true → IsScript bytes steps
+        → list_all is_step steps ≡ true }
 {}

@@ -459,7 +459,8 @@ fn once(request: Request) -> StepTask
 
 // Opens a path, in its own mode where the step names none.
 fn open(name: &Octets, path: &Octets, mode: Option<Mode>) -> Result<Request, AllocError>
-    ensures { (left : AnyLeft) → IfOk result (λ q. spec.begun_own left (step.Open name.now path.now mode) ≡ spec.asks_once q) }
+    ensures { (left : AnyLeft) → IfOk result (λ q. spec.begun_own left (step.Open name.now path.now mode)
+        ≡ spec.asks_once q) }
 {
     let mode = match mode {
         Some(mode) => mode,

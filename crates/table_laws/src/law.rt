@@ -16,8 +16,10 @@ ghost use Rattle.table_laws.specs.DirRows.{DirRow};
 
 /// Each step of an actor is that of a row.
 pub fn steps_are_rows()
-    ensures conversations { (slot now : ℕ) (c : Conv) (e : Event) (gift : With) → IfSome (conv_step slot e gift now c) (λ (s : Step Conv). ConvRow slot now c e gift s) }
-    ensures directories { (w : World) (h : ℕ) (p : Proto) (d : Dir) (e : Event) (gift : With) → IfSome (dir_step w h p e gift d) (λ (s : Step Dir). DirRow w h p d e gift s) }
+    ensures conversations { (slot now : ℕ) (c : Conv) (e : Event) (gift : With)
+        → IfSome (conv_step slot e gift now c) (λ (s : Step Conv). ConvRow slot now c e gift s) }
+    ensures directories { (w : World) (h : ℕ) (p : Proto) (d : Dir) (e : Event) (gift : With)
+        → IfSome (dir_step w h p e gift d) (λ (s : Step Dir). DirRow w h p d e gift s) }
     ensures actors { (w : World) (now : ℕ) (a : ActorName) (s : Actor) (work : Work)
         → IfSome (actor_step w a s now work) (λ (t : Step Actor). ActorRow w now a s work.event work.with t) }
 {}

@@ -69,7 +69,8 @@ fn put_steps(out: &mut Octets, answered: u128, all: u128) -> Result<(), AllocErr
 }
 
 fn put_totals(out: &mut Octets, totals: Totals) -> Result<(), AllocError>
-    ensures { OnOk result (out.new ≡ out.old ++ (both_line (codes "messages") totals.written totals.read ++ both_line (codes "bytes") totals.bytes_written totals.bytes_read)) }
+    ensures { OnOk result (out.new ≡ out.old ++ (both_line (codes "messages") totals.written totals.read ++ both_line
+        (codes "bytes") totals.bytes_written totals.bytes_read)) }
 {
     put_both(
         out,

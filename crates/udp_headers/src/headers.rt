@@ -35,13 +35,15 @@ pub fn decode_headers(bytes: &[u8]) -> Result<HeadersView<'_>, HeadersError>
     // What is read is spelled so.
     ensures found { IfOk result (λ v. SpellsHeaders v.headers v.text.now bytes.now) }
     // What is spelled so is read.
-    ensures only { (h : Headers) (text : List ℕ) → SpellsHeaders h text bytes.now → IsOkAnd result (λ v. (v.headers ≡ h) × (v.text.now ≡ text)) }
+    ensures only { (h : Headers) (text : List ℕ) → SpellsHeaders h text bytes.now
+        → IsOkAnd result (λ v. (v.headers ≡ h) × (v.text.now ≡ text)) }
     // What is read is the fields at their places.
     ensures fields { IfOk result (λ v. (v.headers ≡ headers_of bytes.now) × (v.text.now ≡ text_behind bytes.now)) }
     ensures whole { IsOk result ↔ (has_headers bytes.now ≡ true) }
     // Which fault it is: the first of these.
     ensures short { IsErrOf result HeadersError.Short ↔ (length bytes.now < 52) }
-    ensures not_mapped { IsErrOf result HeadersError.NotMapped ↔ (AreWholeHeaders bytes.now × (all_mapped bytes.now ≡ false)) }
+    ensures not_mapped { IsErrOf result HeadersError.NotMapped
+        ↔ (AreWholeHeaders bytes.now × (all_mapped bytes.now ≡ false)) }
 {
     if bytes.len() < HEADERS {
         return Err(HeadersError::Short);

@@ -10,5 +10,6 @@ pub fn headers_are_read()
 
 /// Bytes spell one value alone.
 pub fn headers_read_once()
-    ensures { (h other : Headers) (text rest bytes : List ℕ) → SpellsHeaders h text bytes → SpellsHeaders other rest bytes → (h ≡ other) × (text ≡ rest) }
+    ensures { (h other : Headers) (text rest bytes : List ℕ) → SpellsHeaders h text bytes
+        → SpellsHeaders other rest bytes → (h ≡ other) × (text ≡ rest) }
 {}

@@ -31,7 +31,8 @@ pub fn a_lost_frame_is_sent_again()
 
 /// The law of what is read speaks of such a world: both conversations of the call are peers, and what the one wrote the other reads.
 pub fn a_call_has_two_ends()
-    ensures call { IsWorld lossy_world × IsLegal lossy_world lossy_history × (peer lossy_world lossy_history called ≡ Some calling) }
+    ensures call { IsWorld lossy_world × IsLegal lossy_world lossy_history
+        × (peer lossy_world lossy_history called ≡ Some calling) }
     ensures back { peer lossy_world lossy_history calling ≡ Some called }
     ensures written { written_texts lossy_history calling ≡ codes "hello" ∷ [] }
     ensures read { read_texts lossy_history called ≡ codes "hello" ∷ [] }
@@ -66,15 +67,18 @@ pub fn runs_are_as_worked()
     ensures hello_moves { moves (run_of 100 hello_world) ≡ 10 ∷ [] }
     ensures early_close_texts_read { texts_read (run_of 100 early_close_world) ≡ codes "hello" ∷ [] ∷ [] }
     ensures early_close_moves { moves (run_of 100 early_close_world) ≡ 10 ∷ [] }
-    ensures early_close_kinds { kinds (run_of 100 early_close_world) ≡ Sync ∷ Sync ∷ Ack ∷ Data ∷ Close ∷ State ∷ DataQuery ∷ State ∷ Close ∷ Close ∷ [] }
+    ensures early_close_kinds { kinds (run_of 100 early_close_world) ≡ Sync ∷ Sync ∷ Ack ∷ Data ∷ Close ∷ State
+        ∷ DataQuery ∷ State ∷ Close ∷ Close ∷ [] }
     ensures repeated_texts_read { texts_read (run_of 100 repeated_world) ≡ codes "a" ∷ codes "b" ∷ codes "c" ∷ [] ∷ [] }
     ensures wrapping_texts_read { texts_read (run_of 100 wrapping_world) ≡ codes "a" ∷ codes "b" ∷ codes "c" ∷ [] ∷ [] }
     ensures wrapping_data_ids { data_ids (run_of 100 wrapping_world) ≡ 4294967295 ∷ 0 ∷ 1 ∷ [] }
     ensures cut_texts_read { texts_read (run_of 100 cut_world) ≡ codes "he" ∷ codes "llo" ∷ [] }
-    ensures nobody_moves { moves (run_of 100 nobody_world) ≡ 10 ∷ 510 ∷ 1510 ∷ 3510 ∷ 7510 ∷ 15510 ∷ 23510 ∷ 30010 ∷ [] }
+    ensures nobody_moves { moves (run_of 100 nobody_world) ≡ 10 ∷ 510 ∷ 1510 ∷ 3510 ∷ 7510 ∷ 15510 ∷ 23510 ∷ 30010
+        ∷ [] }
     ensures nobody_kinds { kinds (run_of 100 nobody_world) ≡ Sync ∷ Sync ∷ Sync ∷ Sync ∷ Sync ∷ Sync ∷ Sync ∷ [] }
     ensures hello_is_done { done hello_world (rounds 100 hello_world (opening_net hello_world)) ≡ true }
-    ensures early_close_is_done { done early_close_world (rounds 100 early_close_world (opening_net early_close_world)) ≡ true }
+    ensures early_close_is_done { done early_close_world
+        (rounds 100 early_close_world (opening_net early_close_world)) ≡ true }
     ensures repeated_is_done { done repeated_world (rounds 100 repeated_world (opening_net repeated_world)) ≡ true }
     ensures wrapping_is_done { done wrapping_world (rounds 100 wrapping_world (opening_net wrapping_world)) ≡ true }
     ensures cut_is_done { done cut_world (rounds 100 cut_world (opening_net cut_world)) ≡ true }
@@ -83,16 +87,21 @@ pub fn runs_are_as_worked()
     ensures lost_is_stopped { stopped lost_world (rounds 200 lost_world (opening_net lost_world)) ≡ true }
     ensures dropped_texts_read { texts_read (run_of 100 dropped_world) ≡ codes "he" ∷ [] }
     ensures dropped_is_stopped { stopped dropped_world (rounds 100 dropped_world (opening_net dropped_world)) ≡ true }
-    ensures two_calls_texts_read { texts_read (run_of 100 two_calls_world) ≡ codes "one" ∷ codes "two" ∷ codes "eno" ∷ codes "owt" ∷ [] }
+    ensures two_calls_texts_read { texts_read (run_of 100 two_calls_world) ≡ codes "one" ∷ codes "two" ∷ codes "eno"
+        ∷ codes "owt" ∷ [] }
     ensures two_calls_is_done { done two_calls_world (rounds 100 two_calls_world (opening_net two_calls_world)) ≡ true }
 {}
 
 /// Where callers may record few entries, one that has so many is passed over, and the run ends as limited, where it could record more.
 pub fn small_limits_end_runs()
-    ensures passed { who_recorded (rounds_to 7 60 lossy_world (opening_net lossy_world)).past ≡ who_recorded (take 19 lossy_history) ++ (2 ∷ 2 ∷ 2 ∷ []) }
+    ensures passed { who_recorded (rounds_to 7 60 lossy_world (opening_net lossy_world)).past
+        ≡ who_recorded (take 19 lossy_history) ++ (2 ∷ 2 ∷ 2 ∷ []) }
     ensures limited { limited_to 7 lossy_world (rounds_to 7 60 lossy_world (opening_net lossy_world)) ≡ true }
     ensures enough { (rounds_to 8 30 datagram_world (opening_net datagram_world)).past ≡ datagram_history }
-    ensures enough_is_unlimited { limited_to 8 datagram_world (rounds_to 8 30 datagram_world (opening_net datagram_world)) ≡ false }
-    ensures clock_moves { moves (rounds_to 10 100 nobody_world (opening_net nobody_world)).past ≡ 10 ∷ 510 ∷ 1510 ∷ 3510 ∷ [] }
-    ensures clock_is_limited { limited_to 10 nobody_world (rounds_to 10 100 nobody_world (opening_net nobody_world)) ≡ true }
+    ensures enough_is_unlimited { limited_to 8 datagram_world
+        (rounds_to 8 30 datagram_world (opening_net datagram_world)) ≡ false }
+    ensures clock_moves { moves (rounds_to 10 100 nobody_world (opening_net nobody_world)).past
+        ≡ 10 ∷ 510 ∷ 1510 ∷ 3510 ∷ [] }
+    ensures clock_is_limited { limited_to 10 nobody_world (rounds_to 10 100 nobody_world (opening_net nobody_world))
+        ≡ true }
 {}

@@ -13,9 +13,14 @@ ghost use Rattle.worked_imports.specs.WorkedImport.{helix_side, anna_side, carri
 
 /// The law of imports speaks of such a world, in 70 entries: its premises hold of both scripts, and each message has its reply.
 pub fn a_call_carries_files()
-    ensures call { IsWorld carried_world × IsLegal carried_world carried_history × (peer carried_world carried_history anna_side ≡ Some helix_side) }
-    ensures near { (caller_of carried_world 0 ≡ IsScript importer) × AllImported carried_world carried_history 0 importer anna_side }
-    ensures far { (caller_of carried_world 1 ≡ IsScript exporter) × AllExported carried_world carried_history 1 exporter helix_side }
-    ensures calls { calls carried_history 0 anna_side (scripted (zone_of carried_world) importer) is_importing ≡ asks_version ∷ asks_attach ∷ [] }
-    ensures replies { got_back carried_history 0 anna_side (scripted (zone_of carried_world) importer) is_importing ≡ answers_version ∷ answers_attach ∷ [] }
+    ensures call { IsWorld carried_world × IsLegal carried_world carried_history
+        × (peer carried_world carried_history anna_side ≡ Some helix_side) }
+    ensures near { (caller_of carried_world 0 ≡ IsScript importer)
+        × AllImported carried_world carried_history 0 importer anna_side }
+    ensures far { (caller_of carried_world 1 ≡ IsScript exporter)
+        × AllExported carried_world carried_history 1 exporter helix_side }
+    ensures calls { calls carried_history 0 anna_side (scripted (zone_of carried_world) importer) is_importing
+        ≡ asks_version ∷ asks_attach ∷ [] }
+    ensures replies { got_back carried_history 0 anna_side (scripted (zone_of carried_world) importer) is_importing
+        ≡ answers_version ∷ answers_attach ∷ [] }
 {}

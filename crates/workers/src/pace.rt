@@ -52,7 +52,8 @@ impl Pace {
     #[tactic(auto, using(crate::proofs::Counting::round_seen, crate::proofs::Counting::time_told))]
     pub fn calls(&mut self, groups: usize) -> bool
         ensures seen { (s : Story) → IsPaceOf s self.old → IsPaceOf (after_round groups s) self.new }
-        ensures answer { (s : Story) → IsPaceOf s self.old → length s.calls < 2 ^ 32 → IsTrue result ↔ IsTime (after_round groups s) }
+        ensures answer { (s : Story) → IsPaceOf s self.old → length s.calls < 2 ^ 32
+            → IsTrue result ↔ IsTime (after_round groups s) }
     {
         self.count(groups);
         self.is_time()
@@ -60,7 +61,10 @@ impl Pace {
 
     // A round more in a row, or none where one group alone went on.
     fn count(&mut self, groups: usize)
-        ensures { self.new ≡ record self.old { together = if nat_lt 1 groups then min (self.old.together + 1) 4294967295 else 0 } }
+        ensures { self.new ≡ record self.old {
+          together = if nat_lt 1 groups then min (self.old.together + 1)
+              4294967295 else 0;
+        } }
     {
         if groups > 1 {
             self.together = self.together.saturating_add(1);

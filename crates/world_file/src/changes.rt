@@ -95,7 +95,10 @@ impl Draft {
     /// Sets the rates of the medium with this name.
     fn set_rates(&mut self, name: &[u8], loss: u32, twice: u32, later: u32)
         requires { IsSmallDraft self.old }
-        ensures { self.new ≡ record self.old { media = spec.on_named_medium name.now (spec.with_rates loss twice later) self.old.media } }
+        ensures { self.new ≡ record self.old {
+          media = spec.on_named_medium name.now
+              (spec.with_rates loss twice later) self.old.media;
+        } }
     {
         let place = medium_place(self.media.as_slice(), name);
         if place < self.media.len() {
@@ -109,7 +112,8 @@ impl Draft {
         requires small { IsSmallDraft self.old }
         requires forward { fate.first ≤ fate.last }
         requires apart { spec.has_fate name.now fate self.old ≡ false }
-        ensures { OnOk result (self.new ≡ record self.old { media = spec.on_named_medium name.now (spec.with_fate fate) self.old.media }) }
+        ensures { OnOk result (self.new ≡ record self.old
+            { media = spec.on_named_medium name.now (spec.with_fate fate) self.old.media }) }
     {
         let place = medium_place(self.media.as_slice(), name);
         if place < self.media.len() {
@@ -147,7 +151,8 @@ impl Draft {
     fn take_iface(&mut self, iface: Iface) -> Result<(), AllocError>
         requires new { spec.is_under (spec.knows_network (bit_and iface.ip iface.mask) iface.mask) self.old ≡ false }
         requires under { is_none (spec.host_under self.old) ≡ false }
-        ensures { OnOk result (self.new ≡ record self.old { hosts = spec.at_last (spec.with_iface iface) self.old.hosts }) }
+        ensures { OnOk result (self.new ≡ record self.old
+            { hosts = spec.at_last (spec.with_iface iface) self.old.hosts }) }
     {
         let count = self.hosts.len();
         if 0 < count {
@@ -161,7 +166,8 @@ impl Draft {
     fn take_route(&mut self, route: RouteLine) -> Result<(), AllocError>
         requires new { spec.is_under (spec.knows_network route.net route.mask) self.old ≡ false }
         requires under { is_none (spec.host_under self.old) ≡ false }
-        ensures { OnOk result (self.new ≡ record self.old { hosts = spec.at_last (spec.with_route route) self.old.hosts }) }
+        ensures { OnOk result (self.new ≡ record self.old
+            { hosts = spec.at_last (spec.with_route route) self.old.hosts }) }
     {
         let count = self.hosts.len();
         if 0 < count {
@@ -173,7 +179,8 @@ impl Draft {
 
     /// Adds an initial id to the last host.
     fn take_start(&mut self, start: u32) -> Result<(), AllocError>
-        ensures { OnOk result (self.new ≡ record self.old { hosts = spec.at_last (spec.with_start start) self.old.hosts }) }
+        ensures { OnOk result (self.new ≡ record self.old
+            { hosts = spec.at_last (spec.with_start start) self.old.hosts }) }
     {
         let count = self.hosts.len();
         if 0 < count {

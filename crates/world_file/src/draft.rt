@@ -104,7 +104,8 @@ impl Draft {
 
     /// The host that lines stand under.
     pub(crate) fn host_under(&self) -> Option<&HostDraft>
-        ensures { MatchOption result (spec.host_under self.now ≡ None) (λ host. spec.host_under self.now ≡ Some host.now) }
+        ensures { MatchOption result (spec.host_under self.now ≡ None)
+            (λ host. spec.host_under self.now ≡ Some host.now) }
     {
         if self.group == 5 {
             last_host(self.hosts.as_slice())
@@ -229,7 +230,8 @@ fn last_host(hosts: &[HostDraft]) -> Option<&HostDraft>
 /// The last script.
 #[tactic(auto, using(crate::proofs::Placed::last_is, crate::proofs::Placed::none_last))]
 fn last_script(scripts: &[Script]) -> Option<&Script>
-    ensures { MatchOption result (last_or None scripts.now ≡ None) (λ script. last_or None scripts.now ≡ Some script.now) }
+    ensures { MatchOption result (last_or None scripts.now ≡ None)
+        (λ script. last_or None scripts.now ≡ Some script.now) }
 {
     let count = scripts.len();
     if 0 < count {

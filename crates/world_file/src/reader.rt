@@ -61,8 +61,10 @@ pub(crate) fn read_bundles(
     text: &[u8],
 ) -> Result<World, WorldError>
     requires { number + length text.now < 2 ^ 63 }
-    ensures ok { IfOk result (λ w. with_versions number (spec.world_of draft) text.now (bad_version_line text.now) ≡ Ok w) }
-    ensures bad { IfErr result (λ e. Tells e (with_versions number (spec.world_of draft) text.now (bad_version_line text.now))) }
+    ensures ok { IfOk result (λ w. with_versions number (spec.world_of draft) text.now (bad_version_line text.now)
+        ≡ Ok w) }
+    ensures bad { IfErr result (λ e. Tells e (with_versions number (spec.world_of draft) text.now
+        (bad_version_line text.now))) }
 {
     let mut world = draft.finish(alloc)?;
     world.dbs = read_versions(alloc, number, text)?;

@@ -13,7 +13,10 @@ pub fn texts_of_sessions_say_one()
 
 /// What a text says is a world that a file can say, with a script of its host in the place of each session.
 pub fn sessions_have_places()
-    ensures world { (text : List ℕ) (w : SessionWorld) → list_all is_byte text ≡ true → SaysSessions text (Ok w) → IsWorld w.world }
-    ensures streams { (text : List ℕ) (w : SessionWorld) → list_all is_byte text ≡ true → SaysSessions text (Ok w) → HaveStreams w }
-    ensures hosts { (text : List ℕ) (w : SessionWorld) → list_all is_byte text ≡ true → SaysSessions text (Ok w) → HaveHosts w }
+    ensures world { (text : List ℕ) (w : SessionWorld) → list_all is_byte text ≡ true → SaysSessions text (Ok w)
+        → IsWorld w.world }
+    ensures streams { (text : List ℕ) (w : SessionWorld) → list_all is_byte text ≡ true → SaysSessions text (Ok w)
+        → HaveStreams w }
+    ensures hosts { (text : List ℕ) (w : SessionWorld) → list_all is_byte text ≡ true → SaysSessions text (Ok w)
+        → HaveHosts w }
 {}

@@ -192,7 +192,8 @@ impl Told {
     // A line `session`, as a line `script`.
     fn take_script(&mut self, alloc: Global, line: &[u8]) -> Result<bool, LineFault>
         requires { IsSmallDraft self.old.draft }
-        ensures ok { IfOk result (λ begins. line_verdict self.old.draft (spec.as_script line.now) ≡ going begins self.new.draft) }
+        ensures ok { IfOk result (λ begins. line_verdict self.old.draft (spec.as_script line.now)
+            ≡ going begins self.new.draft) }
         ensures bad { IfErr result (λ fault. TellsCause fault (line_verdict self.old.draft (spec.as_script line.now))) }
         ensures same { self.new ≡ record self.old { draft = self.new.draft } }
     {
@@ -202,7 +203,11 @@ impl Told {
 
     // Opens the session of the script in this place.
     fn open(&mut self, alloc: Global, place: u32, number: u64) -> Result<(), AllocError>
-        ensures { OnOk result (self.new ≡ record { draft = self.old.draft; sessions = self.old.sessions ++ session_at place self.old.draft ∷ []; under = Some number }) }
+        ensures { OnOk result (self.new ≡ record {
+          draft = self.old.draft;
+          sessions = self.old.sessions ++ session_at place self.old.draft ∷ [];
+          under = Some number;
+        }) }
     {
         let session = Session {
             place,
@@ -232,8 +237,10 @@ impl Told {
     // The line by itself, behind which no session goes on.
     fn take_under(&mut self, alloc: Global, line: &[u8]) -> Result<bool, LineFault>
         requires { IsSmallDraft self.old.draft }
-        ensures ok { IfOk result (λ begins. spec.other_verdict self.old.under self.old.draft line.now ≡ going begins self.new.draft) }
-        ensures bad { IfErr result (λ fault. TellsCause fault (spec.other_verdict self.old.under self.old.draft line.now)) }
+        ensures ok { IfOk result (λ begins. spec.other_verdict self.old.under self.old.draft line.now
+            ≡ going begins self.new.draft) }
+        ensures bad { IfErr result (λ fault. TellsCause fault
+            (spec.other_verdict self.old.under self.old.draft line.now)) }
         ensures same { self.new ≡ record { draft = self.new.draft; sessions = self.old.sessions; under = None } }
     {
         let session = self.under.take();
@@ -265,7 +272,8 @@ impl Told {
     #[tactic(auto, using(crate::proofs::SessionTaken::bundle_bad))]
     fn finish(self, alloc: Global, number: u64, text: &[u8]) -> Result<SessionWorld, WorldError>
         requires { number + length text.now < 2 ^ 63 }
-        ensures ok { IfOk result (λ w. spec.with_sessions self.sessions (with_versions number (lines.world_of self.draft) text.now (bad_version_line text.now)) ≡ Ok w) }
+        ensures ok { IfOk result (λ w. spec.with_sessions self.sessions
+            (with_versions number (lines.world_of self.draft) text.now (bad_version_line text.now)) ≡ Ok w) }
         ensures bad { IfErr result (BundleBad self number text.now) }
     {
         let Told {
@@ -298,7 +306,8 @@ fn bad(line: u64, cause: LineCause) -> WorldError
 // The last session.
 #[tactic(auto, using(crate::proofs::Placed::last_is, crate::proofs::Placed::none_last))]
 fn last_session(sessions: &[Session]) -> Option<&Session>
-    ensures { MatchOption result (last_or None sessions.now ≡ None) (λ session. last_or None sessions.now ≡ Some session.now) }
+    ensures { MatchOption result (last_or None sessions.now ≡ None)
+        (λ session. last_or None sessions.now ≡ Some session.now) }
 {
     let count = sessions.len();
     if 0 < count {

@@ -19,7 +19,8 @@ use world_text::LineCause;
 /// The versions that stand behind the line with this number, or their first bad line.
 pub(crate) fn read_versions(alloc: Global, number: u64, text: &[u8]) -> Result<Versions, WorldError>
     requires { number + length text.now < 2 ^ 63 }
-    ensures ok { IfOk result (λ versions. (spec.bad_version_line text.now ≡ None) × (versions ≡ spec.versions_in (lines_of text.now))) }
+    ensures ok { IfOk result (λ versions. (spec.bad_version_line text.now ≡ None)
+        × (versions ≡ spec.versions_in (lines_of text.now))) }
     ensures bad { IfErr result (λ e. TellsBehind number e (spec.bad_version_line text.now)) }
 {
     let mut versions = Versions::new(alloc);

@@ -18,13 +18,15 @@ ghost use Rattle.world_text.specs.WorldSpelling.{IsWorldText, is_line, laid, lin
 
 /// A line whose names, numbers and steps are of their kind is read exactly where it is spelled.
 pub fn lines_are_spelled()
-    ensures sound { (text : List ℕ) (line : WorldLine) → read_line text ≡ Ok line → (text ≡ line_spelling line) × (is_fit line ≡ true) }
+    ensures sound { (text : List ℕ) (line : WorldLine) → read_line text ≡ Ok line → (text ≡ line_spelling line)
+        × (is_fit line ≡ true) }
     ensures complete { (line : WorldLine) → is_fit line ≡ true → read_line (line_spelling line) ≡ Ok line }
 {}
 
 /// A text of bytes is read as a world exactly where it spells it.
 pub fn worlds_are_spelled()
-    ensures sound { (text : List ℕ) (w : World) → list_all is_byte text ≡ true → world_reading text ≡ Ok w → IsWorldText text w }
+    ensures sound { (text : List ℕ) (w : World) → list_all is_byte text ≡ true → world_reading text ≡ Ok w
+        → IsWorldText text w }
     ensures complete { (text : List ℕ) (w : World) → IsWorldText text w → world_reading text ≡ Ok w }
 {}
 
@@ -51,16 +53,19 @@ pub fn passed_lines_say_nothing()
 
 /// A refusal tells the first bad line and its cause, whatever follows that line.
 pub fn first_bad_lines_are_told()
-    ensures exact { (text : List ℕ) (n c : ℕ) → (world_reading text ≡ Err (n, c)) ↔ IsTextRefused opening_draft 1 text n c }
+    ensures exact { (text : List ℕ) (n c : ℕ) → (world_reading text ≡ Err (n, c)) ↔ IsTextRefused opening_draft 1 text
+        n c }
     ensures stays { (text more : List ℕ) (n c : ℕ) → IsBadLineOf opening_draft 1 text n c
         → world_reading (text ++ (10 ∷ more)) ≡ Err (n, c) }
 {}
 
 /// What lines lead to has at most 4 media, each with a name of its own, 8 hosts and 32 scripts, and leads on by each line that is good behind it.
 pub fn worlds_so_far_are_small()
-    ensures next { (lines : List (List ℕ)) (line : List ℕ) (d e : Draft) → LeadsToWorld opening_draft lines d → line_verdict d line ≡ Goes e → LeadsToWorld opening_draft (lines ++ line ∷ []) e }
+    ensures next { (lines : List (List ℕ)) (line : List ℕ) (d e : Draft) → LeadsToWorld opening_draft lines d
+        → line_verdict d line ≡ Goes e → LeadsToWorld opening_draft (lines ++ line ∷ []) e }
     ensures media { (lines : List (List ℕ)) (d : Draft) → LeadsToWorld opening_draft lines d → length d.media ≤ 4 }
-    ensures named { (lines : List (List ℕ)) (d : Draft) → LeadsToWorld opening_draft lines d → all_apart bytes_eq (map (λ (s : MediumSpec). s.name) d.media) ≡ true }
+    ensures named { (lines : List (List ℕ)) (d : Draft) → LeadsToWorld opening_draft lines d
+        → all_apart bytes_eq (map (λ (s : MediumSpec). s.name) d.media) ≡ true }
     ensures hosts { (lines : List (List ℕ)) (d : Draft) → LeadsToWorld opening_draft lines d → length d.hosts ≤ 8 }
     ensures scripts { (lines : List (List ℕ)) (d : Draft) → LeadsToWorld opening_draft lines d → length d.scripts ≤ 32 }
 {}

@@ -48,7 +48,8 @@ impl<'a> Arguments<'a> {
     /// The only word.
     #[tactic(auto, using(crate::proofs::Parts::not_one))]
     pub(crate) fn one(&self) -> Option<&'a [u8]>
-        ensures { MatchOption result (spec.single_word self.now ≡ None) (λ word. spec.single_word self.now ≡ Some word.now) }
+        ensures { MatchOption result (spec.single_word self.now ≡ None)
+            (λ word. spec.single_word self.now ≡ Some word.now) }
     {
         single(self.rest?, b' ')
     }
@@ -77,7 +78,12 @@ impl<'a> Arguments<'a> {
     #[tactic(auto, using(crate::proofs::Parts::not_four))]
     pub(crate) fn four(&self) -> Option<(&'a [u8], &'a [u8], &'a [u8], &'a [u8])>
         ensures { MatchOption result (spec.four self.now ≡ None)
-            (λ w. spec.four self.now ≡ Some record { first = w.0.now; second = w.1.now; third = w.2.now; fourth = w.3.now }) }
+            (λ w. spec.four self.now ≡ Some record {
+              first = w.0.now;
+              second = w.1.now;
+              third = w.2.now;
+              fourth = w.3.now;
+            }) }
     {
         four_parts(self.rest?, b' ')
     }

@@ -29,7 +29,8 @@ pub fn is_remote_path(path: &[u8]) -> bool
 
 /// At most 16 names, between slashes.
 fn are_few_names(names: &[u8]) -> bool
-    ensures { result ≡ (nat_le (length (parts_at 47 names.now)) 16 && list_all spec.is_remote_name (parts_at 47 names.now)) }
+    ensures { result ≡ (nat_le (length (parts_at 47 names.now)) 16 && list_all spec.is_remote_name
+        (parts_at 47 names.now)) }
 {
     let mut rest = names;
     for _i in 0..MOST_NAMES {

@@ -114,7 +114,8 @@ fn call_step(alloc: Global, word: &[u8], args: &mut Arguments<'_>) -> Result<Ste
 /// The step of calls of datagrams, or of another word.
 #[tactic(auto, using(crate::proofs::Refusals::refused_first, crate::proofs::Refusals::refused_later))]
 fn datagram_step(alloc: Global, word: &[u8], args: &mut Arguments<'_>) -> Result<Step, LineFault>
-    ensures ok { IfOk result (λ step. spec.step_begun datagram_samples word.now args.old ≡ Some (Some (step, args.new))) }
+    ensures ok { IfOk result (λ step. spec.step_begun datagram_samples word.now args.old
+        ≡ Some (Some (step, args.new))) }
     ensures refused { IfErr result (λ e. IsRefused e (spec.step_begun datagram_samples word.now args.old)) }
 {
     if word == b"hread".as_slice() {

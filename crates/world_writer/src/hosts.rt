@@ -103,7 +103,8 @@ fn put_under(
     routes: &[RouteLine],
     starts: &[u32],
 ) -> Result<(), AllocError>
-    ensures { OnOk result (out.new ≡ out.old ++ laid (lines_under (medium_names media.now) ifaces.now routes.now starts.now)) }
+    ensures { OnOk result (out.new ≡ out.old ++ laid
+        (lines_under (medium_names media.now) ifaces.now routes.now starts.now)) }
 {
     put_ifaces(out, media, ifaces)?;
     put_routes(out, routes)?;
@@ -126,7 +127,8 @@ pub fn put_hosts(
     media: &[MediumSpec],
     hosts: &[HostSpec],
 ) -> Result<(), AllocError>
-    ensures { OnOk result (out.new ≡ out.old ++ laid (flat_map (spec.lines_of_host (medium_names media.now)) hosts.now)) }
+    ensures { OnOk result (out.new ≡ out.old ++ laid
+        (flat_map (spec.lines_of_host (medium_names media.now)) hosts.now)) }
 {
     for host in hosts {
         put_host(out, media, host)?;

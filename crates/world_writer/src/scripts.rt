@@ -115,7 +115,8 @@ pub fn put_scripts(
     hosts: &[HostSpec],
     scripts: &[Script],
 ) -> Result<(), AllocError>
-    ensures { OnOk result (out.new ≡ out.old ++ laid (flat_map (spec.lines_of_script (host_names hosts.now)) scripts.now)) }
+    ensures { OnOk result (out.new ≡ out.old ++ laid
+        (flat_map (spec.lines_of_script (host_names hosts.now)) scripts.now)) }
 {
     for script in scripts {
         put_script(out, hosts, script)?;

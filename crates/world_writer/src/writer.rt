@@ -24,7 +24,8 @@ fn put_timers(out: &mut Octets, timers: Timers) -> Result<(), AllocError>
 
 /// Adds the lines that stand before the media.
 fn put_head(out: &mut Octets, world: &World) -> Result<(), AllocError>
-    ensures { OnOk result (out.new ≡ out.old ++ laid (line_of_timers world.now.timers ∷ line_of_end world.now.end ∷ line_of_seed world.now.seed ∷ [])) }
+    ensures { OnOk result (out.new ≡ out.old ++ laid
+        (line_of_timers world.now.timers ∷ line_of_end world.now.end ∷ line_of_seed world.now.seed ∷ [])) }
 {
     put_timers(out, world.timers)?;
     out.append(b"end")?;

@@ -22,7 +22,13 @@ impl Conv {
 
     /// What a step gives that leaves the conversation so.
     pub(super) fn left(&self, was_over: bool, answer: ReplyAndCopy, emit: Option<Packet>) -> Outcome
-        ensures { result ≡ record { reply = answer; copy = Some answer; emit = emit; taken = None; ended = if was_over then false else spec.is_over self.now.conv } }
+        ensures { result ≡ record {
+          reply = answer;
+          copy = Some answer;
+          emit = emit;
+          taken = None;
+          ended = if was_over then false else spec.is_over self.now.conv;
+        } }
     {
         let ReplyAndCopy { reply, copy } = answer;
         Outcome {
@@ -61,7 +67,13 @@ impl Conv {
         answer: ReplyAndCopy,
         message: Option<IlMsg>,
     ) -> Outcome
-        ensures { result ≡ record { reply = answer; copy = Some answer; emit = option_map (λ (m : Message). spec.packet_of self.now.conv (body_of.Il m)) message; taken = None; ended = if was_over then false else spec.is_over self.now.conv } }
+        ensures { result ≡ record {
+          reply = answer;
+          copy = Some answer;
+          emit = option_map (λ (m : Message). spec.packet_of self.now.conv (body_of.Il m)) message;
+          taken = None;
+          ended = if was_over then false else spec.is_over self.now.conv;
+        } }
     {
         let emit = match message {
             Some(message) => Some(self.packet(Body::Il(message))),
@@ -72,7 +84,8 @@ impl Conv {
 
     /// What an event of another generation gets: an older one is stale, and a newer one waits.
     pub(super) fn stale(&self, generation: u64) -> Option<Outcome>
-        ensures { as_step self.now.conv result ≡ (if nat_lt generation self.now.conv.generation then Some (spec.only_replies self.now.conv reply.Stale) else None) }
+        ensures { as_step self.now.conv result ≡ (if nat_lt generation
+            self.now.conv.generation then Some (spec.only_replies self.now.conv reply.Stale) else None) }
     {
         if generation < self.generation {
             Some(self.replies(ReplyAndCopy::stale()))
@@ -90,7 +103,8 @@ impl Conv {
 
     /// Whether an event gets an answer, where it does or doesn't so in its own generation.
     pub(super) fn is_answered(&self, generation: u64, own: bool) -> bool
-        ensures { (step : Option (Step spec.Conv)) → is_some step ≡ own → result ≡ is_some (spec.in_generation generation self.now.conv step) }
+        ensures { (step : Option (Step spec.Conv)) → is_some step ≡ own
+            → result ≡ is_some (spec.in_generation generation self.now.conv step) }
     {
         if generation == self.generation {
             own
@@ -101,7 +115,8 @@ impl Conv {
 
     /// Whether an event that raises the generation gets an answer, where it does or doesn't so in the next one.
     pub(super) fn is_raised(&self, generation: u64, next: bool) -> bool
-        ensures { (step : Option (Step spec.Conv)) → is_some step ≡ next → result ≡ is_some (spec.raises generation self.now.conv step) }
+        ensures { (step : Option (Step spec.Conv)) → is_some step ≡ next
+            → result ≡ is_some (spec.raises generation self.now.conv step) }
     {
         if self.is_next(generation) {
             next

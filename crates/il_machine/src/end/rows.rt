@@ -41,7 +41,8 @@ impl IlEnd {
         requires in_time { now < 2 ^ 63 }
         requires short { IsFew self.old }
         requires syncee { self.old.state ≡ state.Syncee }
-        ensures ok { IfOk result (λ emits. TurnsEnd self.old self.new emits (λ e. table.at_syncee message.now.kind now message.now e)) }
+        ensures ok { IfOk result (λ emits. TurnsEnd self.old self.new emits
+            (λ e. table.at_syncee message.now.kind now message.now e)) }
         ensures err { OnErr result (self.new ≡ self.old) }
         ensures memory { OnErr result (SaysEnd self.old true (takes_in state.Syncee now message.now)) }
     {
@@ -62,7 +63,8 @@ impl IlEnd {
         requires in_time { now < 2 ^ 63 }
         requires short { IsFew self.old }
         requires syncee { self.old.state ≡ state.Syncee }
-        ensures ok { IfOk result (λ emits. TurnsEnd self.old self.new emits (λ e. handshake_completed now message.now e)) }
+        ensures ok { IfOk result (λ emits. TurnsEnd self.old self.new emits
+            (λ e. handshake_completed now message.now e)) }
         ensures err { OnErr result (self.new ≡ self.old) }
         ensures memory { OnErr result (SaysEnd self.old true (established_takes message.now.kind now message.now)) }
     {
@@ -85,7 +87,8 @@ impl IlEnd {
     ) -> Result<Option<IlMsg>, AllocError>
         requires in_time { now < 2 ^ 63 }
         requires short { IsFew self.old }
-        ensures ok { IfOk result (λ emits. TurnsEnd self.old self.new emits (λ e. table.at_established message.now.kind now message.now e)) }
+        ensures ok { IfOk result (λ emits. TurnsEnd self.old self.new emits
+            (λ e. table.at_established message.now.kind now message.now e)) }
         ensures err { OnErr result (self.new ≡ self.old) }
         ensures memory { OnErr result (SaysEnd self.old true (established_takes message.now.kind now message.now)) }
     {
@@ -151,7 +154,8 @@ impl IlEnd {
     ) -> Result<Option<IlMsg>, AllocError>
         requires in_time { now < 2 ^ 63 }
         requires short { IsFew self.old }
-        ensures ok { IfOk result (λ emits. TurnsEnd self.old self.new emits (λ e. table.at_closing message.now.kind now message.now e)) }
+        ensures ok { IfOk result (λ emits. TurnsEnd self.old self.new emits
+            (λ e. table.at_closing message.now.kind now message.now e)) }
         ensures err { OnErr result (self.new ≡ self.old) }
         ensures memory { OnErr result (SaysEnd self.old true (closing_takes message.now.kind now message.now)) }
     {

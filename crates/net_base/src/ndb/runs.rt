@@ -125,7 +125,8 @@ fn lower_marks(marks: &mut Vec<Mark>, count: usize)
 /// One mark, lowered so.
 fn lower_mark(marks: &mut Vec<Mark>, place: usize, count: usize)
     requires { place < length marks.old.items }
-    ensures { (d : Mark) → marks.new.items ≡ slice_set marks.old.items place (mark_lowered count (get_or marks.old.items place d)) }
+    ensures { (d : Mark) → marks.new.items ≡ slice_set marks.old.items place
+        (mark_lowered count (get_or marks.old.items place d)) }
 {
     marks[place] = marks[place].lowered(count);
 }

@@ -1,4 +1,4 @@
-use Rattle.std.proofs.Common.{◌≡◌, false, Some, ap, sym, subst, ◌∙◌}
+use Rattle.std.proofs.Common.{◌≡◌, false, ap, sym, subst, ◌∙◌}
 use Rattle.std.specs.Prelude.{option_copied, IfSome}
 use Rattle.std.proofs.lemmas.Option.{same_Some}
 use Rattle.net_base.specs.declared.actor.ActorName.{ActorName}
