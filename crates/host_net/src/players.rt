@@ -1,5 +1,5 @@
 //! Players in groups, one for each worker.
-ghost use Rattle.std.specs.Prelude.{◌≡◌, ◌⊎◌, ℕ, ◌<◌, ◌≤◌, ◌↔◌, ◌++◌, IsTrue, List, [], length, true, false, None, Some, option_map, IfNone, IfOk, IfSome};
+ghost use Rattle.std.specs.Prelude.{◌≡◌, ◌⊎◌, ℕ, ◌<◌, ◌≤◌, ◌++◌, List, [], length, true, false, None, option_map, IfNone, IfOk, IfSome};
 ghost use Rattle.std.specs.Prelude.{OnErr, OnOk, slice_index_or};
 ghost use Rattle.std.specs.List.{list_any};
 ghost use Rattle.net_base.specs.declared.history.Entry.{Entry};
@@ -11,7 +11,6 @@ ghost use Rattle.host_net.specs.Answering.{AreAfter, CannotTellOf, IsAnsweredOf,
 ghost use Rattle.host_net.specs.Groups.{AreWaiting, all_members, all_seats, caller, callers_of, dealt, joined, members, no_players, seat_of, seats, visits, with_last};
 ghost use Rattle.host_net.specs.Playing.{AreGoing, AreVisitsPlayed, IsSamePlayer, IsWaiting, guests_of};
 ghost use Rattle.net_guests.specs.Visits.{HasGuest};
-ghost use Rattle.workers.specs.Calling.{IsPaceOf, Story};
 ghost use Rattle.host_net.specs.declared.player.Played.TheVariants as played;
 ghost use Rattle.host_net.specs.declared.player.Role.TheVariants as role;
 ghost use Rattle.host_net.specs.declared.players.Round.TheVariants.{Whole};
@@ -162,9 +161,7 @@ impl<J: Naming + Placing, T: Task + Drop> Players<J, T> {
     }
 
     /// Whether threads were asked for and one couldn't be had.
-    pub fn lacks_threads(&self) -> bool
-        ensures { (s : Story) → IsPaceOf s self.now.pace → IsTrue result ↔ (s.threads ≡ Some false) }
-    {
+    pub fn lacks_threads(&self) -> bool {
         self.pace.lacks_threads()
     }
 
