@@ -3,8 +3,8 @@ use Rattle.std.specs.Prelude.{List}
 use Rattle.net_base.specs.declared.world.World.{World}
 use Rattle.net_base.specs.Net.{Net}
 use Rattle.net_base.specs.Tasks.{Tasks}
-use Rattle.run_record.specs.declared.end.RunEnd.{RunEnd}
-use Rattle.run_record.specs.Ends.{EndsBy}
+use Rattle.net_base.specs.declared.end.RunEnd.{RunEnd}
+use Rattle.net_base.specs.Ends.{EndsBy}
 use Rattle.host_net.specs.Advancing.{AfterAll}
 use Rattle.net_guests.specs.Visits.{Visit}
 

@@ -6,8 +6,8 @@ mod outcome;
 mod phases;
 mod tasks;
 
+pub use net_base::RunEnd;
 pub use outcome::{BookedRun, Run, RunError, TaskRun};
 pub use phases::{run, run_in_books};
 pub use played_task::{EitherTask, OwnTask};
-pub use run_record::RunEnd;
 pub use tasks::run_tasks;

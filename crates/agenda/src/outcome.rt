@@ -1,8 +1,7 @@
 //! What a run leaves.
 
 use journal::ClosedBooks;
-use net_base::History;
-use run_record::RunEnd;
+use net_base::{History, RunEnd};
 use std::alloc::AllocError;
 
 /// A history, how many steps of its scripts are answered, and how it ends.

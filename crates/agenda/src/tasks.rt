@@ -14,7 +14,7 @@ ghost use Rattle.host_net.specs.Playing.{AreVisitsPlayed};
 ghost use Rattle.net_guests.specs.Visits.{AreFresh, HasGuest};
 ghost use Rattle.net_locks.specs.Rosters.{IsRosterOf};
 ghost use Rattle.prefix_law.specs.PrefixLaw.{KeepsPrefixes};
-ghost use Rattle.run_record.specs.Ends.{EndsBy};
+ghost use Rattle.net_base.specs.Ends.{EndsBy};
 ghost use Rattle.played_task.specs.Places as places;
 
 use crate::deal::{Deal, deal_of};

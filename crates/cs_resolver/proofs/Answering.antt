@@ -6,8 +6,8 @@ use Rattle.net_base.specs.Ndb.{NdbPair}
 use Rattle.net_base.specs.declared.address.Proto.{Proto}
 use Rattle.net_base.specs.Networks.{own_networks, is_on}
 use Rattle.net_base.specs.Cs.{CsAnswer, Lines, Refused, Query, read_query, answer_read, cs_list, refused_where_empty, nets_of, host_words, address_texts, own_first, ports_of, cs_line, address_lines}
-use Rattle.ndb_tuple.specs.declared.prefixes.Prefix.{Prefix}
-use Rattle.ndb_tuple.specs.Prefixes.{covers}
+use Rattle.ndb_search.specs.declared.prefixes.Prefix.{Prefix}
+use Rattle.ndb_search.specs.Prefixes.{covers}
 use Rattle.cs_resolver.specs.declared.line.Target.{Target}
 use Rattle.cs_resolver.specs.Targets.{target_text, target_texts, covered_first}
 

@@ -9,9 +9,9 @@ use Rattle.net_base.specs.Ndb.{NdbPair}
 use Rattle.net_base.specs.Search.{line_has}
 use Rattle.net_base.specs.Networks.{own_networks, is_on}
 use Rattle.net_base.specs.Cs.{own_first}
-use Rattle.ndb_tuple.specs.declared.numbers.Kind.{Kind}
-use Rattle.ndb_tuple.specs.Numbers.{numbers_near, numbers_found}
-use Rattle.ndb_tuple.proofs.Shared.{found_at, found_joins, found_one}
+use Rattle.ndb_search.specs.declared.tuple_numbers.Kind.{Kind}
+use Rattle.ndb_search.specs.Numbers.{numbers_near, numbers_found}
+use Rattle.ndb_search.proofs.Shared.{found_at, found_joins, found_one}
 use Rattle.net_base.specs.declared.ndb.spot.Spot.{Spot}
 use Rattle.net_base.specs.Spots.{spot_at}
 use Rattle.ndb_index.specs.Kept.{spot_in, spots_from, spots_with}

@@ -13,9 +13,9 @@ use Rattle.net_base.specs.Ndb.{NdbPair}
 use Rattle.net_base.specs.Addresses.{read_address}
 use Rattle.net_base.specs.Cs.{once_each, is_numeric, name_attr, word_addresses}
 use Rattle.net_base.specs.Search.{has_attr}
-use Rattle.ndb_tuple.specs.declared.numbers.Kind.TheVariants.{Address}
-use Rattle.ndb_tuple.specs.Numbers.{numbers_on, numbers_in, numbers_near, numbers_found}
-use Rattle.ndb_tuple.proofs.Shared.{near_on, near_in, turned}
+use Rattle.ndb_search.specs.declared.tuple_numbers.Kind.TheVariants.{Address}
+use Rattle.ndb_search.specs.Numbers.{numbers_on, numbers_in, numbers_near, numbers_found}
+use Rattle.ndb_search.proofs.Shared.{near_on, near_in, turned}
 use Rattle.net_base.specs.declared.ndb.spot.Spot.{Spot}
 use Rattle.net_base.specs.Spots.{same_spot}
 use Rattle.ndb_index.specs.Kept.{spots_with}
@@ -24,7 +24,7 @@ use Rattle.ndb_index.proofs.Shared.{spots_count}
 use Rattle.cs_resolver.specs.Gathering.{Gathers, AreAmong, TuplesRead, SpotsRead, words_seen}
 use Rattle.cs_resolver.specs.Probes.{numbers_at, word_found}
 use Rattle.cs_resolver.proofs.AtSpots.{at_spot_is, spots_numbers}
-use Rattle.cs_resolver.proofs.Once.{among, others, among_others, once_push}
+use Rattle.ndb_search.proofs.Shared.{among, others, among_others, once_push}
 use Rattle.net_base.proofs.Shared.{number_itself}
 
 abbrev pub Db : Type 0

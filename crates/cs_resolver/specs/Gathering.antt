@@ -4,8 +4,8 @@ use Rattle.std.specs.Borrow.{Bor}
 use Rattle.std.specs.List.{list_any}
 use Rattle.net_base.specs.Ndb.{NdbPair}
 use Rattle.net_base.specs.Cs.{once_each}
-use Rattle.ndb_tuple.specs.declared.numbers.Kind.TheVariants.{Address}
-use Rattle.ndb_tuple.specs.Numbers.{numbers_in}
+use Rattle.ndb_search.specs.declared.tuple_numbers.Kind.TheVariants.{Address}
+use Rattle.ndb_search.specs.Numbers.{numbers_in}
 use Rattle.net_base.specs.declared.ndb.spot.Spot.{Spot}
 use Rattle.net_base.specs.Spots.{same_spot}
 use Rattle.cs_resolver.specs.Probes.{numbers_at}

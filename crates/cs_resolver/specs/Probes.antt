@@ -6,8 +6,8 @@ use Rattle.net_base.specs.Ndb.{NdbPair}
 use Rattle.net_base.specs.declared.address.Proto.{Proto}
 use Rattle.net_base.specs.Addresses.{read_port}
 use Rattle.net_base.specs.Cs.{Query, read_query, nets_of, host_words, is_any, is_numeric, name_attr, proto_name}
-use Rattle.ndb_tuple.specs.declared.numbers.Kind.{Kind}
-use Rattle.ndb_tuple.specs.Numbers.{numbers_near}
+use Rattle.ndb_search.specs.declared.tuple_numbers.Kind.{Kind}
+use Rattle.ndb_search.specs.Numbers.{numbers_near}
 use Rattle.net_base.specs.declared.ndb.spot.Spot.{Spot}
 use Rattle.ndb_index.specs.Index.{found, near_count}
 

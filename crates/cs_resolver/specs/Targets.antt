@@ -4,8 +4,8 @@ use Rattle.net_base.specs.declared.address.Proto.{Proto}
 use Rattle.net_base.specs.Ndb.{NdbPair}
 use Rattle.net_base.specs.Addresses.{address_text}
 use Rattle.net_base.specs.Cs.{proto_name, host_words, word_addresses, once_each}
-use Rattle.ndb_tuple.specs.declared.prefixes.Prefix.{Prefix}
-use Rattle.ndb_tuple.specs.Prefixes.{covers}
+use Rattle.ndb_search.specs.declared.prefixes.Prefix.{Prefix}
+use Rattle.ndb_search.specs.Prefixes.{covers}
 use Rattle.cs_resolver.specs.declared.line.Target.{Target}
 use Rattle.cs_resolver.specs.declared.line.Target.TheVariants.{Any, Ip}
 

@@ -6,11 +6,11 @@ ghost use Rattle.cs_resolver.specs.Targets.{target_texts, covered_first};
 
 use crate::line::Target;
 use indexmap::IndexSet;
-use ndb_tuple::Prefixes;
+use ndb_search::Prefixes;
 use std::alloc::{AllocError, Global};
 
 /// Each number once, where it stands first. Fewer than two stay as they are.
-#[tactic(auto, using(crate::proofs::Once::few_once))]
+#[tactic(auto, using(ndb_search::proofs::Shared::few_once))]
 pub fn once_each(alloc: Global, numbers: Vec<u32>) -> Result<Vec<u32>, AllocError>
     ensures { IfOk result (λ once. once.items ≡ spec.once_each numbers.items) }
 {

@@ -16,7 +16,7 @@ use crate::query::{
     Query, is_any, is_attribute, is_named, is_numeric, name_attr, names_some, read_query,
 };
 use ndb_index::{Index, Steps};
-use ndb_tuple::Kind;
+use ndb_search::Kind;
 use net_base::{Lines, Octets, Proto};
 use std::alloc::{AllocError, Global};
 use std::marker::Brand;

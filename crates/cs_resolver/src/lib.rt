@@ -9,6 +9,8 @@ mod line;
 mod named;
 mod numbers;
 mod query;
+mod resolve;
+mod scanned;
 
 pub use addresses::{covered_first, ip_targets, once_each};
 pub use error::CsError;
@@ -16,3 +18,4 @@ pub use indexed::{answer_counted, answer_indexed};
 pub use law::worked_bounds;
 pub use line::{Target, add_lines_of};
 pub use query::{Query, is_any, is_attribute, is_numeric, name_attr, nets_of, read_query};
+pub use resolve::answer;

@@ -2,14 +2,14 @@
 ghost use Rattle.std.specs.Prelude.{◌≡◌, ℕ, ◌+◌, ◌≤◌, List, flat_map, length, IfOk, OnOk};
 ghost use Rattle.std.specs.List.{sum_by};
 ghost use Rattle.net_base.specs.Cs as spec;
-ghost use Rattle.ndb_tuple.specs.declared.numbers.Kind.TheVariants.{Address};
+ghost use Rattle.ndb_search.specs.declared.tuple_numbers.Kind.TheVariants.{Address};
 ghost use Rattle.cs_resolver.specs.Gathering.{Gathers, TuplesRead, SpotsRead, words_seen};
 ghost use Rattle.cs_resolver.specs.Probes.{IsSpot, AreSpots, numbers_at, word_found};
 
 use crate::query::{is_numeric, name_attr};
 use indexmap::IndexSet;
 use ndb_index::{Index, Spot, Steps};
-use ndb_tuple::{Kind, add_numbers_in, add_numbers_on};
+use ndb_search::{Kind, add_numbers_in, add_numbers_on};
 use net_base::Octets;
 use std::alloc::{AllocError, Global};
 use std::sync::ledger::Ledger;

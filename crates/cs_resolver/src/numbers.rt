@@ -1,11 +1,11 @@
 //! Numbers beside pairs of an index.
 ghost use Rattle.std.specs.Prelude.{◌≡◌, ◌+◌, ◌≤◌, ◌++◌, flat_map, length, IfOk, OnOk};
-ghost use Rattle.ndb_tuple.specs.Numbers.{numbers_found};
+ghost use Rattle.ndb_search.specs.Numbers.{numbers_found};
 ghost use Rattle.ndb_index.specs.Index.{found};
 ghost use Rattle.cs_resolver.specs.Probes.{IsSpot, AreSpots, numbers_at};
 
 use ndb_index::{Index, Spot, Steps};
-use ndb_tuple::{Kind, add_numbers_beside};
+use ndb_search::{Kind, add_numbers_beside};
 use std::alloc::{AllocError, Global};
 use std::sync::ledger::Ledger;
 

@@ -17,9 +17,9 @@ use Rattle.net_base.specs.Actors.{Actor, IsConv, table_step}
 use Rattle.net_base.specs.Conversation.{Conv, conv_step, core_name, is_closed_name, is_over}
 use Rattle.net_base.specs.Duties.{release}
 use Rattle.duties.specs.Releasing.{release_of, released}
-use Rattle.table_laws.specs.ConvRows.{ConvRow, generation_in}
-use Rattle.table_laws.specs.ConvRows as row
-use Rattle.table_laws.proofs.Shared.{conv_rows, map_some}
+use Rattle.history_laws.specs.ConvRows.{ConvRow, generation_in}
+use Rattle.history_laws.specs.ConvRows as row
+use Rattle.history_laws.proofs.Shared.{conv_rows, map_some}
 
 -- where it ended, this is its generation
 abbrev EndsIn : Option ℕ → Step Conv → Type 0

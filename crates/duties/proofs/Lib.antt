@@ -3,3 +3,7 @@ pub mod Hosts
 pub mod Loops
 pub mod Ticks
 pub mod Whole
+mod Puts
+mod Ordered
+pub mod Covering
+pub mod Shared

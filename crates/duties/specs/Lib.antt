@@ -7,3 +7,5 @@ pub mod Releasing
 pub mod Ticking
 pub use Rattle.net_base.specs.Duties
 pub use Rattle.net_base.specs.Routes
+pub mod Places
+pub mod Marks

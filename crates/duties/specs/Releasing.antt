@@ -7,7 +7,7 @@ use Rattle.net_base.specs.declared.event.Event.{Event}
 use Rattle.net_base.specs.declared.event.Event.TheVariants as event
 use Rattle.net_base.specs.declared.history.With.TheVariants as given
 use Rattle.net_base.specs.Duties.{Duty, one_duty}
-use Rattle.table_laws.specs.ConvRows.{generation_in}
+use Rattle.history_laws.specs.ConvRows.{generation_in}
 
 abbrev pub release_of : ℕ → Proto → ℕ → ℕ → Option ℕ → List Duty
 release_of h p n s (Some g) = one_duty s (name.Dir h p) (event.Release n g) given.Nothing

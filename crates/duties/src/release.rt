@@ -2,7 +2,7 @@
 ghost use Rattle.std.specs.Prelude.{◌≡◌, ◌+◌, ◌≤◌, if◌then◌else◌};
 ghost use Rattle.duties.specs.Queue.{AddsDuty};
 ghost use Rattle.duties.specs.Releasing.{released};
-ghost use Rattle.table_laws.specs.ConvRows.{generation_in};
+ghost use Rattle.history_laws.specs.ConvRows.{generation_in};
 
 use crate::queue::Duties;
 use net_base::{ActorName, Event, With};

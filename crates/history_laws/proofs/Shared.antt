@@ -24,3 +24,21 @@ pub use Rattle.history_laws.proofs.Short.{legal_short}
 pub use Rattle.history_laws.proofs.StepEvents.{Fits, IsExporting, IsNamed, IsNextEvent, IsOpened, IsOther, IsOwn, Records, Says, own_other}
 -- which slots are found, and what holds of who takes a packet
 pub use Rattle.history_laws.proofs.Takers.{TakerFound, slot_found, taker_found}
+-- each step of an actor is that of a row
+pub use Rattle.history_laws.proofs.ActorTable.{actor_rows, desk_rows, mapped, shown_reply, table_rows}
+-- each step of a conversation is that of a row
+pub use Rattle.history_laws.proofs.ConvTable.{conv_rows, map_some}
+-- every step gives its reply twice
+pub use Rattle.history_laws.proofs.Copies.{conv_copies, table_copies}
+-- what holds of all ends of a protocol, if of one, stays so of a conversation's end
+pub use Rattle.history_laws.proofs.Cores.{core_stays}
+-- each step of a directory is that of a row
+pub use Rattle.history_laws.proofs.DirTable.{dir_rows}
+-- what holds of the calls that wait at the slots of a directory holds after each of its steps, and of the calls that the step tells
+pub use Rattle.history_laws.proofs.Waiting.{slots_stay, waiting_at, waiting_stays, waiting_told}
+-- where no caller could record the net is calm, and else it isn't
+pub use Rattle.history_laws.proofs.Calming.{Kind, OfClock, OfCourier, OfScript, clock_is, clock_waits, courier_is, is_busy, is_calm, kind_of}
+-- after each legal history what is owed is as it should be
+pub use Rattle.history_laws.proofs.Always.{steady_after}
+-- what is kept of duties: each is of kind, cites rise in a queue, and the birth of each generation that a conversation still lacks is owed
+pub use Rattle.history_laws.proofs.Duties.{IsKind, OfKind}

@@ -2,3 +2,4 @@ pub mod HistoryWords
 pub mod Shown
 pub use Rattle.net_base.specs.Transcript
 pub use Rattle.net_base.specs.Callers
+pub mod Labels

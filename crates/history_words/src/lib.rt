@@ -3,10 +3,16 @@
 
 mod entry;
 mod event;
+mod events;
 mod header;
 mod put;
+mod replies;
 mod reply;
 mod shown;
+mod text;
 mod who;
 
 pub use entry::words_of;
+pub use events::put_event;
+pub use replies::put_reply;
+pub use words::put_actor;

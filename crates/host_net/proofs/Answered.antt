@@ -22,7 +22,7 @@ use Rattle.net_base.specs.Stamped.{In, entries_from, of_caller}
 use Rattle.net_base.specs.Versions.{Tuples}
 use Rattle.net_base.specs.Steps.{Names}
 use Rattle.net_base.specs.Summary.{answered_by, answered_steps}
-use Rattle.thread_laws.specs.Works.{entries}
+use Rattle.net_locks.specs.Works.{entries}
 use Rattle.net_guests.proofs.Shared.{apart_test, last_or, owes_some, free_none}
 use Rattle.host_net.proofs.Histories.{lists_are}
 use Rattle.host_net.proofs.Joining.{get_index}

@@ -21,10 +21,10 @@ use Rattle.net_base.specs.Stamped.{at, at_from, matches}
 use Rattle.net_base.specs.Tasks.{Tasks}
 use Rattle.locked.specs.Acts.{state, state_at}
 use Rattle.script_task.specs.Fitting.{fits}
-use Rattle.thread_laws.specs.Named.{Named, answer_in, named, named_opening}
-use Rattle.thread_laws.specs.Works.{entries, noted_net}
+use Rattle.net_locks.specs.Named.{Named, answer_in, named, named_opening}
+use Rattle.net_locks.specs.Works.{entries, noted_net}
 use Rattle.net_base.proofs.Shared.{number_itself}
-use Rattle.thread_laws.proofs.Shared.{named_left}
+use Rattle.net_locks.proofs.Shared.{named_left}
 
 -- The own entries.
 

@@ -17,7 +17,7 @@ use Rattle.net_base.specs.declared.request.Request.{Request}
 use Rattle.script_task.specs.Fitting.{fits}
 use Rattle.net_base.specs.Requests.{settled}
 use Rattle.played_task.specs.Wholes as whole
-use Rattle.thread_laws.specs.Works.{entries}
+use Rattle.net_locks.specs.Works.{entries}
 use Rattle.host_net.specs.declared.player.Played.{Played}
 use Rattle.host_net.specs.declared.player.Played.TheVariants as played
 use Rattle.host_net.specs.declared.player.Role.{Role}

@@ -11,7 +11,7 @@ use Rattle.net_base.specs.Steps.{Ask, Names}
 use Rattle.net_base.specs.Tasks.{Asking, Tasks}
 use Rattle.net_base.specs.Versions.{Tuples}
 use Rattle.played_task.specs.Wholes.{AsksThere, Comes}
-use Rattle.thread_laws.specs.Works.{entries}
+use Rattle.net_locks.specs.Works.{entries}
 use Rattle.host_net.specs.Playing.{GoesOn}
 use Rattle.net_guests.specs.Visits.{Visit}
 use Rattle.host_net.proofs.Continuing.{script_next}

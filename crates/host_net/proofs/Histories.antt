@@ -11,9 +11,9 @@ use Rattle.net_base.specs.Tasks.{Tasks}
 use Rattle.journal.specs.declared.law.Roster.{Roster}
 use Rattle.journal.specs.declared.tokens.Sight.{Sight}
 use Rattle.journal.specs.Closing.{plain}
-use Rattle.thread_laws.specs.Guests.{IsOfGuests}
-use Rattle.thread_laws.specs.Own.{IsLegalButScripts}
-use Rattle.thread_laws.specs.Works.{entries, noted_net}
+use Rattle.net_locks.specs.Guests.{IsOfGuests}
+use Rattle.net_locks.specs.Own.{IsLegalButScripts}
+use Rattle.net_locks.specs.Works.{entries, noted_net}
 use Rattle.host_net.specs.Advancing.{AfterAll, IsHistoryOf}
 use Rattle.net_guests.specs.Visits.{HasGuest, Visit}
 use Rattle.net_locks.specs.Turns.{own_seen}

@@ -24,10 +24,10 @@ use Rattle.net_base.specs.Versions.{Tuples}
 use Rattle.duties.specs.Queue.{work_of_duty}
 use Rattle.journal.specs.declared.tokens.Sight.{Sight}
 use Rattle.locked.specs.Acts.{made, act_without_copy}
-use Rattle.thread_laws.specs.Own.{AreNext, AreTimely, OwnStandsStill}
-use Rattle.thread_laws.specs.Works.{entries, noted_net}
+use Rattle.net_locks.specs.Own.{AreNext, AreTimely, OwnStandsStill}
+use Rattle.net_locks.specs.Works.{entries, noted_net}
 use Rattle.host_net.specs.declared.player.Role.{Role}
-use Rattle.thread_laws.specs.Guests.{deed_at}
+use Rattle.net_locks.specs.Guests.{deed_at}
 use Rattle.net_locks.specs.declared.turn.Turn.{Turn}
 use Rattle.net_locks.specs.declared.turn.Turn.TheVariants as turn
 use Rattle.host_net.specs.Playing.{GoesOn, HasMore, VisitHasRole, IsVisitPlayed, IsPlayer, IsUnmoved, IsUnready, Playing, PlaysOn, played_by}

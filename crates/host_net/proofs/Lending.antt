@@ -7,10 +7,10 @@ use Rattle.net_base.specs.Stamped.{In}
 use Rattle.net_base.specs.Tasks.{Tasks}
 use Rattle.journal.specs.declared.law.Roster.{Roster}
 use Rattle.journal.specs.declared.tokens.Sight.{Sight}
-use Rattle.due_moments.specs.Marks.{Covers}
-use Rattle.thread_laws.specs.Guests.{IsGuest, IsOfGuests}
-use Rattle.thread_laws.specs.Own.{AreNext, AreTimely}
-use Rattle.thread_laws.specs.Works.{entries}
+use Rattle.duties.specs.Marks.{Covers}
+use Rattle.net_locks.specs.Guests.{IsGuest, IsOfGuests}
+use Rattle.net_locks.specs.Own.{AreNext, AreTimely}
+use Rattle.net_locks.specs.Works.{entries}
 use Rattle.net_locks.specs.declared.clock.Advance.{Advance}
 use Rattle.net_locks.specs.declared.clock.Standing.{Standing}
 use Rattle.host_net.specs.Advancing.{Advances, AreLent, IsStanding}

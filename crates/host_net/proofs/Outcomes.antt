@@ -23,8 +23,8 @@ use Rattle.net_base.specs.Steps.{Names}
 use Rattle.net_base.specs.Tasks.{Asking, Tasks}
 use Rattle.net_base.specs.Versions.{Tuples}
 use Rattle.journal.specs.declared.law.Roster.{Roster}
-use Rattle.thread_laws.specs.Own.{AreNext, AreTimely, IsLegalButScripts}
-use Rattle.thread_laws.specs.Works.{entries, noted_net}
+use Rattle.net_locks.specs.Own.{AreNext, AreTimely, IsLegalButScripts}
+use Rattle.net_locks.specs.Works.{entries, noted_net}
 use Rattle.net_locks.specs.declared.clock.Advance.{Advance}
 use Rattle.net_locks.specs.declared.clock.Advance.TheVariants as advance
 use Rattle.host_net.specs.declared.player.Role.{Role}

@@ -6,9 +6,9 @@ use Rattle.net_base.specs.Callers.{IsClock, caller_of}
 use Rattle.net_base.specs.Net.{after}
 use Rattle.net_base.specs.Stamped.{In}
 use Rattle.journal.specs.declared.law.Roster.{Roster}
-use Rattle.thread_laws.specs.Guests.{IsOfGuests}
-use Rattle.thread_laws.specs.Own.{IsLegalButScripts}
-use Rattle.thread_laws.specs.Works.{entries, noted_net}
+use Rattle.net_locks.specs.Guests.{IsOfGuests}
+use Rattle.net_locks.specs.Own.{IsLegalButScripts}
+use Rattle.net_locks.specs.Works.{entries, noted_net}
 use Rattle.net_locks.specs.declared.clock.Advance.{Advance}
 use Rattle.net_locks.specs.declared.clock.Standing.{Standing}
 use Rattle.net_base.specs.declared.noted.Noted.{Noted}

@@ -22,11 +22,11 @@ use Rattle.net_base.specs.Tasks.{Tasks}
 use Rattle.journal.specs.declared.law.Roster.{Roster}
 use Rattle.journal.specs.declared.tokens.Sight.{Sight}
 use Rattle.journal.specs.Closing.{plain}
-use Rattle.due_moments.specs.Marks.{Covers}
-use Rattle.thread_laws.specs.Guests.{IsOfGuests}
+use Rattle.duties.specs.Marks.{Covers}
+use Rattle.net_locks.specs.Guests.{IsOfGuests}
 use Rattle.locked.specs.Acts.{made, act_without_copy}
-use Rattle.thread_laws.specs.Own.{AreNext, AreTimely}
-use Rattle.thread_laws.specs.Works.{entries}
+use Rattle.net_locks.specs.Own.{AreNext, AreTimely}
+use Rattle.net_locks.specs.Works.{entries}
 use Rattle.net_locks.specs.declared.clock.Advance.{Advance}
 use Rattle.net_locks.specs.declared.clock.Advance.TheVariants as advance
 use Rattle.net_locks.specs.declared.clock.Standing.{Standing}

@@ -8,7 +8,7 @@ use Rattle.net_base.specs.Net.{owed}
 use Rattle.net_base.specs.Next.{answered}
 use Rattle.net_base.specs.Stamped.{In, of_caller}
 use Rattle.journal.specs.Closing.{plain}
-use Rattle.thread_laws.specs.Works.{entries}
+use Rattle.net_locks.specs.Works.{entries}
 use Rattle.net_locks.specs.Turns.{own_seen}
 use Rattle.host_net.specs.Groups.{caller}
 use Rattle.host_net.specs.Playing.{Playing}

@@ -16,8 +16,8 @@ use Rattle.net_base.specs.Stamped.{In}
 use Rattle.net_base.specs.Tasks.{Asking, Tasks}
 use Rattle.net_base.specs.Versions.{Tuples}
 use Rattle.duties.specs.Queue.{work_of_duty}
-use Rattle.thread_laws.specs.Own.{AreNext, AreTimely}
-use Rattle.thread_laws.specs.Works.{entries, noted_net}
+use Rattle.net_locks.specs.Own.{AreNext, AreTimely}
+use Rattle.net_locks.specs.Works.{entries, noted_net}
 use Rattle.host_net.specs.declared.player.Played.{Played}
 use Rattle.host_net.specs.declared.player.Played.TheVariants as played
 use Rattle.host_net.specs.declared.player.Role.{Role}

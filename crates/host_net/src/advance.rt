@@ -4,8 +4,8 @@ ghost use Rattle.net_base.specs.declared.world.Script.{Script as AnyScript};
 ghost use Rattle.net_base.specs.Callers.{IsClock, IsScript, caller_of};
 ghost use Rattle.net_base.specs.Next.{next_by};
 ghost use Rattle.net_base.specs.World.{IsWorld};
-ghost use Rattle.thread_laws.specs.Guests.{IsGuest};
-ghost use Rattle.thread_laws.specs.Works.{entries};
+ghost use Rattle.net_locks.specs.Guests.{IsGuest};
+ghost use Rattle.net_locks.specs.Works.{entries};
 ghost use Rattle.host_net.specs.Advancing.{AddsToGroups, Advanced, Advances, AreBack, AreLent, AreStandings, GroupsAreBack, GroupsAreKept};
 ghost use Rattle.host_net.specs.Advancing.{IsStanding, IsTaken, StayAtOnce, other_players};
 ghost use Rattle.net_locks.specs.Standings.{IsBare, standing_ask};
@@ -17,16 +17,15 @@ use crate::guest::Guest;
 use crate::net::Net;
 use crate::player::{Player, Role};
 use crate::players::{Group, Players};
-use calm_laws::histories_are_their_callers;
+use history_laws::histories_are_their_callers;
 use journal::Naming;
 use net_base::{ActorName, Event, With, Work, World};
-use net_locks::{Advance, Placing, Standing, WorldActor};
+use net_locks::{Advance, Placing, Standing, WorldActor, histories_of_guests_are_legal};
 use outside::Gate;
 use played_task::WholeTask;
 use script_task::{Planned, plan};
 use std::alloc::{AllocError, Global};
 use std::sync::Wait;
-use thread_laws::histories_of_guests_are_legal;
 
 fn bare(event: Event) -> Work
     ensures { result ≡ turns.bare event }

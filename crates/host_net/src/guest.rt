@@ -6,14 +6,14 @@ ghost use Rattle.net_base.specs.declared.world.Script.{Script};
 ghost use Rattle.net_base.specs.Callers.{IsScript, caller_of};
 ghost use Rattle.net_base.specs.Next.{zone_of};
 ghost use Rattle.net_base.specs.Stamped.{In};
-ghost use Rattle.due_moments.specs.Marks.{Covers};
-ghost use Rattle.thread_laws.specs.Guests.{IsGuest};
+ghost use Rattle.duties.specs.Marks.{Covers};
+ghost use Rattle.net_locks.specs.Guests.{IsGuest};
 ghost use Rattle.net_guests.specs.Visits.{IsFresh, IsWith, Visit};
 ghost use Rattle.net_locks.specs.Turns.{own_seen};
 
-use due_moments::Touched;
+use duties::Touched;
 use journal::{Journal, Naming, Pass};
-use ndb_versions::IndexedVersions;
+use ndb_index::IndexedVersions;
 use net_guests::Bundle;
 use net_locks::Placing;
 use script_task::Names;

@@ -10,7 +10,7 @@ ghost use Rattle.net_base.specs.Next.{zone_of};
 ghost use Rattle.net_base.specs.World.{IsWorld};
 ghost use Rattle.journal.specs.Rule.{caller_numbers};
 ghost use Rattle.duties.specs.Queue.{work_of_duty};
-ghost use Rattle.thread_laws.specs.Guests.{IsOfGuests};
+ghost use Rattle.net_locks.specs.Guests.{IsOfGuests};
 ghost use Rattle.net_locks.specs.Rosters.{IsRosterOf};
 ghost use Rattle.net_locks.specs.Standings.{AllStand};
 ghost use Rattle.net_guests.specs.Deciding.{LeavesGuest};
@@ -21,17 +21,17 @@ use crate::finishing::gather;
 use crate::guest::Guest;
 use journal::{ClosedBooks, Journal, Naming, Pass};
 use locked::Machine;
-use ndb_versions::IndexedVersions;
+use ndb_index::IndexedVersions;
 use net_base::{History, World};
 use net_guests::first_spot;
 use net_locks::{
     Advance, Locks, NetOpened, Placing, Spot, Standing, Turn, WorldActor, caller_count,
+    histories_of_guests_are_legal,
 };
 use outside::Gate;
 use script_task::Request;
 use std::alloc::{AllocError, Global};
 use std::sync::{Arc, Wait};
-use thread_laws::histories_of_guests_are_legal;
 
 /// Every actor of a world behind its lock, each at its number.
 #[derive(Drop)]

@@ -15,14 +15,13 @@ use crate::guest::Guest;
 use crate::net::Net;
 use journal::Naming;
 use net_base::{ActorName, Event, Reply, World};
-use net_locks::{Placing, Spot, Turn, WorldActor};
+use net_locks::{Placing, Spot, Turn, WorldActor, guests_begin, locks_keep_actors};
 use outside::Gate;
 use played_task::WholeTask;
 use script_task::replies_fit;
 use std::alloc::{AllocError, Global};
 use std::marker::Model;
 use std::sync::Wait;
-use thread_laws::{guests_begin, locks_keep_actors};
 
 /// Who a caller is.
 #[derive(Clone, Copy, Debug, PartialEq, Eq)]

@@ -4,8 +4,8 @@ use Rattle.std.proofs.lemmas.List.{take_at}
 use Rattle.std.specs.Int.{bytes_high_first}
 use borrow.Rule.Slice.PartMut.{put_mid}
 use Rattle.net_base.specs.declared.il.IlMsg.{IlMsg}
-use Rattle.wire_text.specs.Sum.{sum_of}
-use Rattle.wire_text.specs.IlWire.{IsMessage, SpellsIl, il_with, il_bytes}
+use Rattle.formats.specs.Sum.{sum_of}
+use Rattle.formats.specs.IlWire.{IsMessage, SpellsIl, il_with, il_bytes}
 use Rattle.net_base.proofs.Shared.{laid}
 
 pub encoded : (sport dport : ℕ) (m : IlMsg) (front old : List ℕ) → length front ≡ 18 → front ++ m.text ≡ il_with 0 sport dport m

@@ -1,7 +1,7 @@
 -- How far bytes look like a message: each step is what the fault after it presumes.
 use Rattle.std.specs.Prelude.{◌≡◌, ◌≤◌, ℕ, List, length}
 use Rattle.net_base.specs.Bytes.{word_at}
-use Rattle.wire_text.specs.IlWire.{il_sum, il_length}
+use Rattle.formats.specs.IlWire.{il_sum, il_length}
 
 -- there are bytes enough for a header
 abbrev pub HasIlHeader : List ℕ → Type 0

@@ -1,5 +1,5 @@
 pub mod Faults
 pub mod Views
 pub use Rattle.net_base.specs.Bytes
-pub use Rattle.wire_text.specs.IlWire
-pub use Rattle.wire_text.specs.Sum
+pub use Rattle.formats.specs.IlWire
+pub use Rattle.formats.specs.Sum

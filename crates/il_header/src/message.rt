@@ -2,7 +2,7 @@
 ghost use Rattle.std.specs.Prelude.{◌≡◌, ◌≢◌, ◌+◌, ◌<◌, ◌≤◌, ◌++◌, ◌↔◌, ℕ, List, length, take, drop, IfOk, IsOkAnd, IsErrOf};
 ghost use Rattle.net_base.specs.declared.il.IlMsg.{IlMsg};
 ghost use Rattle.net_base.specs.Bytes.{word_at};
-ghost use Rattle.wire_text.specs.IlWire.{IsMessage, SpellsIl, il_bytes, il_length, il_sum, il_with, kind_of, il_type_field, type_number};
+ghost use Rattle.formats.specs.IlWire.{IsMessage, SpellsIl, il_bytes, il_length, il_sum, il_with, kind_of, il_type_field, type_number};
 ghost use Rattle.il_header.specs.Faults.{HasIlHeader, HasLength, HasSum};
 ghost use Rattle.il_header.specs.Views.{message_in};
 

@@ -2,8 +2,8 @@
 use Rattle.std.proofs.Common.{◌≡◌, ℕ, suc, ◌+◌, ◌*◌, ◌-◌, ◌^◌, ◌<◌, List, [], ◌∷◌, sum, refl, sym, ap, ◌∙◌, arith}
 use Rattle.std.proofs.lemmas.Bool.Decides.{nat_tests}
 use Rattle.std.proofs.lemmas.List.Sums.{sum_by-cons}
-use Rattle.wire_text.specs.Sum.{words, add_around, total_of, sum_of}
-use Rattle.wire_text.proofs.Shared.{IsBytes}
+use Rattle.formats.specs.Sum.{words, add_around, total_of, sum_of}
+use Rattle.formats.proofs.Shared.{IsBytes}
 use Rattle.ip_wire.specs.Carries.{around}
 
 -- one more word in front

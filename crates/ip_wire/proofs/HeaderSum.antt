@@ -2,9 +2,9 @@
 use Rattle.std.proofs.Common.{◌≡◌, ℕ, ◌+◌, ◌-◌, ◌≤◌, List, length, take, drop, sum, ap, ◌∙◌, arith}
 use Rattle.std.proofs.lemmas.List.{length-take, take-take, drop-take}
 use Rattle.net_base.specs.Bytes.{blanked}
-use Rattle.wire_text.specs.Sum.{words}
-use Rattle.wire_text.specs.Ipv4.{header_sum}
-use Rattle.wire_text.proofs.Shared.{IsBytes, IsBytes-blanked, IsBytes-take, sum-words-blanked}
+use Rattle.formats.specs.Sum.{words}
+use Rattle.formats.specs.Ipv4.{header_sum}
+use Rattle.formats.proofs.Shared.{IsBytes, IsBytes-blanked, IsBytes-take, sum-words-blanked}
 use Rattle.ip_wire.specs.Carries.{around}
 use Rattle.ip_wire.proofs.Carrying.{sum_of-words}
 

@@ -3,9 +3,9 @@ use Rattle.std.proofs.Common.{◌≡◌, ℕ, zero, suc, ◌+◌, ◌-◌, ◌<�
 use Rattle.std.specs.Int.{bytes_high_first}
 use Rattle.net_base.specs.declared.address.Addr.{Addr}
 use Rattle.net_base.specs.Bytes.{blanked}
-use Rattle.wire_text.specs.Sum.{words, sum_of}
-use Rattle.wire_text.specs.UdpWire.{pseudo_header, sent_sum, udp_with, udp_sum, udp_length, received_sum}
-use Rattle.wire_text.proofs.Shared.{IsBytes, IsBytes-append, IsBytes-blanked, IsBytes-high_first, sum-words-append, sum-words-blanked}
+use Rattle.formats.specs.Sum.{words, sum_of}
+use Rattle.formats.specs.UdpWire.{pseudo_header, sent_sum, udp_with, udp_sum, udp_length, received_sum}
+use Rattle.formats.proofs.Shared.{IsBytes, IsBytes-append, IsBytes-blanked, IsBytes-high_first, sum-words-append, sum-words-blanked}
 use Rattle.ip_wire.specs.Carries.{around}
 use Rattle.ip_wire.proofs.Carrying.{sum_of-words}
 

@@ -1,8 +1,8 @@
 -- How far bytes look like a datagram: each step is what the fault after it presumes.
 use Rattle.std.specs.Prelude.{◌≡◌, ◌≤◌, ◌⊎◌, List, length, ℕ}
 use Rattle.net_base.specs.Bytes.{word_at}
-use Rattle.wire_text.specs.Ipv4.{version, length_words, fragment, header_sum}
-use Rattle.wire_text.specs.UdpWire.{sum_field, received_sum}
+use Rattle.formats.specs.Ipv4.{version, length_words, fragment, header_sum}
+use Rattle.formats.specs.UdpWire.{sum_field, received_sum}
 
 -- there are bytes enough for a header
 abbrev pub HasIpHeader : List ℕ → Type 0

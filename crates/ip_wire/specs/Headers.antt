@@ -1,5 +1,5 @@
 -- A header as the definitions of the net see it.
-use Rattle.wire_text.specs.Ipv4.{Ipv4}
+use Rattle.formats.specs.Ipv4.{Ipv4}
 use Rattle.ip_wire.specs.declared.ip.IpHeader.{IpHeader}
 
 abbrev pub view : IpHeader → Ipv4

@@ -2,6 +2,6 @@ pub mod Carries
 pub mod Faults
 pub mod Headers
 pub use Rattle.net_base.specs.Bytes
-pub use Rattle.wire_text.specs.Ipv4
-pub use Rattle.wire_text.specs.Sum
-pub use Rattle.wire_text.specs.UdpWire
+pub use Rattle.formats.specs.Ipv4
+pub use Rattle.formats.specs.Sum
+pub use Rattle.formats.specs.UdpWire

@@ -1,6 +1,6 @@
 //! The checksum of the Internet protocols.
 ghost use Rattle.std.specs.Prelude.{◌≡◌, ◌+◌, ◌*◌, ◌^◌, ◌-◌, ◌<◌, ◌≤◌, length, sum};
-ghost use Rattle.wire_text.specs.Sum.{words, sum_of};
+ghost use Rattle.formats.specs.Sum.{words, sum_of};
 ghost use Rattle.ip_wire.specs.Carries.{around};
 
 /// The checksum of the bytes, over 16-bit words (RFC 1071).

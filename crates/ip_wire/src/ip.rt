@@ -1,7 +1,7 @@
 //! IPv4 headers.
 ghost use Rattle.std.specs.Prelude.{◌≡◌, ◌≢◌, ◌+◌, ◌^◌, ◌<◌, ◌≤◌, ◌++◌, ◌↔◌, ℕ, false, List, length, take, drop, IfOk, IsOkAnd, IsErrOf};
 ghost use Rattle.net_base.specs.Bytes.{word_at};
-ghost use Rattle.wire_text.specs.Ipv4.{Ipv4, IsHeader, SpellsIpv4, flags, fragment, header_of, header_sum, length_words, ipv4_bytes, summed, total_length, version};
+ghost use Rattle.formats.specs.Ipv4.{Ipv4, IsHeader, SpellsIpv4, flags, fragment, header_of, header_sum, length_words, ipv4_bytes, summed, total_length, version};
 ghost use Rattle.ip_wire.specs.Faults.{HasIpHeader, HasHeaderSum, HasNoOptions, IsNoFragment, IsVersion4};
 ghost use Rattle.ip_wire.specs.Headers.{view};
 

@@ -1,7 +1,7 @@
 //! UDP headers.
 ghost use Rattle.std.specs.Prelude.{◌≡◌, ◌≢◌, ◌+◌, ◌<◌, ◌≤◌, ◌++◌, ◌↔◌, ℕ, List, length, take, drop, sum, IfOk, IfErr, IsOkAnd, IsErrOf, ◌⊎◌};
-ghost use Rattle.wire_text.specs.Sum.{words};
-ghost use Rattle.wire_text.specs.UdpWire.{SpellsUdp, address, pseudo_header, received_sum, sent_sum, sum_field, udp_bytes, udp_length};
+ghost use Rattle.formats.specs.Sum.{words};
+ghost use Rattle.formats.specs.UdpWire.{SpellsUdp, address, pseudo_header, received_sum, sent_sum, sum_field, udp_bytes, udp_length};
 ghost use Rattle.ip_wire.specs.Faults.{HasUdpHeader, HasUdpSum};
 
 use crate::checksum::{add_words, complement};

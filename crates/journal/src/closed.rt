@@ -7,8 +7,7 @@ ghost use Rattle.journal.specs.Places.{AreThere};
 use crate::merging::{merge, opened};
 use crate::places::{Place, found_at};
 use crate::tokens::Stamped;
-use net_base::{Entry, History, Sequence};
-use run_record::Entries;
+use net_base::{Entries, Entry, History, Sequence};
 use std::alloc::{AllocError, Global};
 use std::marker::Model;
 

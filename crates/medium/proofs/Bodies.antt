@@ -6,11 +6,11 @@ use Rattle.net_base.specs.declared.il.IlMsg.{IlMsg}
 use Rattle.net_base.specs.declared.packet.Body.{Body}
 use Rattle.net_base.specs.declared.packet.Body.TheVariants as body
 use Rattle.net_base.specs.declared.packet.Packet.{Packet}
-use Rattle.wire_text.specs.Ipv4.{Ipv4, SpellsIpv4, header_of, payload_of}
-use Rattle.wire_text.specs.UdpWire.{SpellsUdp, address, dport_of, udp_text}
-use Rattle.wire_text.specs.IlWire.{SpellsIl, il_dport, message_of}
-use Rattle.wire_text.specs.Datagram.{IsPacket, between, il_packet, udp_packet, headed_packet, header_for, body_bytes, protocol, datagram_packet}
-use Rattle.wire_text.proofs.Shared.{spells_header, spells_payload, spells_sport, spells_dport, spells_message, spells_fields, spells_datagram, spells_il_body, spells_udp_body}
+use Rattle.formats.specs.Ipv4.{Ipv4, SpellsIpv4, header_of, payload_of}
+use Rattle.formats.specs.UdpWire.{SpellsUdp, address, dport_of, udp_text}
+use Rattle.formats.specs.IlWire.{SpellsIl, il_dport, message_of}
+use Rattle.formats.specs.Datagram.{IsPacket, between, il_packet, udp_packet, headed_packet, header_for, body_bytes, protocol, datagram_packet}
+use Rattle.formats.proofs.Shared.{spells_header, spells_payload, spells_sport, spells_dport, spells_message, spells_fields, spells_datagram, spells_il_body, spells_udp_body}
 use Rattle.medium.specs.Spelled.{IsSpelledPacket}
 
 -- spelled bytes spell a header and a payload

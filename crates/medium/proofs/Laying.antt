@@ -10,10 +10,10 @@ use Rattle.net_base.specs.declared.packet.Body.TheVariants as body
 use Rattle.net_base.specs.declared.packet.Packet.{Packet}
 use Rattle.net_base.specs.declared.world.Fate.{Fate}
 use Rattle.net_base.specs.declared.world.Fate.TheVariants.{Deliver, Lose, Twice, Later}
-use Rattle.wire_text.specs.Datagram.{IsPacket, body_bytes, header_for, datagram_packet, packet_spelling}
-use Rattle.wire_text.specs.Ipv4.{Ipv4, flagged_bytes, summed}
+use Rattle.formats.specs.Datagram.{IsPacket, body_bytes, header_for, datagram_packet, packet_spelling}
+use Rattle.formats.specs.Ipv4.{Ipv4, flagged_bytes, summed}
 use Rattle.net_base.specs.Medium.{datagram_length, fate_of, held_of, lays, now_of, puts}
-use Rattle.wire_text.proofs.Shared.{packet_again}
+use Rattle.formats.proofs.Shared.{packet_again}
 use Rattle.medium.specs.declared.frame.Frame.{Frame}
 use Rattle.medium.specs.OnMedium.{OnMedium, AllSpelled, copies_now, copy_held, medium_laid, copy_taken, with_frame}
 use Rattle.medium.specs.Spelled.{IsSpelledPacket}

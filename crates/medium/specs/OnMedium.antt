@@ -5,7 +5,7 @@ use Rattle.net_base.specs.declared.history.Taken.{Taken}
 use Rattle.net_base.specs.declared.world.Fate.{Fate}
 use Rattle.net_base.specs.declared.world.Fate.TheVariants.{Deliver, Lose, Twice, Later}
 use Rattle.net_base.specs.declared.world.MediumSpec.{MediumSpec}
-use Rattle.wire_text.specs.Datagram.{datagram_packet}
+use Rattle.formats.specs.Datagram.{datagram_packet}
 use Rattle.net_base.specs.Medium.{Medium, fate_of}
 use Rattle.medium.specs.declared.frame.Frame.{Frame}
 use Rattle.medium.specs.Spelled.{IsSpelledPacket}

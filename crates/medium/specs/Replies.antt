@@ -7,7 +7,7 @@ use Rattle.net_base.specs.declared.reply.Reply.TheVariants as reply
 use Rattle.medium.specs.declared.frame.Frame.{Frame}
 use Rattle.medium.specs.declared.medium.Laid.{Laid}
 use Rattle.medium.specs.declared.medium.Laid.TheVariants as laid
-use Rattle.wire_text.specs.Datagram.{datagram_packet}
+use Rattle.formats.specs.Datagram.{datagram_packet}
 use Rattle.medium.specs.OnMedium.{OnMedium, copy_taken, with_frame}
 use Rattle.medium.specs.Spelled.{HasText}
 

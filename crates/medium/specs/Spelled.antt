@@ -3,7 +3,7 @@ use Rattle.std.specs.Prelude.{◌≡◌, ◌<◌, ◌^◌, ℕ, List, length}
 use Rattle.net_base.specs.declared.packet.Body.{Body}
 use Rattle.net_base.specs.declared.packet.Body.TheVariants as body
 use Rattle.net_base.specs.declared.packet.Packet.{Packet}
-use Rattle.wire_text.specs.Datagram.{IsBody, IsPacket, datagram_packet, packet_spelling}
+use Rattle.formats.specs.Datagram.{IsBody, IsPacket, datagram_packet, packet_spelling}
 
 -- these are the bytes of the packet that they read as
 abbrev pub IsSpelledPacket : List ℕ → Type 0

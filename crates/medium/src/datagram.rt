@@ -1,6 +1,6 @@
 //! Packets as bytes and back.
 ghost use Rattle.std.specs.Prelude.{◌≡◌, ◌+◌, ◌^◌, ◌<◌, length, IfOk, OnErr, OnOk};
-ghost use Rattle.wire_text.specs.Datagram.{IsPacket, body_bytes, header_for, datagram_packet, packet_spelling};
+ghost use Rattle.formats.specs.Datagram.{IsPacket, body_bytes, header_for, datagram_packet, packet_spelling};
 ghost use Rattle.net_base.specs.Medium.{datagram_length};
 ghost use Rattle.ip_wire.specs.Headers.{view};
 ghost use Rattle.medium.specs.Spelled.{HasBody, HasText, IsSpelledPacket};

@@ -3,7 +3,7 @@ ghost use Rattle.std.specs.Prelude.{◌≡◌, ◌+◌, ◌^◌, ◌<◌, ◌≤
 ghost use Rattle.std.specs.VecDeque.{deque_capacity, deque_len};
 ghost use Rattle.medium.specs.OnFates.{next_frame_number};
 ghost use Rattle.net_base.specs.declared.reply.Reply.TheVariants as reply;
-ghost use Rattle.wire_text.specs.Datagram.{datagram_packet, packet_spelling};
+ghost use Rattle.formats.specs.Datagram.{datagram_packet, packet_spelling};
 ghost use Rattle.net_base.specs.Medium.{datagram_length, medium_leaves, puts, takes};
 ghost use Rattle.net_base.specs.World.{is_medium};
 ghost use Rattle.medium.specs.OnMedium.{IsPending, medium_laid, copy_taken, with_frame};

@@ -4,7 +4,7 @@ use Rattle.net_base.specs.Bytes.{word_at}
 use Rattle.net_base.specs.declared.question.Question.{Question}
 use Rattle.net_base.specs.DomainNames.{ReadsName}
 use Rattle.net_base.specs.DomainQuestions.{HasDomainHeader, question_of}
-use Rattle.dns_text.proofs.Shared.{name_short, is_found, is_read, read_at_front}
+use Rattle.formats.proofs.Shared.{name_short, is_found, is_read, read_at_front}
 use Rattle.ndb_dns.specs.declared.fault.DnsError.{DnsError}
 use Rattle.ndb_dns.specs.Runs.{IsRunRefused}
 use Rattle.ndb_dns.proofs.Spelling.{name_once}

@@ -6,9 +6,9 @@ use Rattle.std.specs.Char.{to_ascii_lowercase}
 use Rattle.std.proofs.lemmas.Bool.{false≢true, and_parts, and_from, ltb-false, leb-true, le-ltb, eqb-true, eq-eqb, ne_eqb, le-leb}
 use Rattle.std.proofs.lemmas.List.{take_at, drop_at, take-append-drop, length-map, map-append}
 use Rattle.std.proofs.lemmas.Option.{none-some, same_Some}
-use Rattle.wire_text.proofs.Shared.{word_again}
+use Rattle.formats.proofs.Shared.{word_again}
 use Rattle.net_base.specs.DomainNames.{is_label, is_domain_name, label_bytes, labels_bytes, lowered, name_bytes, name_text, pointer_bytes}
-use Rattle.dns_text.proofs.Shared.{label_few}
+use Rattle.formats.proofs.Shared.{label_few}
 use Rattle.ndb_dns.specs.declared.name.End.{End}
 use Rattle.ndb_dns.proofs.Sizes.{size_of}
 use Rattle.ndb_dns.specs.Runs.{Runs, allowed, behind_label, run_end_of, label_of, may_point, pointer_behind, pointer_in, with_label, with_labels, zero_end}

@@ -20,11 +20,10 @@ use Rattle.ndb_index.specs.Index.{found}
 use Rattle.ndb_index.specs.Kept.{spots_with}
 use Rattle.ndb_index.specs.Near.{spot_tuples}
 use Rattle.ndb_index.proofs.Shared.{Db, spots_count, spots_found}
-use Rattle.cs_resolver.proofs.Shared.{among, once_push, same_any}
 use Rattle.net_base.specs.DomainAnswers.{ZoneKey, is_unknown, naming_record, records_beside, records_found}
 use Rattle.net_base.specs.DomainNames.{name_in}
 use Rattle.ndb_dns.proofs.Lowering.{is_valid, valid_at}
-use Rattle.ndb_tuple.proofs.Shared.{turned}
+use Rattle.ndb_search.proofs.Shared.{among, once_push, same_any, turned}
 
 -- ---- values at spots
 

@@ -1,7 +1,7 @@
 -- A name that is read by its first run of labels and by those to which pointers lead.
 use Rattle.std.proofs.Common.{◌≡◌, ℕ, ◌+◌, ◌-◌, ◌<◌, ◌≤◌, List, [], ◌∷◌, ◌++◌, length, drop, Option, Some, None, refl, sym, ap, ◌∙◌, arith, subst}
 use Rattle.net_base.specs.DomainNames.{ReadsName, Spells}
-use Rattle.dns_text.proofs.Shared.{name_valid}
+use Rattle.formats.proofs.Shared.{name_valid}
 use Rattle.ndb_dns.specs.declared.name.Run.{Run}
 use Rattle.ndb_dns.specs.Runs.{AddsLabels, AddsPointed, AddsRun, AreTooLong, HasNoRun, LeadsTo, LeadsToNone, Runs, behind_label, run_ending, label_of, with_label, with_labels}
 use Rattle.std.proofs.lemmas.Option.{none-some, same_Some}

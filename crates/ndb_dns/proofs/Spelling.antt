@@ -7,7 +7,7 @@ use Rattle.std.proofs.lemmas.List.{take_at, take-append-drop, length-drop, get_o
 use Rattle.std.proofs.lemmas.List.Folds.{list_all-append}
 use Rattle.std.proofs.lemmas.Option.{same_Some}
 use Rattle.net_base.specs.DomainNames.{Ended, Pointed, PointsBack, ReadsName, Spells, StandAt, is_label, labels_bytes, name_bytes, name_text, pointer_bytes}
-use Rattle.dns_text.proofs.Shared.{name_valid}
+use Rattle.formats.proofs.Shared.{name_valid}
 use Rattle.ndb_dns.specs.declared.name.End.{End}
 use Rattle.ndb_dns.specs.declared.name.Run.{Run}
 use Rattle.ndb_dns.specs.Runs.{IsLabelRun, LeadsTo, Runs, allowed, run_end_of, run_ending, may_point, zero_end}

@@ -14,7 +14,7 @@ ghost use Rattle.net_base.specs.DomainAnswers as answers;
 use crate::value::name_in;
 use indexmap::IndexSet;
 use ndb_index::{Index, Spot, Steps};
-use ndb_tuple::add_beside;
+use ndb_search::add_beside;
 use net_base::{Lines, Octets};
 use std::alloc::{AllocError, Global};
 use std::sync::ledger::Ledger;

@@ -12,9 +12,9 @@ use Rattle.net_base.specs.Search.{is_pair}
 use Rattle.net_base.specs.Spots.{pair_spots}
 use Rattle.net_base.specs.Store.{all_pairs}
 use Rattle.net_base.specs.declared.ndb.spot.Spot.{Spot}
-use Rattle.ndb_chains.specs.declared.chains.Chains.{Chains}
-use Rattle.ndb_chains.specs.Chains.{first_in, width_of, AreChains}
-use Rattle.ndb_chains.proofs.Shared.{first-within, in_bucket, Met, met, none-met}
+use Rattle.ndb_reader.specs.declared.chains.Chains.{Chains}
+use Rattle.ndb_reader.specs.Chains.{first_in, width_of, AreChains}
+use Rattle.ndb_reader.proofs.Shared.{first-within, in_bucket, Met, met, none-met}
 use Rattle.ndb_index.specs.Chained.{width_for, AreByPair}
 use Rattle.ndb_index.specs.Hashing.{bucket_of_pair, pair_bucket}
 use Rattle.ndb_index.specs.Kept.{spots_noted, spots_with}

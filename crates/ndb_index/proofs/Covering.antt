@@ -8,9 +8,9 @@ use Rattle.std.proofs.lemmas.Bool.Decides.{nat_tests}
 use Rattle.std.proofs.lemmas.Bool.{and_parts, and_from, eqb-true}
 use Rattle.net_base.specs.Ndb.{NdbPair}
 use Rattle.net_base.specs.Networks.{Network, network_of, contains_address, is_on, is_filled}
-use Rattle.ndb_tuple.specs.Prefixes.{first_bits, prefix_of, is_prefix, is_on_prefix}
-use Rattle.ndb_tuple.specs.Places.{tuple_places}
-use Rattle.ndb_tuple.proofs.Shared.{same_truth, any_wider, any_gives}
+use Rattle.ndb_search.specs.Prefixes.{first_bits, prefix_of, is_prefix, is_on_prefix}
+use Rattle.ndb_search.specs.Places.{tuple_places}
+use Rattle.ndb_search.proofs.Shared.{same_truth, any_wider, any_gives}
 use Rattle.ndb_index.specs.Nets.{has_prefix, has_length, places_kept, HasPlaces, HasAllLengths, is_covered}
 use Rattle.ndb_index.proofs.Own.{Db, Kept}
 use Rattle.net_base.proofs.Shared.{number_itself}

@@ -5,3 +5,5 @@ pub mod Notes
 pub mod Own
 pub mod Unnamed
 pub mod Shared
+pub mod Behind
+pub mod Lined

@@ -12,11 +12,11 @@ use Rattle.net_base.specs.Ndb.{NdbPair}
 use Rattle.net_base.specs.Addresses.{read_address}
 use Rattle.net_base.specs.Search.{line_has, tuple_has, tuples_with, values_in}
 use Rattle.net_base.specs.Networks.{Network, network_of, bits_of, first_of, tuple_names, contains_address, own_networks, addresses_of, longest_first, is_filled, closest}
-use Rattle.ndb_tuple.specs.declared.numbers.Kind.TheVariants.{Address}
-use Rattle.ndb_tuple.specs.Numbers.{numbers_in}
-use Rattle.ndb_tuple.specs.Places.{tuple_places, places_with}
-use Rattle.ndb_tuple.specs.Closest.{first_filled}
-use Rattle.ndb_tuple.proofs.Shared.{Joins, first_here, first_past, one_filled, none_filled, near_is}
+use Rattle.ndb_search.specs.declared.tuple_numbers.Kind.TheVariants.{Address}
+use Rattle.ndb_search.specs.Numbers.{numbers_in}
+use Rattle.ndb_search.specs.Places.{tuple_places, places_with}
+use Rattle.ndb_search.specs.Closest.{first_filled}
+use Rattle.ndb_search.proofs.Shared.{Joins, first_here, first_past, one_filled, none_filled, near_is}
 use Rattle.net_base.specs.declared.ndb.spot.Spot.{Spot}
 use Rattle.net_base.specs.Spots.{spot_at}
 use Rattle.ndb_index.specs.Kept.{spot_in, spots_from, spots_with}

@@ -12,10 +12,10 @@ use Rattle.std.proofs.lemmas.List.{take_more}
 use Rattle.std.proofs.lemmas.Bool.{eqb-true}
 use Rattle.net_base.specs.Ndb.{NdbPair}
 use Rattle.net_base.specs.Networks.{Network, network_of, contains_address}
-use Rattle.ndb_tuple.specs.declared.prefixes.Prefix.{Prefix}
-use Rattle.ndb_tuple.specs.Prefixes.{first_bits, is_prefix}
-use Rattle.ndb_tuple.specs.Places.{tuple_places}
-use Rattle.ndb_tuple.proofs.Shared.{same_any, turned}
+use Rattle.ndb_search.specs.declared.prefixes.Prefix.{Prefix}
+use Rattle.ndb_search.specs.Prefixes.{first_bits, is_prefix}
+use Rattle.ndb_search.specs.Places.{tuple_places}
+use Rattle.ndb_search.proofs.Shared.{same_any, turned}
 use Rattle.ndb_index.specs.Nets.{prefix, has_prefix, has_length, places_kept, place_noted, HasPlaces, is_place_among, is_own_network, own_places}
 use Rattle.net_base.proofs.Shared.{number_itself, or_none}
 

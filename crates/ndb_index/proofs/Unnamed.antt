@@ -11,9 +11,9 @@ use Rattle.net_base.specs.Search.{has_attr, values_in}
 use Rattle.net_base.specs.Networks.{Network, network_of, tuple_names, first_of, bits_of}
 use Rattle.net_base.specs.Store.{all_pairs}
 use Rattle.net_base.proofs.Shared.{neither}
-use Rattle.ndb_tuple.specs.declared.prefixes.Prefix.{Prefix}
-use Rattle.ndb_tuple.specs.Prefixes.{is_prefix}
-use Rattle.ndb_tuple.specs.Places.{tuple_places}
+use Rattle.ndb_search.specs.declared.prefixes.Prefix.{Prefix}
+use Rattle.ndb_search.specs.Prefixes.{is_prefix}
+use Rattle.ndb_search.specs.Places.{tuple_places}
 use Rattle.ndb_index.specs.Nets.{has_prefix, has_length}
 use Rattle.ndb_index.proofs.Own.{Db}
 

@@ -3,8 +3,8 @@ use Rattle.std.specs.Prelude.{◌≡◌, ℕ, ◌+◌, ◌/◌, ◌==◌, List, 
 use Rattle.std.specs.List.{filter}
 use Rattle.net_base.specs.Ndb.{NdbPair}
 use Rattle.net_base.specs.Store.{all_pairs}
-use Rattle.ndb_chains.specs.declared.chains.Chains.{Chains}
-use Rattle.ndb_chains.specs.Chains.{width_of, AreChains}
+use Rattle.ndb_reader.specs.declared.chains.Chains.{Chains}
+use Rattle.ndb_reader.specs.Chains.{width_of, AreChains}
 use Rattle.ndb_index.specs.Hashing.{bucket_of_pair, pair_bucket}
 
 -- how many buckets there are for the pairs of a database: about a quarter as many

@@ -3,8 +3,8 @@ use Rattle.std.specs.Prelude.{ℕ, ◌+◌, List, length, codes, Option}
 use Rattle.net_base.specs.Ndb.{NdbPair}
 use Rattle.net_base.specs.Search.{tuples_with}
 use Rattle.net_base.specs.Networks.{own_networks}
-use Rattle.ndb_tuple.specs.declared.prefixes.Prefix.{Prefix}
-use Rattle.ndb_chains.specs.declared.chains.Chains.{Chains}
+use Rattle.ndb_search.specs.declared.prefixes.Prefix.{Prefix}
+use Rattle.ndb_reader.specs.declared.chains.Chains.{Chains}
 use Rattle.ndb_index.specs.Chained.{HasPairs}
 use Rattle.ndb_index.specs.Nets.{HasPlaces, HasAllLengths}
 

@@ -1,7 +1,7 @@
 pub use Rattle.net_base.specs.Networks
 pub use Rattle.net_base.specs.Search
-pub use Rattle.ndb_tuple.specs.Places
-pub use Rattle.ndb_tuple.specs.Prefixes
+pub use Rattle.ndb_search.specs.Places
+pub use Rattle.ndb_search.specs.Prefixes
 pub mod Chained
 pub mod Hashing
 pub mod Index
@@ -10,3 +10,6 @@ pub mod Near
 pub mod Nets
 pub use Rattle.net_base.specs.Spots
 pub use Rattle.net_base.specs.Store
+pub mod Told
+pub use Rattle.ndb_reader.specs.Written
+pub use Rattle.net_base.specs.Versions

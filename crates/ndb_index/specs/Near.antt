@@ -2,8 +2,8 @@
 use Rattle.std.specs.Prelude.{◌≡◌, ℕ, ◌<◌, List, [], length, map, flat_map, get_or}
 use Rattle.net_base.specs.Ndb.{NdbPair}
 use Rattle.net_base.specs.Search.{tuples_with}
-use Rattle.ndb_tuple.specs.declared.numbers.Kind.TheVariants.{Address}
-use Rattle.ndb_tuple.specs.Numbers.{numbers_in}
+use Rattle.ndb_search.specs.declared.tuple_numbers.Kind.TheVariants.{Address}
+use Rattle.ndb_search.specs.Numbers.{numbers_in}
 use Rattle.net_base.specs.declared.ndb.spot.Spot.{Spot}
 
 -- the places are in the database

@@ -5,9 +5,9 @@ use Rattle.std.specs.List.{list_any, range_with_len}
 use Rattle.std.specs.Map.{lookup}
 use Rattle.net_base.specs.Ndb.{NdbPair}
 use Rattle.net_base.specs.Networks.{network_of, contains_address, is_filled}
-use Rattle.ndb_tuple.specs.declared.prefixes.Prefix.{Prefix}
-use Rattle.ndb_tuple.specs.Prefixes.{is_prefix, is_on_prefix, same_prefix, prefix_of}
-use Rattle.ndb_tuple.specs.Places.{tuple_places}
+use Rattle.ndb_search.specs.declared.prefixes.Prefix.{Prefix}
+use Rattle.ndb_search.specs.Prefixes.{is_prefix, is_on_prefix, same_prefix, prefix_of}
+use Rattle.ndb_search.specs.Places.{tuple_places}
 
 abbrev pub prefix : ℕ → ℕ → Prefix
 prefix bits first = record { bits = bits; first = first }

@@ -1,7 +1,7 @@
 //! The index of a database.
 ghost use Rattle.std.specs.Prelude.{◌≡◌, ◌+◌, ◌<◌, ◌≤◌, [], filter_map, get_or, length, slice_get, IfOk};
 ghost use Rattle.net_base.specs.Search as spec;
-ghost use Rattle.ndb_tuple.specs.Places.{places_with};
+ghost use Rattle.ndb_search.specs.Places.{places_with};
 ghost use Rattle.ndb_index.specs.Kept.{spots_with};
 ghost use Rattle.ndb_index.specs.Near.{FindsPlaces};
 ghost use Rattle.ndb_index.specs.Nets.{HasPlaces, HasAllLengths};
@@ -10,9 +10,8 @@ use crate::networks::{self, Networks};
 use crate::pairs::{chains_of, spots_found};
 use crate::scan::places_at;
 use indexmap::{IndexMap, IndexSet};
-use ndb_chains::Chains;
-use ndb_reader::{Steps, Tuples};
-use ndb_tuple::{Places, add_beside};
+use ndb_reader::{Chains, Steps, Tuples};
+use ndb_search::{Places, add_beside};
 use net_base::{Db, Lines, Spot, Tuple};
 use std::alloc::{AllocError, Global};
 use std::marker::{Brand, Model};

@@ -1,15 +1,19 @@
 //! An index of a network database: searches that look at few of its tuples, with a bound on how many.
 #![tactic(auto)]
 
+mod found;
 mod hasher;
 mod index;
 mod near;
 mod networks;
 mod pairs;
 mod scan;
+mod versions;
 
+pub use found::{tuples_found, values_found};
 pub use index::Index;
 pub use ndb_reader::{Steps, Tuples};
-pub use ndb_tuple::{Places, Prefixes};
+pub use ndb_search::{Places, Prefixes};
 pub use net_base::Spot;
 pub use scan::search_scanned;
+pub use versions::IndexedVersions;

@@ -1,8 +1,8 @@
 //! What is closest to a system, and its own networks.
 ghost use Rattle.std.specs.Prelude.{◌≡◌, ℕ, ◌+◌, ◌<◌, ◌≤◌, ◌++◌, length, None, IfOk, OnOk};
 ghost use Rattle.net_base.specs.Networks as spec;
-ghost use Rattle.ndb_tuple.specs.Closest.{first_filled};
-ghost use Rattle.ndb_tuple.specs.Prefixes.{covers};
+ghost use Rattle.ndb_search.specs.Closest.{first_filled};
+ghost use Rattle.ndb_search.specs.Prefixes.{covers};
 ghost use Rattle.ndb_index.specs.Index.{own_count, near_count};
 ghost use Rattle.ndb_index.specs.Near.{AreWithinNear, SpotsWithin, tuples_at, spot_tuples, numbers_of};
 ghost use Rattle.ndb_index.specs.Nets.{longest_places};
@@ -10,7 +10,7 @@ ghost use Rattle.ndb_index.specs.Nets.{longest_places};
 use crate::index::Index;
 use crate::networks::{own_places, prefixes_of};
 use ndb_reader::Steps;
-use ndb_tuple::{Kind, Prefixes, add_numbers_in, filled_in};
+use ndb_search::{Kind, Prefixes, add_numbers_in, filled_in};
 use net_base::{Lines, Spot};
 use std::alloc::{AllocError, Global};
 use std::marker::Brand;

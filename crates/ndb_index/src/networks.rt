@@ -2,12 +2,12 @@
 ghost use Rattle.std.specs.Prelude.{◌≡◌, ℕ, ◌||◌, ◌++◌, List, None, nat_eq, IfOk, OnOk};
 ghost use Rattle.std.specs.List.{list_any};
 ghost use Rattle.net_base.specs.Ndb.{NdbPair};
-ghost use Rattle.ndb_tuple.specs.declared.prefixes.Prefix.{Prefix as Seen};
-ghost use Rattle.ndb_tuple.specs.Prefixes.{covers, same_prefix};
+ghost use Rattle.ndb_search.specs.declared.prefixes.Prefix.{Prefix as Seen};
+ghost use Rattle.ndb_search.specs.Prefixes.{covers, same_prefix};
 ghost use Rattle.ndb_index.specs.Nets.{places_kept, places_found, place_noted, has_prefix, has_length, is_covered, is_place_among, prefix, HasPlaces, HasAllLengths, own_places, longest_places};
 
 use indexmap::{IndexMap, IndexSet};
-use ndb_tuple::{Places, Prefix, Prefixes, firsts_of, network_of};
+use ndb_search::{Places, Prefix, Prefixes, firsts_of, network_of};
 use net_base::Tuple;
 use std::alloc::{AllocError, Global};
 use std::collections::BTreeSet;

@@ -9,8 +9,7 @@ ghost use Rattle.ndb_index.specs.Chained.{alike, looks, AreByPair, HasPairs};
 ghost use Rattle.ndb_index.specs.Kept as spec;
 
 use crate::hasher::bucket_of;
-use ndb_chains::Chains;
-use ndb_reader::{Steps, Tuples};
+use ndb_reader::{Chains, Steps, Tuples};
 use net_base::{Db, Spot};
 use std::alloc::{AllocError, Global};
 use std::sync::ledger::Ledger;

@@ -5,7 +5,7 @@ ghost use Rattle.ndb_index.specs.Near.{FindsPlaces};
 
 use crate::pairs::spots_scanned;
 use ndb_reader::{Steps, Tuples};
-use ndb_tuple::Places;
+use ndb_search::Places;
 use net_base::Spot;
 use std::alloc::{AllocError, Global};
 use std::marker::Brand;

@@ -10,8 +10,8 @@ use Rattle.std.proofs.lemmas.Bool.{and_parts, not-true}
 use Rattle.net_base.specs.Ndb.{NdbPair}
 use Rattle.net_base.specs.NdbText.{is_white, is_zero, is_empty, starts_tuple, goes_on, going_on, tuples_of, lines_of, begins_with}
 use Rattle.net_base.specs.NdbBundle.{File, unnamed_file, local_file, named_files, file_of, bundle_file, is_file_line, has_tuple, causes_of, first_bad, bad_line, database}
-use Rattle.ndb_text.specs.NdbSpelling.{ReadsTuples, ReadsFile, ReadsFiles, ReadsBundle, IsFileName}
-use Rattle.ndb_text.proofs.Shared.{none-drop, EachSpelled, line_is_spelled, tuples_spelled, cause-none, first-good, not_alone, going_on-at, and_not, some_of}
+use Rattle.formats.specs.NdbSpelling.{ReadsTuples, ReadsFile, ReadsFiles, ReadsBundle, IsFileName}
+use Rattle.formats.proofs.Shared.{none-drop, EachSpelled, line_is_spelled, tuples_spelled, cause-none, first-good, not_alone, going_on-at, and_not, some_of}
 use Rattle.ndb_reader.proofs.Reading.{Next, has-file, has-line, before-more, before-stop, named-more, named-stop}
 
 no-zero : (has : Bool) (line : List ℕ) → causes_of has line ≡ [] → list_any is_zero line ≡ false

@@ -9,9 +9,9 @@ use Rattle.std.proofs.Math.Seq.{get_or-append_seam}
 use Rattle.net_base.specs.Ndb.{NdbPair}
 use Rattle.net_base.specs.NdbBundle.{File, tuples_named}
 use Rattle.net_base.specs.Store.{Grown, with_tuples, empty}
-use Rattle.ndb_chains.specs.declared.chains.Chains.{Chains}
-use Rattle.ndb_chains.specs.Chains.{first_in, width_of, AreChains}
-use Rattle.ndb_chains.proofs.Shared.{in_bucket, Met, met, none-met}
+use Rattle.ndb_reader.specs.declared.chains.Chains.{Chains}
+use Rattle.ndb_reader.specs.Chains.{first_in, width_of, AreChains}
+use Rattle.ndb_reader.proofs.Walks.{in_bucket, Met, met, none-met}
 use Rattle.ndb_reader.specs.Filed.{tuples_of}
 use Rattle.ndb_reader.specs.Names.{names_seen, name_bucket, AreByName}
 use Rattle.ndb_reader.proofs.Once.{turned}

@@ -15,3 +15,5 @@ pub mod Breaks
 pub mod Choosing
 pub mod InRow
 pub mod Shared
+pub mod Entries
+pub mod Walks

@@ -5,7 +5,7 @@ use Rattle.std.specs.List.{list_any}
 use Rattle.std.proofs.lemmas.List.Elements.{filter-append}
 use Rattle.std.proofs.lemmas.Slice.Eq.{bytes_eq-Decides}
 use Rattle.net_base.specs.NdbBundle.{each_once}
-use Rattle.ndb_text.proofs.Shared.{false_true}
+use Rattle.formats.proofs.Shared.{false_true}
 use Rattle.ndb_reader.specs.Names.{with_one_name, with_names}
 use Rattle.net_base.proofs.Shared.{equal_texts}
 

@@ -10,7 +10,7 @@ use Rattle.std.proofs.lemmas.List.Sums.{suffix_len-take_no, suffix_len-take_yes}
 use Rattle.net_base.specs.Ndb.{NdbPair}
 use Rattle.net_base.specs.NdbText.{is_white, begins, is_empty, pairs_of, starts_tuple, goes_on, going_on, tuples_of, lines_of}
 use Rattle.net_base.specs.NdbBundle.{File, unnamed_file, local_file, named_files, file_of, bundle_file, is_file_line, has_tuple, cause, causes_of, least_of_causes, told_line, first_bad, bad_line, reading, database}
-use Rattle.ndb_text.proofs.Shared.{one_add, some_none, starts-at, goes_on-at}
+use Rattle.formats.proofs.Shared.{one_add, some_none, starts-at, goes_on-at}
 use Rattle.ndb_reader.specs.declared.fault.NdbError.{NdbError}
 use Rattle.ndb_reader.specs.declared.fault.NdbError.TheVariants.{Memory, Bad}
 use Rattle.ndb_reader.specs.Told.{Tells}

@@ -7,7 +7,7 @@ use Rattle.std.proofs.lemmas.List.Sums.{prefix_len-le-length}
 use Rattle.std.proofs.lemmas.Bool.Decides.{nat_tests}
 use Rattle.net_base.specs.Ndb.{NdbPair}
 use Rattle.net_base.specs.NdbText.{is_white, is_hash, is_equals, is_quote, is_empty, begins, Word, plain_word, quoted_word, word_of, words_behind, word_pair}
-use Rattle.ndb_text.proofs.Shared.{before_first-cons, words-word, words-hash, words-white}
+use Rattle.formats.proofs.Shared.{before_first-cons, words-word, words-hash, words-white}
 use Rattle.ndb_reader.specs.declared.words.Word.{Word as Kept}
 use Rattle.ndb_reader.specs.declared.words.Words.{Words}
 use Rattle.ndb_reader.specs.Told.{IsWordRead, AreWords}

@@ -8,3 +8,7 @@ pub use Rattle.ndb_reader.proofs.Chosen.{name_put}
 pub use Rattle.ndb_reader.proofs.Once.{names_append, once_all}
 -- a text that is read line by line
 pub use Rattle.ndb_reader.proofs.Reading.{before-more, before-stop, named-more, named-stop, reading-is}
+-- entries that are put before the others
+pub use Rattle.ndb_reader.proofs.Entries.{first-within}
+-- a walk along a chain meets what has its bucket, in order
+pub use Rattle.ndb_reader.proofs.Walks.{Met, in_bucket, met, none-met}

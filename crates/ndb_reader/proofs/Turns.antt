@@ -4,7 +4,7 @@ use Rattle.std.specs.List.{list_any}
 use Rattle.net_base.specs.Ndb.{NdbPair}
 use Rattle.net_base.specs.NdbText.{is_white, is_percent, begins, is_empty, word_pair, pairs_of, words_of, words_behind}
 use Rattle.net_base.specs.NdbBundle.{File, bundle_file, is_file_line, causes_of, least_of_causes, first_bad, unnamed_file, local_file, named_files}
-use Rattle.ndb_text.proofs.Shared.{false_true, percent_of_file}
+use Rattle.formats.proofs.Shared.{false_true, percent_of_file}
 use Rattle.ndb_reader.specs.Filed.{Filed, line_filed, gone_on, with_started, file_begun, file_grown}
 use Rattle.ndb_reader.proofs.Reading.{Read, Next, read-none, read-blank, read-on, read-start, read-file, read-all}
 

@@ -4,4 +4,5 @@ pub mod Told
 pub mod Written
 pub use Rattle.net_base.specs.NdbText
 pub use Rattle.net_base.specs.NdbBundle
-pub use Rattle.ndb_text.specs.NdbSpelling
+pub use Rattle.formats.specs.NdbSpelling
+pub mod Chains

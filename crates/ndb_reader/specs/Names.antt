@@ -2,8 +2,8 @@
 use Rattle.std.specs.Prelude.{◌≡◌, ℕ, ◌+◌, List, [], ◌∷◌, ◌++◌, Vec, vec_items, length, map, bytes_eq, if◌then◌else◌}
 use Rattle.std.specs.List.{list_any, position_or_len}
 use Rattle.net_base.specs.NdbBundle.{File}
-use Rattle.ndb_chains.specs.declared.chains.Chains.{Chains}
-use Rattle.ndb_chains.specs.Chains.{width_of, AreChains}
+use Rattle.ndb_reader.specs.declared.chains.Chains.{Chains}
+use Rattle.ndb_reader.specs.Chains.{width_of, AreChains}
 
 -- the names with one more, unless it stands among them
 abbrev pub with_one_name : List (List ℕ) → List ℕ → List (List ℕ)

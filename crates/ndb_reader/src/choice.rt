@@ -7,9 +7,9 @@ ghost use Rattle.std.specs.List.{list_any};
 ghost use Rattle.ndb_reader.specs.Filed.{files_of, tuples_of, AreBundled};
 ghost use Rattle.ndb_reader.specs.Names.{with_one_name, with_names, names_seen, name_bucket, AreByName};
 
+use crate::Chains;
 use crate::bundle::Bundle;
 use indexmap::IndexSet;
-use ndb_chains::Chains;
 use net_base::{Db, Growing, Line, NdbPair, Tuple};
 use std::alloc::{AllocError, Global};
 

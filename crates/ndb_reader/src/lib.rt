@@ -3,6 +3,7 @@
 #![tactic(auto)]
 
 mod bundle;
+mod chains;
 mod choice;
 mod copy;
 mod fault;
@@ -14,6 +15,7 @@ mod tuples;
 mod words;
 mod writer;
 
+pub use chains::Chains;
 pub use fault::NdbError;
 pub use net_base::{Db, NdbPair};
 pub use reader::read_ndb;

@@ -2,7 +2,7 @@
 ghost use Rattle.std.specs.Prelude.{◌≡◌, None, Some, IfOk, OnOk, IfErr};
 ghost use Rattle.net_base.specs.NdbBundle.{bad_line, reading};
 ghost use Rattle.net_base.specs.NdbText.{lines_of};
-ghost use Rattle.ndb_text.specs.NdbSpelling.{ReadsBundle};
+ghost use Rattle.formats.specs.NdbSpelling.{ReadsBundle};
 ghost use Rattle.ndb_reader.specs.Told.{Tells};
 
 use crate::choice::choose;

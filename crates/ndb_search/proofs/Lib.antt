@@ -1,2 +1,13 @@
 pub mod Nearest
 pub mod Owned
+pub mod Behind
+pub mod Copied
+pub mod Covered
+pub mod Firsts
+pub mod Found
+pub mod FoundNumbers
+pub mod Lists
+pub mod NonEmpty
+pub mod Once
+pub mod Pieces
+pub mod Shared

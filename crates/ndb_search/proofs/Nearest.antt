@@ -6,11 +6,12 @@ use Rattle.std.proofs.lemmas.List.{map-append}
 use Rattle.net_base.specs.Ndb.{NdbPair}
 use Rattle.net_base.specs.Search.{tuple_has, tuples_with, values_in}
 use Rattle.net_base.specs.Networks.{is_filled}
-use Rattle.ndb_tuple.specs.Closest.{first_filled}
-use Rattle.ndb_tuple.specs.Prefixes.{network_seen}
-use Rattle.ndb_tuple.specs.declared.network.Network.{Network}
+use Rattle.ndb_search.specs.Closest.{first_filled}
+use Rattle.ndb_search.specs.Prefixes.{network_seen}
+use Rattle.ndb_search.specs.declared.network.Network.{Network}
 use Rattle.net_base.proofs.Shared.{own-default}
-use Rattle.ndb_tuple.proofs.Shared.{Joins, first_here, first_past, one_filled, none_filled}
+use Rattle.ndb_search.proofs.Lists.{Joins}
+use Rattle.ndb_search.proofs.NonEmpty.{first_here, first_past, one_filled, none_filled}
 
 system_joins : (me : List ℕ) → Joins (tuples_with (codes "sys") me)
 system_joins me = record { none = refl; both = filter-append (tuple_has (codes "sys") me) }

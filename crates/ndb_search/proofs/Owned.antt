@@ -10,12 +10,13 @@ use Rattle.net_base.specs.Ndb.{NdbPair}
 use Rattle.net_base.specs.Networks.{Network, network_of, addresses_of, contains_address}
 use Rattle.net_base.specs.Addresses.{read_address}
 use Rattle.net_base.specs.Search.{tuple_has, values_in}
-use Rattle.ndb_tuple.specs.declared.network.Network.{Network as Kept}
-use Rattle.ndb_tuple.specs.declared.numbers.Kind.TheVariants.{Address}
-use Rattle.ndb_tuple.specs.Numbers.{numbers_in}
-use Rattle.ndb_tuple.specs.Prefixes.{network_seen, first_bits}
+use Rattle.ndb_search.specs.declared.network.Network.{Network as Kept}
+use Rattle.ndb_search.specs.declared.tuple_numbers.Kind.TheVariants.{Address}
+use Rattle.ndb_search.specs.Numbers.{numbers_in}
+use Rattle.ndb_search.specs.Prefixes.{network_seen, first_bits}
 use Rattle.ndb_search.specs.Own.{own_at}
-use Rattle.ndb_tuple.proofs.Shared.{Joins, joins_more, contained}
+use Rattle.ndb_search.proofs.Lists.{Joins, joins_more}
+use Rattle.ndb_search.proofs.Firsts.{contained}
 
 addresses_joins : (me : List ℕ) → Joins (addresses_of me)
 addresses_joins me = record {

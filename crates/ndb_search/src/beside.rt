@@ -2,7 +2,7 @@
 ghost use Rattle.std.specs.Prelude.{◌≡◌, ◌<◌, length, get_or, [], IfOk};
 ghost use Rattle.net_base.specs.Search as spec;
 
-use ndb_tuple::add_beside;
+use crate::add_beside;
 use net_base::{Db, Lines};
 use std::alloc::{AllocError, Global};
 

@@ -2,11 +2,11 @@
 ghost use Rattle.std.specs.Prelude.{◌≡◌, codes, map, IfOk};
 ghost use Rattle.net_base.specs.Networks as spec;
 ghost use Rattle.net_base.specs.Search.{tuples_with};
-ghost use Rattle.ndb_tuple.specs.Prefixes.{network_seen};
-ghost use Rattle.ndb_tuple.specs.Closest.{first_filled};
+ghost use Rattle.ndb_search.specs.Prefixes.{network_seen};
+ghost use Rattle.ndb_search.specs.Closest.{first_filled};
 
 use crate::networks::own_networks;
-use ndb_tuple::{Network, filled_in};
+use crate::{Network, filled_in};
 use net_base::{Db, Lines};
 use std::alloc::{AllocError, Global};
 

@@ -2,10 +2,10 @@
 ghost use Rattle.std.specs.Prelude.{◌≡◌, ◌+◌, ◌-◌, ◌==◌, ◌++◌, map, filter_map, IfOk, OnOk};
 ghost use Rattle.std.specs.List.{list_any};
 ghost use Rattle.net_base.specs.Networks as spec;
-ghost use Rattle.ndb_tuple.specs.Prefixes.{network_seen, first_bits};
+ghost use Rattle.ndb_search.specs.Prefixes.{network_seen, first_bits};
 ghost use Rattle.ndb_search.specs.Own.{own_at};
 
-use ndb_tuple::{Kind, Network, add_numbers_in, first_bits, firsts_of, network_of};
+use crate::{Kind, Network, add_numbers_in, first_bits, firsts_of, network_of};
 use net_base::Db;
 use std::alloc::{AllocError, Global};
 

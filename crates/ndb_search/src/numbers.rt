@@ -1,8 +1,8 @@
 //! The numbers that values beside a pair spell, in all tuples.
 ghost use Rattle.std.specs.Prelude.{◌≡◌, IfOk};
-ghost use Rattle.ndb_tuple.specs.Numbers as spec;
+ghost use Rattle.ndb_search.specs.Numbers as spec;
 
-use ndb_tuple::{Kind, add_numbers_beside, line_with};
+use crate::{Kind, add_numbers_beside, line_with};
 use net_base::Db;
 use std::alloc::{AllocError, Global};
 

@@ -1,9 +1,9 @@
 //! The tuples that contain a pair.
 ghost use Rattle.std.specs.Prelude.{◌≡◌, filter_map, slice_get, IfOk};
 ghost use Rattle.net_base.specs.Search as spec;
-ghost use Rattle.ndb_tuple.specs.Places.{places_with};
+ghost use Rattle.ndb_search.specs.Places.{places_with};
 
-use ndb_tuple::Places;
+use crate::Places;
 use net_base::Db;
 use std::alloc::{AllocError, Global};
 

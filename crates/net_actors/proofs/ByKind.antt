@@ -37,8 +37,8 @@ use Rattle.net_actors.specs.Stepping.{IsKeptReady, KindSteps, StepsKept, kind_re
 use Rattle.net_actors.specs.declared.actor.Actor.{Actor as Kept}
 use Rattle.net_actors.specs.declared.kind.Kind.{Kind}
 use Rattle.net_actors.specs.declared.kind.Kind.TheVariants as kind
-use Rattle.table_laws.specs.ActorRows.{DeskRow, Refreshes}
-use Rattle.table_laws.proofs.Shared.{desk_rows, map_some, table_copies}
+use Rattle.history_laws.specs.ActorRows.{DeskRow, Refreshes}
+use Rattle.history_laws.proofs.Shared.{desk_rows, map_some, table_copies}
 
 some_map : {A B : Type 0} (f : A → B) (t : Option A) → is_some t ≡ is_some (option_map f t)
 some_map f None = refl

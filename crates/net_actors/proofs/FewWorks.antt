@@ -30,10 +30,10 @@ use Rattle.net_base.specs.Number.{number}
 use Rattle.net_base.specs.Timer as timer
 use Rattle.net_base.specs.Timer.{Timer}
 use Rattle.net_actors.specs.Small.{IsSmallActor}
-use Rattle.table_laws.specs.ActorRows.{ActorRow, AtDesk, AtDir, AtConv, AtMedium, AtClock, Lays, MediumRow}
-use Rattle.table_laws.specs.ConvRows.{ConvRow}
-use Rattle.table_laws.specs.ConvRows as row
-use Rattle.table_laws.proofs.Shared.{actor_rows, map_some}
+use Rattle.history_laws.specs.ActorRows.{ActorRow, AtDesk, AtDir, AtConv, AtMedium, AtClock, Lays, MediumRow}
+use Rattle.history_laws.specs.ConvRows.{ConvRow}
+use Rattle.history_laws.specs.ConvRows as row
+use Rattle.history_laws.proofs.Shared.{actor_rows, map_some}
 
 either : {A : Type 0} (P : A → Type 0) (b : Bool) (x y : A) → P x → P y → P (if b then x else y)
 either P true x y h k = h

@@ -10,7 +10,7 @@ ghost use Rattle.net_actors.specs.Small.{IsSmallActor};
 ghost use Rattle.net_actors.specs.Stepping.{IsKeptReady, ActorMayWant, StepsKept};
 
 use crate::kind::Kind;
-use ndb_versions::IndexedVersions;
+use ndb_index::IndexedVersions;
 use net_base::{ActorName, Outcome, Work, World};
 use std::alloc::{AllocError, Global};
 use std::sync::Arc;

@@ -14,7 +14,7 @@ ghost use Rattle.net_actors.specs.Together.{AreActors, AreFirst, CanStep, MayWan
 use crate::actor::Actor;
 use crate::number::{actor_at, actor_count, is_among, number_of};
 use duties::Due;
-use ndb_versions::IndexedVersions;
+use ndb_index::IndexedVersions;
 use net_base::{ActorName, Outcome, Proto, Work, World};
 use std::alloc::{AllocError, Global};
 use std::marker::Model;

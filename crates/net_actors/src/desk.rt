@@ -12,7 +12,7 @@ ghost use Rattle.net_actors.specs.Stepping.{desk_takes};
 
 use crate::outcome::answered;
 use cs_resolver::{CsError, answer_indexed};
-use ndb_versions::IndexedVersions;
+use ndb_index::IndexedVersions;
 use net_base::{Event, HostSpec, Lines, Mode, Nets, Node, Octets, Outcome, Reply};
 use net_tree::{may_open, names, walk};
 use std::alloc::{AllocError, Global};

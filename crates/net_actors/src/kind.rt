@@ -21,7 +21,7 @@ use crate::outcome::answered;
 use conversation::Conv;
 use host_dir::Dir;
 use medium::Medium;
-use ndb_versions::IndexedVersions;
+use ndb_index::IndexedVersions;
 use net_base::{ActorName, Event, Outcome, Proto, Reply, Timers, Work, World};
 use std::alloc::{AllocError, Global};
 use std::sync::Arc;

@@ -14,5 +14,5 @@ pub use actor::Actor;
 pub use actors::Actors;
 pub use duties::Due;
 pub use law::few_works_are_small;
-pub use ndb_versions::IndexedVersions;
+pub use ndb_index::IndexedVersions;
 pub use number::{actor_at, actor_count, is_among, number_of, numbers_are_apart};

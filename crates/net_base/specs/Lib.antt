@@ -66,3 +66,4 @@ pub mod World
 pub mod Written
 pub mod Transcript
 pub mod Summary
+pub mod Ends

@@ -3,6 +3,8 @@
 
 mod actor;
 mod address;
+mod end;
+mod entries;
 mod event;
 mod headers;
 mod history;
@@ -25,6 +27,8 @@ mod world;
 
 pub use actor::{ActorList, ActorName, Call, CallList, same_actor};
 pub use address::{Addr, Pair, Proto, mirror};
+pub use end::RunEnd;
+pub use entries::Entries;
 pub use event::Event;
 pub use headers::{Headers, Heard};
 pub use history::{Entry, History, Outcome, Taken, With, Work};

@@ -9,7 +9,7 @@ use Rattle.net_base.specs.declared.packet.BodyHeader.TheVariants as body
 use Rattle.net_base.specs.declared.reply.Reply.{Reply}
 use Rattle.net_base.specs.declared.reply.Reply.TheVariants as reply
 use Rattle.net_base.specs.declared.world.HostSpec.{HostSpec}
-use Rattle.entry_labels.specs.Labels.{event_label, reply_label}
+use Rattle.history_words.specs.Labels.{event_label, reply_label}
 use Rattle.net_base.specs.Numeral.{numeral}
 use Rattle.net_base.specs.Transcript.{kind_word}
 use Rattle.net_chart.specs.declared.frame.Frame.{Frame}

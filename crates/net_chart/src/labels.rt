@@ -4,7 +4,7 @@ ghost use Rattle.net_chart.specs.Drawing as spec;
 
 use crate::frame::{Frame, Source};
 use crate::svg::put_quoted;
-use entry_labels::{put_event, put_reply};
+use history_words::{put_event, put_reply};
 use net_base::{BodyHeader, Entry, Event, IlKind, Octets, Reply};
 use std::alloc::AllocError;
 use words::{kind_word, put_decimal};

@@ -28,10 +28,10 @@ use Rattle.net_base.specs.Headers.{header}
 use Rattle.net_base.specs.Medium.{Medium}
 use Rattle.net_base.specs.Routes.{Way, way}
 use Rattle.net_export.specs.Counted.{if_way, counts_put, due_at_directory, at_conversation, follow_ups, releases}
-use Rattle.table_laws.specs.ActorRows.{ActorRow, AtDesk, AtDir, AtConv, AtMedium, AtClock, MediumRow, Takes, TakesHeld}
-use Rattle.table_laws.specs.DirRows.{DirRow, slot_in}
-use Rattle.table_laws.specs.DirRows as dir_row
-use Rattle.table_laws.proofs.Shared.{actor_rows}
+use Rattle.history_laws.specs.ActorRows.{ActorRow, AtDesk, AtDir, AtConv, AtMedium, AtClock, MediumRow, Takes, TakesHeld}
+use Rattle.history_laws.specs.DirRows.{DirRow, slot_in}
+use Rattle.history_laws.specs.DirRows as dir_row
+use Rattle.history_laws.proofs.Shared.{actor_rows}
 use Rattle.net_export.proofs.FreeEvents.{IsFree}
 
 -- The put of what it emits.

@@ -9,10 +9,10 @@ use Rattle.net_base.specs.declared.world.Step.{Step}
 use Rattle.net_base.specs.Stamped.{In}
 use Rattle.net_base.specs.World.{IsWorld, all_apart, is_script, is_step}
 use Rattle.history_laws.proofs.Shared.{all_at}
-use Rattle.sessions.specs.declared.world.Session.{Session}
-use Rattle.sessions.specs.declared.world.SessionWorld.{SessionWorld}
+use Rattle.session_script.specs.declared.world.Session.{Session}
+use Rattle.session_script.specs.declared.world.SessionWorld.{SessionWorld}
 use Rattle.net_base.specs.SessionScript.{IsScript}
-use Rattle.sessions.specs.Worlds.{HaveHosts, HaveStreams, IsTranslated, Translates, same_place}
+use Rattle.session_script.specs.Worlds.{HaveHosts, HaveStreams, IsTranslated, Translates, same_place}
 use Rattle.net_base.specs.declared.world.World.{World}
 use Rattle.net_export.specs.Answered.{ArePlayed}
 use Rattle.net_export.specs.Placed.{PlaysSession, PutsSession}

@@ -13,11 +13,11 @@ use Rattle.net_base.specs.Next.{own_replies}
 use Rattle.net_base.specs.declared.ninep.Tmsg.{Tmsg}
 use Rattle.session_answers.specs.Served.{answered_of}
 use Rattle.session_answers.specs.Told.{AreTold}
-use Rattle.sessions.specs.declared.world.Session.{Session}
+use Rattle.session_script.specs.declared.world.Session.{Session}
 use Rattle.net_base.specs.SessionScript.{AreMessages}
 use Rattle.net_base.specs.Server.{answers_to}
 use Rattle.net_base.specs.Session.{first, session}
-use Rattle.sessions.specs.InHistory.{answers_in_history}
+use Rattle.session_script.specs.InHistory.{answers_in_history}
 use Rattle.net_export.specs.Answered.{AreAnswersOf, AreAnswersTo, ArePlayed, IsPlayed}
 use Rattle.net_export.proofs.Placing.{in_all}
 

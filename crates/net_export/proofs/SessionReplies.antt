@@ -16,7 +16,7 @@ use Rattle.net_base.specs.Scripts.{at_first}
 use Rattle.net_base.specs.Steps.{Ask}
 use Rattle.history_laws.proofs.Shared.{Each, each_from_get, IsNextEvent}
 use Rattle.net_base.specs.SessionScript as streams
-use Rattle.sessions.specs.InHistory.{IsSessionOf}
+use Rattle.session_script.specs.InHistory.{IsSessionOf}
 use Rattle.session_answers.specs.Told.{AreTold, is_reply_told}
 use Rattle.net_export.proofs.SessionEvents.{IsSessionEvent, next_of_session}
 use Rattle.net_export.proofs.ToldReplies.{entry_told}

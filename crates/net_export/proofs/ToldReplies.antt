@@ -19,13 +19,13 @@ use Rattle.net_base.specs.Directory.{Dir}
 use Rattle.net_base.specs.Legal.{Shows}
 use Rattle.net_base.specs.Net.{Net, outcome_in, work_of}
 use Rattle.session_answers.specs.Told.{is_reply_told}
-use Rattle.table_laws.specs.ActorRows.{ActorRow, AtDesk, AtDir, AtConv, AtMedium, AtClock, DeskRow}
-use Rattle.table_laws.specs.ActorRows as desk_row
-use Rattle.table_laws.specs.ConvRows.{ConvRow}
-use Rattle.table_laws.specs.ConvRows as conv_row
-use Rattle.table_laws.specs.DirRows.{DirRow}
-use Rattle.table_laws.specs.DirRows as dir_row
-use Rattle.table_laws.proofs.Shared.{shown_reply}
+use Rattle.history_laws.specs.ActorRows.{ActorRow, AtDesk, AtDir, AtConv, AtMedium, AtClock, DeskRow}
+use Rattle.history_laws.specs.ActorRows as desk_row
+use Rattle.history_laws.specs.ConvRows.{ConvRow}
+use Rattle.history_laws.specs.ConvRows as conv_row
+use Rattle.history_laws.specs.DirRows.{DirRow}
+use Rattle.history_laws.specs.DirRows as dir_row
+use Rattle.history_laws.proofs.Shared.{shown_reply}
 use Rattle.net_export.proofs.SessionEvents.{IsSessionEvent}
 
 -- the step's reply is told

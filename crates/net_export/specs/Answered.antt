@@ -5,9 +5,9 @@ use Rattle.net_base.specs.declared.world.Script.{Script}
 use Rattle.net_base.specs.declared.world.World.{World}
 use Rattle.net_base.specs.Stamped.{In}
 use Rattle.net_base.specs.declared.ninep.Tmsg.{Tmsg}
-use Rattle.sessions.specs.declared.world.Session.{Session}
+use Rattle.session_script.specs.declared.world.Session.{Session}
 use Rattle.net_base.specs.SessionScript.{AreMessages, IsScript}
-use Rattle.sessions.specs.InHistory.{answers_in_history}
+use Rattle.session_script.specs.InHistory.{answers_in_history}
 
 -- the session is a script of its host in the translated world
 pub record IsPlayed (w : World) (x : Session) : Type 0 where

@@ -3,7 +3,7 @@ use Rattle.std.specs.Prelude.{◌≡◌, ℕ, true, List, length, Some, slice_ge
 use Rattle.std.specs.List.{list_all}
 use Rattle.net_base.specs.declared.world.Script.{Script}
 use Rattle.net_base.specs.World.{is_step}
-use Rattle.sessions.specs.declared.world.Session.{Session}
+use Rattle.session_script.specs.declared.world.Session.{Session}
 use Rattle.net_base.specs.SessionScript.{IsScript}
 
 -- the script as it was, and with the steps of the session

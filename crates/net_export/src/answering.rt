@@ -5,13 +5,12 @@ ghost use Rattle.net_base.specs.Legal.{IsLegal};
 ghost use Rattle.net_export.specs.Answered.{AreAnswersOf, AreAnswersTo, ArePlayed, IsPlayed};
 ghost use Rattle.net_base.specs.declared.ninep.Tmsg.{Tmsg as AnyTmsg};
 ghost use Rattle.net_base.specs.SessionScript.{AreMessages};
-ghost use Rattle.sessions.specs.InHistory as spec;
+ghost use Rattle.session_script.specs.InHistory as spec;
 
 use crate::owing::owes_after;
-use net_base::{Lines, World};
-use run_record::Entries;
+use net_base::{Entries, Lines, World};
 use session_answers::answers_by;
-use sessions::{Session, Sessions};
+use session_script::{Session, Sessions};
 use std::alloc::{AllocError, Global};
 
 /// The answers to the messages of a session, which is this caller of a translated world, as far as the history has them.

@@ -8,9 +8,9 @@ ghost use Rattle.net_base.specs.Next.{own_replies};
 ghost use Rattle.net_export.specs.Answered.{ArePlayed};
 ghost use Rattle.net_export.specs.Counted.{count_after};
 ghost use Rattle.session_answers.specs.Told.{AreTold};
-ghost use Rattle.sessions.specs.InHistory.{IsSessionOf};
-ghost use Rattle.sessions.specs.declared.world.SessionWorld.{SessionWorld};
-ghost use Rattle.sessions.specs.Worlds.{HaveHosts, HaveStreams, IsTranslated};
+ghost use Rattle.session_script.specs.InHistory.{IsSessionOf};
+ghost use Rattle.session_script.specs.declared.world.SessionWorld.{SessionWorld};
+ghost use Rattle.session_script.specs.Worlds.{HaveHosts, HaveStreams, IsTranslated};
 
 /// In a legal history, timed or not, a script owes as many events as its entries count.
 pub fn what_is_owed_is_counted()

@@ -10,8 +10,7 @@ ghost use Rattle.net_export.specs.Counted as spec;
 
 use crate::law::what_is_owed_is_counted;
 use duties::WorldWays;
-use net_base::{ActorName, Entry, Event, Reply, World};
-use run_record::Entries;
+use net_base::{ActorName, Entries, Entry, Event, Reply, World};
 use std::alloc::{AllocError, Global};
 
 /// Whether a script owes an event after a history.

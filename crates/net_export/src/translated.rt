@@ -4,11 +4,10 @@ ghost use Rattle.net_base.specs.declared.world.Step.{Step as AnyStep};
 ghost use Rattle.net_base.specs.World.{IsWorld};
 ghost use Rattle.net_export.specs.Placed.{PutsSession};
 ghost use Rattle.net_base.specs.SessionScript.{IsScript};
-ghost use Rattle.sessions.specs.Worlds.{HaveStreams, IsTranslated};
+ghost use Rattle.session_script.specs.Worlds.{HaveStreams, IsTranslated};
 
 use net_base::{Script, Sequence};
-use session_script::{ExportError, script_of};
-use sessions::{Session, SessionWorld};
+use session_script::{ExportError, Session, SessionWorld, script_of};
 use std::alloc::{AllocError, Global};
 use std::mem;
 

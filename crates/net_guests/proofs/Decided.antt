@@ -13,10 +13,10 @@ use Rattle.net_base.specs.Steps.{Ask, Names}
 use Rattle.net_base.specs.Tasks.{Tasks}
 use Rattle.journal.specs.declared.law.Roster.{Roster}
 use Rattle.journal.specs.declared.tokens.Sight.{Sight}
-use Rattle.due_moments.specs.Marks.{Marks}
-use Rattle.thread_laws.specs.Guests.{IsGuest}
-use Rattle.thread_laws.specs.Own.{AreNext, AreTimely}
-use Rattle.thread_laws.specs.Works.{noted_net}
+use Rattle.duties.specs.Marks.{Marks}
+use Rattle.net_locks.specs.Guests.{IsGuest}
+use Rattle.net_locks.specs.Own.{AreNext, AreTimely}
+use Rattle.net_locks.specs.Works.{noted_net}
 use Rattle.net_locks.specs.declared.clock.Advance.{Advance}
 use Rattle.net_locks.specs.declared.clock.Advance.TheVariants as advance
 use Rattle.net_locks.specs.declared.calendar.Calendar.{Calendar}

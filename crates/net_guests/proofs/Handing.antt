@@ -12,7 +12,7 @@ use Rattle.net_base.specs.Stamped.{In, at, moment_noted}
 use Rattle.journal.specs.declared.law.Roster.{Roster}
 use Rattle.journal.specs.declared.tokens.Sight.{Sight}
 use Rattle.journal.specs.Rule.{Held, has_caller, is_caller, same_number}
-use Rattle.thread_laws.specs.Guests.{HandsOver, IsGuest, StaysGuest}
+use Rattle.net_locks.specs.Guests.{HandsOver, IsGuest, StaysGuest}
 use Rattle.net_guests.proofs.Passes.{with_more}
 use Rattle.net_guests.specs.Visits.{IsWith, Visit}
 use Rattle.net_base.proofs.Shared.{number_itself, in_front, in_back, in_filter}

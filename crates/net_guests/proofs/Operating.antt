@@ -11,7 +11,7 @@ use Rattle.net_base.specs.declared.reply.Reply.{Reply}
 use Rattle.script_task.specs.Holdings.{Holdings}
 use Rattle.script_task.specs.Effects.{effect_of, opened_file, settles_effect}
 use Rattle.net_base.specs.Requests.{planned, settled}
-use Rattle.thread_laws.specs.Guests.{deed_at}
+use Rattle.net_locks.specs.Guests.{deed_at}
 use Rattle.net_locks.specs.declared.turn.Turn.{Turn}
 use Rattle.net_locks.specs.declared.turn.Turn.TheVariants as turn
 use mathlib.Core.List.{IsPrefix}

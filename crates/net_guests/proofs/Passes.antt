@@ -18,9 +18,9 @@ use Rattle.journal.specs.Closing.{IsWhole, plain}
 use Rattle.journal.specs.Rule.{Held}
 use Rattle.journal.specs.Tokens.{HoldsPass, HoldsAll, Met}
 use Rattle.journal.proofs.Shared.{prefix_trans}
-use Rattle.thread_laws.specs.Guests.{IsGuest, IsOfGuests, StaysGuest}
-use Rattle.thread_laws.specs.Own.{AreNext, AreTimely, AreTurns, IsLegalButScripts, OwnStandsStill}
-use Rattle.thread_laws.specs.Works.{entries, noted_net}
+use Rattle.net_locks.specs.Guests.{IsGuest, IsOfGuests, StaysGuest}
+use Rattle.net_locks.specs.Own.{AreNext, AreTimely, AreTurns, IsLegalButScripts, OwnStandsStill}
+use Rattle.net_locks.specs.Works.{entries, noted_net}
 use Rattle.net_base.specs.Callers.{caller_count}
 use Rattle.net_base.specs.Tasks.{Tasks}
 use Rattle.net_locks.specs.Rosters.{AreReplayed, IsReplayed}

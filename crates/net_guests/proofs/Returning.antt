@@ -9,8 +9,8 @@ use Rattle.net_base.specs.Stamped.{moment_noted}
 use Rattle.net_base.specs.Steps.{no_names}
 use Rattle.journal.specs.declared.law.Roster.{Roster}
 use Rattle.journal.specs.declared.tokens.Sight.{Sight}
-use Rattle.due_moments.specs.Marks.{Covers, Marks}
-use Rattle.thread_laws.specs.Guests.{HandsOver, IsGuest, StaysGuest}
+use Rattle.duties.specs.Marks.{Covers, Marks}
+use Rattle.net_locks.specs.Guests.{HandsOver, IsGuest, StaysGuest}
 use Rattle.net_locks.specs.declared.calendar.Calendar.{Calendar}
 use Rattle.net_locks.specs.Knowing.{IsKnown}
 use Rattle.net_locks.specs.Turns.{own_seen}

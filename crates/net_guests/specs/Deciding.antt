@@ -5,8 +5,8 @@ use Rattle.net_base.specs.Calm.{limited_by, movable_by, target_by}
 use Rattle.net_base.specs.Net.{Net}
 use Rattle.net_base.specs.Tasks.{Tasks}
 use Rattle.journal.specs.declared.law.Roster.{Roster}
-use Rattle.thread_laws.specs.Own.{AreNext, AreTimely}
-use Rattle.thread_laws.specs.Works.{noted_net}
+use Rattle.net_locks.specs.Own.{AreNext, AreTimely}
+use Rattle.net_locks.specs.Works.{noted_net}
 use Rattle.net_locks.specs.declared.clock.Advance.{Advance}
 use Rattle.net_locks.specs.declared.clock.Advance.TheVariants as advance
 use Rattle.net_locks.specs.Moving.{KeepsMoving, MovesTo}

@@ -4,7 +4,7 @@ use Rattle.net_base.specs.declared.world.Script.{Script}
 use Rattle.net_base.specs.declared.world.World.{World}
 use Rattle.net_base.specs.Callers.{IsScript, caller_of}
 use Rattle.journal.specs.declared.tokens.Sight.{Sight}
-use Rattle.due_moments.specs.Marks.{Covers}
+use Rattle.duties.specs.Marks.{Covers}
 use Rattle.net_locks.specs.Knowing.{IsKnown}
 use Rattle.net_locks.specs.Turns.{own_seen}
 use Rattle.net_guests.specs.Visits.{Carried, Visit}

@@ -23,9 +23,9 @@ use Rattle.net_base.specs.declared.request.Request.{Request}
 use Rattle.script_task.specs.Effects.{opened_file, settles_effect}
 use Rattle.net_base.specs.Requests.{planned, settled}
 use Rattle.net_base.specs.Tasks.{Tasks}
-use Rattle.thread_laws.specs.Own.{AreNext, AreTimely, IsLegalButScripts}
-use Rattle.thread_laws.specs.Guests.{IsGuest, deed_at}
-use Rattle.due_moments.specs.Marks.{Marks}
+use Rattle.net_locks.specs.Own.{AreNext, AreTimely, IsLegalButScripts}
+use Rattle.net_locks.specs.Guests.{IsGuest, deed_at}
+use Rattle.duties.specs.Marks.{Marks}
 use Rattle.net_locks.specs.declared.calendar.Calendar.{Calendar}
 use Rattle.net_locks.specs.declared.turn.Turn.{Turn}
 use Rattle.net_locks.specs.declared.turn.Turn.TheVariants as turn

@@ -6,20 +6,18 @@ ghost use Rattle.net_base.specs.declared.world.Script.{Script};
 ghost use Rattle.net_base.specs.Callers.{IsScript, caller_of};
 ghost use Rattle.net_base.specs.Next.{zone_of};
 ghost use Rattle.net_base.specs.Stamped.{In};
-ghost use Rattle.due_moments.specs.Marks.{Covers};
+ghost use Rattle.duties.specs.Marks.{Covers};
 ghost use Rattle.net_guests.specs.Visits.{IsComplete, IsFresh, IsWith, Visit};
 ghost use Rattle.net_locks.specs.Turns.{own_seen};
 
-use due_moments::Touched;
-use duties::Duties;
+use duties::{Duties, Touched};
 use journal::{Journal, Naming, Pass};
-use ndb_versions::IndexedVersions;
-use net_locks::{Bearer, Calendar, Placing, Visitor};
+use ndb_index::IndexedVersions;
+use net_locks::{Bearer, Calendar, Placing, Visitor, guests_begin, guests_meet};
 use script_task::Names;
 use std::alloc::{AllocError, Global};
 use std::marker::Model;
 use std::sync::Arc;
-use thread_laws::{guests_begin, guests_meet};
 
 /// A caller with what it has at the locks, and the names that it has bound. Clauses see these, its number and the moment, and
 /// what else is known of it. It may be without its number while the clock has that, so whether it is complete is said of each

@@ -2,7 +2,7 @@
 ghost use Rattle.std.specs.Prelude.{◌≡◌};
 ghost use Rattle.net_base.specs.Callers.{IsClock, caller_of};
 ghost use Rattle.net_base.specs.World.{IsWorld};
-ghost use Rattle.thread_laws.specs.Guests.{IsOfGuests};
+ghost use Rattle.net_locks.specs.Guests.{IsOfGuests};
 ghost use Rattle.net_locks.specs.Standings.{AllStand};
 ghost use Rattle.net_guests.specs.Deciding.{LeavesGuest};
 ghost use Rattle.net_guests.specs.Visits.{IsComplete};

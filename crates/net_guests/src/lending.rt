@@ -2,14 +2,13 @@
 ghost use Rattle.std.specs.Prelude.{◌≡◌, ◌==◌, ℕ, List, false};
 ghost use Rattle.net_base.specs.declared.noted.Noted.{Noted};
 ghost use Rattle.journal.specs.Tokens.{HoldsPass};
-ghost use Rattle.thread_laws.specs.Guests.{HandsOver};
+ghost use Rattle.net_locks.specs.Guests.{HandsOver};
 ghost use Rattle.net_guests.specs.Lent.{IsAway, IsBack, with_sight};
 ghost use Rattle.net_guests.specs.Visits.{IsComplete, IsWith, Visit};
 
 use crate::bundle::Bundle;
 use journal::{Journal, Naming, Pass};
-use net_locks::{Placing, calendars_stay_known};
-use thread_laws::guests_hand_over;
+use net_locks::{Placing, calendars_stay_known, guests_hand_over};
 
 impl<J: Naming + Placing> Bundle<J> {
     /// The number of this caller goes to the clock's guest, with which it then is; who was with that is still.

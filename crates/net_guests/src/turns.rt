@@ -13,12 +13,11 @@ ghost use Rattle.net_locks.specs.Turns.{bare};
 use crate::bundle::Bundle;
 use journal::Naming;
 use net_base::{ActorName, Event};
-use net_locks::{Locks, Placing, Spot, Turn, WorldActor};
+use net_locks::{Locks, Placing, Spot, Turn, WorldActor, turns_are_these};
 use outside::Gate;
 use script_task::{Effect, Names, Planned, Request, effects_settle, plan};
 use std::alloc::AllocError;
 use std::sync::Wait;
-use thread_laws::turns_are_these;
 
 /// Where the actor of a guest's first duty stands.
 pub fn first_spot<J: Naming + Placing>(

@@ -22,9 +22,9 @@ use Rattle.journal.specs.Tokens.{Looked}
 use Rattle.locked.specs.declared.guarded.Answer.{Answer}
 use Rattle.locked.specs.declared.guarded.Answer.TheVariants as answered
 use Rattle.locked.specs.Acts.{Acted, state_at}
-use Rattle.thread_laws.specs.Guests.{HasRecorded, IsGuest, IsGuestTurn, GuestRecords, StaysGuest, deed_at}
-use Rattle.thread_laws.specs.Named.{answer_in, named_opening}
-use Rattle.thread_laws.specs.Works.{noted_net}
+use Rattle.net_locks.specs.Guests.{HasRecorded, IsGuest, IsGuestTurn, GuestRecords, StaysGuest, deed_at}
+use Rattle.net_locks.specs.Named.{answer_in, named_opening}
+use Rattle.net_locks.specs.Works.{noted_net}
 use Rattle.net_locks.specs.declared.visitor.Bearer.{Bearer}
 use Rattle.net_locks.specs.Turns.{HasRoom, own_seen}
 use Rattle.net_locks.specs.Visitors.{Attempted}

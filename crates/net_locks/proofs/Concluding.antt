@@ -16,13 +16,13 @@ use Rattle.net_base.specs.Legal.{IsInTimeBy}
 use Rattle.net_base.specs.Net.{Net, moment_after, opening_net}
 use Rattle.net_base.specs.Stamped.{In, same_actor}
 use Rattle.net_base.specs.Tasks.{Tasks}
-use Rattle.calm_laws.specs.Could.{could, is_full}
+use Rattle.history_laws.specs.Could.{could, is_full}
 use Rattle.journal.specs.declared.law.Roster.{Roster}
 use Rattle.journal.specs.declared.tokens.Sight.{Sight}
 use Rattle.journal.specs.Rule.{Lawful}
-use Rattle.thread_laws.specs.Guests.{IsGuest, IsOfGuests}
-use Rattle.thread_laws.specs.Own.{AreTimely, AreTurns, IsTimelyIn, OwnFrom}
-use Rattle.thread_laws.specs.Works.{moment_by, next_noted, noted_after, noted_from, noted_net, step_by}
+use Rattle.net_locks.specs.Guests.{IsGuest, IsOfGuests}
+use Rattle.net_locks.specs.Own.{AreTimely, AreTurns, IsTimelyIn, OwnFrom}
+use Rattle.net_locks.specs.Works.{moment_by, next_noted, noted_after, noted_from, noted_net, step_by}
 use Rattle.net_locks.specs.declared.clock.Busy.{Busy}
 use Rattle.net_locks.specs.declared.clock.Standing.{Standing}
 use Rattle.net_locks.specs.Standings.{AllStand, DoesAny, FindsBusy, IsLeastOf, standing_callers}

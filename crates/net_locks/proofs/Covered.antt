@@ -17,9 +17,9 @@ use Rattle.journal.proofs.Shared.{prefix_trans}
 use Rattle.journal.specs.declared.law.Roster.{Roster}
 use Rattle.journal.specs.declared.tokens.Sight.{Sight}
 use Rattle.locked.specs.Acts.{made, act_without_copy}
-use Rattle.due_moments.proofs.Shared.{covers_other}
-use Rattle.due_moments.specs.Marks.{Covers, Marks}
-use Rattle.thread_laws.specs.Guests.{IsGuest, GuestRecords, deed_at}
+use Rattle.duties.proofs.Shared.{covers_other}
+use Rattle.duties.specs.Marks.{Covers, Marks}
+use Rattle.net_locks.specs.Guests.{IsGuest, GuestRecords, deed_at}
 use Rattle.net_locks.specs.declared.turn.Turn.{Turn}
 use Rattle.net_locks.specs.declared.turn.Turn.TheVariants as turn
 use Rattle.net_locks.specs.Turns.{RecordedTurn, Turned, own_seen}

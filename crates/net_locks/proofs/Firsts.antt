@@ -7,7 +7,7 @@ use Rattle.net_base.specs.declared.actor.ActorName.{ActorName}
 use Rattle.net_base.specs.declared.world.World.{World}
 use Rattle.journal.specs.declared.tokens.Sight.{Sight}
 use Rattle.duties.specs.Queue.{work_of_duty}
-use Rattle.thread_laws.specs.Guests.{IsGuestTurn}
+use Rattle.net_locks.specs.Guests.{IsGuestTurn}
 use Rattle.net_base.proofs.Shared.{first_of}
 
 pub first_in : (ds : List Duty) (d : Duty) → slice_get ds 0 ≡ Some d → In d ds

@@ -9,15 +9,15 @@ use Rattle.net_base.specs.Net.{Net}
 use Rattle.net_base.specs.Next.{by}
 use Rattle.net_base.specs.Stamped.{at, moment_noted}
 use Rattle.net_base.specs.Tasks.{Tasks}
-use Rattle.calm_laws.specs.Could.{is_full}
+use Rattle.history_laws.specs.Could.{is_full}
 use Rattle.journal.specs.declared.law.Roster.{Roster}
 use Rattle.journal.specs.declared.tokens.Sight.{Sight}
 use Rattle.journal.specs.Rule.{Lawful}
 use Rattle.journal.specs.Tokens.{HoldsPass, Looked}
 use Rattle.net_actors.specs.Numbers.{count_in}
-use Rattle.thread_laws.specs.Guests.{IsOfGuests}
+use Rattle.net_locks.specs.Guests.{IsOfGuests}
 use Rattle.net_locks.specs.Rosters.{IsRosterOf}
-use Rattle.thread_laws.specs.Works.{entries, noted_net}
+use Rattle.net_locks.specs.Works.{entries, noted_net}
 use Rattle.net_locks.specs.declared.clock.Standing.{Standing}
 use Rattle.net_locks.specs.Standings.{AllStand}
 use Rattle.net_locks.specs.Turns.{HasRoom, own_seen}

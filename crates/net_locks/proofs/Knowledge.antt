@@ -22,9 +22,9 @@ use Rattle.net_base.specs.Stamped.{In, at, at_from, same_actor}
 use Rattle.journal.specs.declared.tokens.Sight.{Sight}
 use Rattle.duties.specs.declared.due.Due.{Due}
 use Rattle.duties.specs.Ticking.{due_at, dues_of}
-use Rattle.due_moments.specs.Marks.{Covers, is_marked_among, is_conversation}
-use Rattle.due_moments.specs.Places.{AreOwnPlaces, conversation_place, put_at}
-use Rattle.thread_laws.specs.Works.{next_noted, noted_after, noted_net, step_by}
+use Rattle.duties.specs.Marks.{Covers, is_marked_among, is_conversation}
+use Rattle.duties.specs.Places.{AreOwnPlaces, conversation_place, put_at}
+use Rattle.net_locks.specs.Works.{next_noted, noted_after, noted_net, step_by}
 use Rattle.journal.specs.declared.law.Roster.{Roster}
 use Rattle.journal.specs.Rule.{Lawful}
 use Rattle.net_locks.specs.declared.calendar.Calendar.{Calendar}

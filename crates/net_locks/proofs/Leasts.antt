@@ -18,12 +18,12 @@ use Rattle.net_base.specs.Net.{Net}
 use Rattle.net_base.specs.Next.{next_of_by}
 use Rattle.net_base.specs.Stamped.{In}
 use Rattle.net_base.specs.Tasks.{Tasks}
-use Rattle.calm_laws.specs.Moments.{IsAwaited, IsDue}
+use Rattle.history_laws.specs.Moments.{IsAwaited, IsDue}
 use Rattle.journal.specs.declared.law.Roster.{Roster}
 use Rattle.journal.specs.declared.tokens.Sight.{Sight}
 use Rattle.duties.specs.declared.due.Due.{Due}
 use Rattle.duties.specs.Ticking.{due_at, dues_of}
-use Rattle.thread_laws.specs.Works.{entries, noted_net}
+use Rattle.net_locks.specs.Works.{entries, noted_net}
 use Rattle.net_locks.specs.declared.clock.Standing.{Standing}
 use Rattle.net_locks.specs.Standings.{AllStand, StandsAt, standing_moments, awaited_of, moments_of_dues}
 use Rattle.net_locks.proofs.Found.{filter_map_in, in_filter_map, in_map, map_in}

@@ -14,3 +14,13 @@ pub mod Concluding
 pub mod Halting
 pub mod Visited
 pub mod Shared
+pub mod Nets
+pub mod Apart
+pub mod Guests
+pub mod Passes
+pub mod Moves
+pub mod Whole
+pub mod Views
+pub mod Turns
+pub mod FewCalls
+pub mod Away

@@ -25,8 +25,8 @@ use Rattle.journal.specs.Tokens.{HoldsAll}
 use Rattle.locked.specs.Acts.{made}
 use Rattle.duties.specs.declared.due.Due.{Due}
 use Rattle.duties.specs.Ticking.{MoveOwes, dues_of, ticks_of}
-use Rattle.thread_laws.specs.Guests.{HasRecorded, IsGuest, GuestRecords, StaysGuest, deed_at}
-use Rattle.thread_laws.specs.Works.{entries, next_noted, noted_after, noted_net, step_by}
+use Rattle.net_locks.specs.Guests.{HasRecorded, IsGuest, GuestRecords, StaysGuest, deed_at}
+use Rattle.net_locks.specs.Works.{entries, next_noted, noted_after, noted_net, step_by}
 use Rattle.net_locks.specs.declared.visitor.Bearer.{Bearer}
 use Rattle.net_locks.specs.Moving.{LeavesMoved, MayLeave, MovesTo}
 use Rattle.net_locks.specs.Turns.{HasRoom, StaysOwn, bare}

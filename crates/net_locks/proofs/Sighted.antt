@@ -18,14 +18,14 @@ use Rattle.net_base.specs.Net.{Net}
 use Rattle.net_base.specs.Next.{by, next_of_by}
 use Rattle.net_base.specs.Stamped.{at_from}
 use Rattle.net_base.specs.Tasks.{Tasks}
-use Rattle.calm_laws.specs.Could.{could, is_full}
+use Rattle.history_laws.specs.Could.{could, is_full}
 use Rattle.journal.specs.declared.law.Roster.{Roster}
 use Rattle.journal.specs.declared.tokens.Sight.{Sight}
 use Rattle.journal.specs.Rule.{Held}
 use Rattle.journal.specs.Tokens.{HoldsPass, HoldsAll, Looked}
 use Rattle.locked.specs.Acts.{state_at}
-use Rattle.thread_laws.specs.Named.{answer_in, named_opening}
-use Rattle.thread_laws.specs.Works.{entries, noted_net}
+use Rattle.net_locks.specs.Named.{answer_in, named_opening}
+use Rattle.net_locks.specs.Works.{entries, noted_net}
 use Rattle.net_locks.specs.declared.clock.Standing.{Standing}
 use Rattle.net_locks.specs.Standings.{AllStand, IsBare, StandsAt, standing_ask}
 use Rattle.net_locks.specs.Turns.{bare}

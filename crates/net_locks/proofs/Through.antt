@@ -22,7 +22,7 @@ use Rattle.net_base.specs.Tasks.{Asking as OwnAsking, Tasks}
 use Rattle.net_base.specs.Versions.{Tuples}
 use Rattle.journal.specs.declared.law.Roster.{Roster}
 use Rattle.journal.specs.declared.tokens.Sight.{Sight}
-use Rattle.thread_laws.specs.Works.{entries, noted_net}
+use Rattle.net_locks.specs.Works.{entries, noted_net}
 use Rattle.net_locks.specs.declared.clock.Standing.{Standing}
 use Rattle.net_locks.specs.Standings.{AllStand, StandsAt, standing_ask, has_left}
 use Rattle.net_base.proofs.Shared.{there_at}

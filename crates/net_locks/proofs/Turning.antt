@@ -30,9 +30,9 @@ use Rattle.ip_route.specs.Kept.{HostWays}
 use Rattle.duties.specs.Owing.{Owes, if_any, most_following, most_owed}
 use Rattle.duties.specs.Queue.{Queue}
 use Rattle.duties.specs.WaysOf.{AreWaysOfWorld}
-use Rattle.thread_laws.specs.Guests.{HasRecorded, IsGuest, GuestRecords, StaysGuest, deed_at}
-use Rattle.thread_laws.specs.Named.{answer_in, named_opening}
-use Rattle.thread_laws.specs.Works.{entries, noted_net}
+use Rattle.net_locks.specs.Guests.{HasRecorded, IsGuest, GuestRecords, StaysGuest, deed_at}
+use Rattle.net_locks.specs.Named.{answer_in, named_opening}
+use Rattle.net_locks.specs.Works.{entries, noted_net}
 use Rattle.net_locks.specs.Turns.{HasRoom, IsFull, RecordedTurn, StaysOwn, Unready}
 use Rattle.journal.proofs.Shared.{in_has_caller}
 

@@ -15,12 +15,12 @@ use Rattle.net_base.specs.World.{is_moment}
 use Rattle.net_base.specs.Tasks.{Tasks}
 use Rattle.journal.specs.declared.law.Roster.{Roster}
 use Rattle.ip_route.specs.Kept.{HostWays}
-use Rattle.due_moments.specs.Marks.{Covers, Marks}
+use Rattle.duties.specs.Marks.{Covers, Marks}
 use Rattle.duties.specs.Owing.{Owes}
 use Rattle.duties.specs.Queue.{Queue}
 use Rattle.duties.specs.WaysOf.{AreWaysOfWorld}
-use Rattle.thread_laws.specs.Guests.{IsGuest, deed_at}
-use Rattle.thread_laws.specs.Works.{noted_net}
+use Rattle.net_locks.specs.Guests.{IsGuest, deed_at}
+use Rattle.net_locks.specs.Works.{noted_net}
 use Rattle.net_locks.specs.declared.calendar.Calendar.{Calendar}
 use Rattle.net_locks.specs.declared.turn.Turn.{Turn}
 use Rattle.net_locks.specs.declared.turn.Turn.TheVariants as turn

@@ -9,8 +9,9 @@ use Rattle.net_base.specs.declared.world.World.{World}
 use Rattle.net_base.specs.Actors.{Actor, actor_step, opening_actor}
 use Rattle.net_base.specs.Net.{WorkAt, played, stepped_to}
 use Rattle.locked.specs.Acts.{state}
-use Rattle.thread_laws.specs.Named.{Named, named, named_step, named_opening, answer_in}
-use Rattle.thread_laws.proofs.Shared.{named_left, some_under}
+use Rattle.net_locks.specs.Named.{Named, named, named_step, named_opening, answer_in}
+use Rattle.net_locks.proofs.Nets.{named_left}
+use Rattle.net_locks.proofs.Views.{some_under}
 
 abbrev pub plays : List (ℕ × Noted) → List WorkAt
 plays works = map (λ (x : ℕ × Noted). record { moment = x.1.entry.moment; work = x.1.work }) works

@@ -9,8 +9,8 @@ use Rattle.net_base.specs.Actors.{Actor}
 use Rattle.net_base.specs.Duties.{conversations}
 use Rattle.duties.specs.declared.due.Due.{Due}
 use Rattle.duties.specs.Ticking.{due_at, dues_of}
-use Rattle.due_moments.specs.Marks.{is_marked_among}
-use Rattle.thread_laws.specs.Works.{noted_net}
+use Rattle.duties.specs.Marks.{is_marked_among}
+use Rattle.net_locks.specs.Works.{noted_net}
 use Rattle.net_locks.specs.declared.calendar.Calendar.{Calendar}
 use Rattle.net_locks.specs.declared.clock.Standing.{Standing}
 

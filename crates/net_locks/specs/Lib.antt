@@ -6,5 +6,7 @@ pub mod Facts
 pub mod Standings
 pub mod Knowing
 pub mod Moving
-pub use Rattle.thread_laws.specs.Guests
-pub use Rattle.thread_laws.specs.Named
+pub mod Works
+pub mod Own
+pub mod Named
+pub mod Guests

@@ -12,12 +12,12 @@ use Rattle.net_base.specs.Duties.{Duty}
 use Rattle.net_base.specs.Net.{Net}
 use Rattle.net_base.specs.Stamped.{moment_noted}
 use Rattle.net_base.specs.Tasks.{Tasks}
-use Rattle.calm_laws.specs.Could.{could}
+use Rattle.history_laws.specs.Could.{could}
 use Rattle.journal.specs.declared.law.Roster.{Roster}
 use Rattle.journal.specs.declared.tokens.Sight.{Sight}
-use Rattle.due_moments.specs.Marks.{Covers, Marks}
-use Rattle.thread_laws.specs.Guests.{IsGuest, deed_at}
-use Rattle.thread_laws.specs.Works.{noted_net}
+use Rattle.duties.specs.Marks.{Covers, Marks}
+use Rattle.net_locks.specs.Guests.{IsGuest, deed_at}
+use Rattle.net_locks.specs.Works.{noted_net}
 use Rattle.net_locks.specs.declared.clock.Advance.{Advance}
 use Rattle.net_locks.specs.declared.clock.Advance.TheVariants as advance
 use Rattle.net_locks.specs.declared.visitor.Bearer.{Bearer}

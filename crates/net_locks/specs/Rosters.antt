@@ -7,7 +7,7 @@ use Rattle.net_base.specs.Callers.{caller_count}
 use Rattle.net_base.specs.declared.noted.Noted.{Noted}
 use Rattle.net_base.specs.Stamped.{In}
 use Rattle.locked.specs.Acts.{Replays}
-use Rattle.thread_laws.specs.Named.{answer_in, named_opening}
+use Rattle.net_locks.specs.Named.{answer_in, named_opening}
 use Rattle.ip_route.specs.Kept.{HostWays}
 use Rattle.journal.specs.declared.law.Roster.{Roster}
 use Rattle.journal.specs.declared.tokens.Volume.{Volume}

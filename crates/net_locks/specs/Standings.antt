@@ -14,10 +14,10 @@ use Rattle.net_base.specs.Tasks.{Tasks}
 use Rattle.journal.specs.declared.law.Roster.{Roster}
 use Rattle.journal.specs.declared.tokens.Sight.{Sight}
 use Rattle.duties.specs.declared.due.Due.{Due}
-use Rattle.due_moments.specs.Marks.{Covers}
-use Rattle.thread_laws.specs.Guests.{IsGuest}
-use Rattle.thread_laws.specs.Own.{AreTimely}
-use Rattle.thread_laws.specs.Works.{entries}
+use Rattle.duties.specs.Marks.{Covers}
+use Rattle.net_locks.specs.Guests.{IsGuest}
+use Rattle.net_locks.specs.Own.{AreTimely}
+use Rattle.net_locks.specs.Works.{entries}
 use Rattle.net_locks.specs.declared.clock.Busy.{Busy}
 use Rattle.net_locks.specs.declared.clock.Standing.{Standing}
 use Rattle.net_locks.specs.Turns.{bare, own_seen}

@@ -19,9 +19,9 @@ use Rattle.net_base.specs.Stamped.{at}
 use Rattle.net_base.specs.Tasks.{Tasks}
 use Rattle.journal.specs.declared.tokens.Sight.{Sight}
 use Rattle.locked.specs.Acts.{made, act_without_copy}
-use Rattle.thread_laws.specs.Guests.{Deed}
-use Rattle.thread_laws.specs.Works.{entries, noted_net}
-use Rattle.thread_laws.specs.Own.{AreNext, AreTimely, OwnStandsStill}
+use Rattle.net_locks.specs.Guests.{Deed}
+use Rattle.net_locks.specs.Works.{entries, noted_net}
+use Rattle.net_locks.specs.Own.{AreNext, AreTimely, OwnStandsStill}
 use Rattle.net_locks.specs.declared.turn.Turn.{Turn}
 use Rattle.net_locks.specs.declared.turn.Turn.TheVariants as turn
 

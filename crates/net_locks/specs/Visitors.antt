@@ -14,10 +14,10 @@ use Rattle.journal.specs.declared.law.Roster.{Roster}
 use Rattle.journal.specs.declared.tokens.Sight.{Sight}
 use Rattle.locked.specs.declared.guarded.Answer.{Answer}
 use Rattle.locked.specs.declared.guarded.Answer.TheVariants as answered
-use Rattle.due_moments.specs.Marks.{Covers, Marks}
+use Rattle.duties.specs.Marks.{Covers, Marks}
 use Rattle.duties.specs.Owing.{most_owed}
-use Rattle.thread_laws.specs.Guests.{HasRecorded, IsGuest, IsGuestTurn, GuestRecords, deed_at}
-use Rattle.thread_laws.specs.Works.{noted_net}
+use Rattle.net_locks.specs.Guests.{HasRecorded, IsGuest, IsGuestTurn, GuestRecords, deed_at}
+use Rattle.net_locks.specs.Works.{noted_net}
 use Rattle.net_locks.specs.declared.calendar.Calendar.{Calendar}
 use Rattle.net_locks.specs.declared.turn.Turn.{Turn}
 use Rattle.net_locks.specs.declared.turn.Turn.TheVariants as turn

@@ -7,7 +7,7 @@ ghost use Rattle.net_base.specs.declared.world.World.{World as AnyWorld};
 ghost use Rattle.net_base.specs.Actors.{Actor};
 ghost use Rattle.journal.specs.Tokens.{HoldsAll};
 ghost use Rattle.duties.specs.Ticking.{dues_of};
-ghost use Rattle.thread_laws.specs.Works.{noted_net};
+ghost use Rattle.net_locks.specs.Works.{noted_net};
 ghost use Rattle.net_locks.specs.Standings.{AllStand};
 ghost use Rattle.net_locks.specs.Knowing.{AreMixed, IsKnown, all_touched, due_from, have_told, touched_count};
 
@@ -15,16 +15,14 @@ use crate::clock::Standing;
 use crate::locks::Locks;
 use crate::machine::WorldActor;
 use crate::placing::Placing;
-use calm_laws::conversations_are_these;
-use due_moments::{DueMoments, puts_keep_the_dues};
-use duties::Due;
-use history_laws::same_actors_are_equal;
+use crate::{locks_keep_actors, nets_of_works_grow};
+use duties::{Due, DueMoments, puts_keep_the_dues};
+use history_laws::{conversations_are_these, same_actors_are_equal};
 use journal::{Naming, Pass};
 use locked::View;
 use net_base::{ActorName, Proto};
 use std::alloc::Global;
 use std::sync::Wait;
-use thread_laws::{locks_keep_actors, nets_of_works_grow};
 
 /// When conversations were due, after all entries before a stamp. What is known of it stays known after more entries.
 #[derive(Debug, Drop)]

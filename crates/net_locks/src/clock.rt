@@ -8,12 +8,12 @@ ghost use Rattle.net_base.specs.Callers.{IsClock, caller_of};
 ghost use Rattle.net_base.specs.Calm as calm;
 ghost use Rattle.net_base.specs.Legal.{IsInTimeBy};
 ghost use Rattle.net_base.specs.Stamped.{moment_noted as moment_of};
-ghost use Rattle.calm_laws.specs.Could.{could, is_full};
+ghost use Rattle.history_laws.specs.Could.{could, is_full};
 ghost use Rattle.journal.specs.Rule.{Lawful};
 ghost use Rattle.journal.specs.Tokens.{HoldsAll};
 ghost use Rattle.duties.specs.Ticking.{dues_of};
-ghost use Rattle.thread_laws.specs.Guests.{IsGuest, IsOfGuests};
-ghost use Rattle.thread_laws.specs.Works.{noted_net};
+ghost use Rattle.net_locks.specs.Guests.{IsGuest, IsOfGuests};
+ghost use Rattle.net_locks.specs.Works.{noted_net};
 ghost use Rattle.net_locks.specs.Standings.{AllStand, FindsBusy, StandsAt, standing_moments, awaited_of, standing_callers, moments_of_dues, has_left};
 ghost use Rattle.net_locks.specs.Moving.{Halts, MayGo, MayLeave, MayMove};
 ghost use Rattle.net_locks.specs.Knowing.{IsKnown};
@@ -26,20 +26,19 @@ use crate::locks::Locks;
 use crate::machine::WorldActor;
 use crate::placing::Placing;
 use crate::visitor::{Bearer, Visitor};
-use calm_laws::{
+use crate::{
+    guests_record, guests_stay_by_others, locks_keep_actors, nets_of_works_grow, turns_are_these,
+};
+use duties::{Due, Duties, Touched, a_move_owes_its_ticks};
+use history_laws::{
     calm_is_that_nobody_could, conversations_are_these, nobody_is_limited, somebody_is_limited,
     targets_are_least,
 };
-use due_moments::Touched;
-use duties::{Due, Duties, a_move_owes_its_ticks};
 use journal::{Naming, Pass};
 use locked::{Answer, Asked};
 use net_base::{ActorName, Event, With, Work, World};
 use outside::Gate;
 use std::sync::Wait;
-use thread_laws::{
-    guests_record, guests_stay_by_others, locks_keep_actors, nets_of_works_grow, turns_are_these,
-};
 
 /// What became of the clock.
 #[derive(Clone, Copy, Debug, PartialEq, Eq)]

@@ -14,10 +14,10 @@ ghost use Rattle.net_locks.specs.Facts.{net_prop};
 
 use crate::finishing::books_of;
 use crate::machine::{WorldActor, locked};
+use crate::no_duty_is_the_clocks;
 use crate::opening::NetOpened;
 use crate::placing::Placing;
-use due_moments::Touched;
-use duties::{Duties, WorldWays};
+use duties::{Duties, Touched, WorldWays};
 use journal::{Book, Journal, Naming, Pass};
 use locked::{Locked, Machine};
 use net_actors::{Actor, IndexedVersions, is_among, number_of, numbers_are_apart};
@@ -25,7 +25,6 @@ use net_base::{ActorName, Event, With, Work, World};
 use outside::Gate;
 use std::alloc::{AllocError, Global};
 use std::sync::{Arc, Wait};
-use thread_laws::no_duty_is_the_clocks;
 use workers::{Awaited, Marks, Spot};
 
 /// Every actor of a world behind its lock, each at its number, with the journal of the run.

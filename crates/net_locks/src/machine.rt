@@ -2,7 +2,7 @@
 ghost use Rattle.std.specs.Prelude.{◌≡◌, []};
 ghost use Rattle.net_base.specs.Actors.{opening_actor};
 ghost use Rattle.net_actors.specs.Kept.{IsActorOf, kept_state};
-ghost use Rattle.thread_laws.specs.Named.{named};
+ghost use Rattle.net_locks.specs.Named.{named};
 
 use crate::placing::Placing;
 use journal::{Book, Naming};
@@ -20,7 +20,7 @@ pub struct WorldActor<P: Placing> {
 }
 
 impl<P: Placing> Model for WorldActor<P> {
-    ghost use Rattle.thread_laws.specs.Named.{Named, named};
+    ghost use Rattle.net_locks.specs.Named.{Named, named};
     ghost use Rattle.net_actors.specs.Kept.{IsActorOf, kept_state};
 
     ghost Value = { Named };
@@ -51,7 +51,7 @@ impl<P: Placing> WorldActor<P> {
 }
 
 impl<P: Placing> Machine for WorldActor<P> {
-    ghost use Rattle.thread_laws.specs.Named.{named_opening, answer_in, named_due, named_generation};
+    ghost use Rattle.net_locks.specs.Named.{named_opening, answer_in, named_due, named_generation};
 
     ghost begin = { named_opening P.world };
 

@@ -9,8 +9,8 @@ ghost use Rattle.net_base.specs.Duties.{Duty as AnyDuty};
 ghost use Rattle.net_base.specs.Stamped.{moment_noted, same_actor};
 ghost use Rattle.duties.specs.Owing.{Owes, most_owed};
 ghost use Rattle.duties.specs.Queue.{work_of_duty};
-ghost use Rattle.thread_laws.specs.Guests.{IsGuest, IsGuestTurn, deed_at};
-ghost use Rattle.due_moments.specs.Marks.{Covers};
+ghost use Rattle.net_locks.specs.Guests.{IsGuest, IsGuestTurn, deed_at};
+ghost use Rattle.duties.specs.Marks.{Covers};
 ghost use Rattle.net_locks.specs.Turns.{HasRoom, Turned, bare};
 ghost use Rattle.net_locks.specs.Visitors.{Attempted, IsSameBearer, IsVisitor, Visited};
 ghost use Rattle.net_locks.specs.declared.turn.Turn.TheVariants as turn;
@@ -20,17 +20,16 @@ use crate::locks::Locks;
 use crate::machine::WorldActor;
 use crate::placing::Placing;
 use crate::visitor::{Bearer, Visitor};
-use due_moments::Touched;
-use duties::{Duties, Duty};
+use crate::{
+    few_calls_wait, guests_look, guests_record, locks_keep_actors, moves_are_the_clocks,
+    no_duty_is_the_clocks, turns_are_these,
+};
+use duties::{Duties, Duty, Touched};
 use journal::Naming;
 use locked::{Answer, Asked, Locked};
 use net_base::{ActorName, Body, Event, IlKind, Outcome, Reply, With, Work};
 use outside::Gate;
 use std::sync::Wait;
-use thread_laws::{
-    few_calls_wait, guests_look, guests_record, locks_keep_actors, moves_are_the_clocks,
-    no_duty_is_the_clocks, turns_are_these,
-};
 
 /// What became of a turn.
 #[derive(Debug, Drop)]

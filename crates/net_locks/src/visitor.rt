@@ -1,7 +1,6 @@
 //! A visitor: what a caller has with it at the locks.
 use crate::calendar::Calendar;
-use due_moments::Touched;
-use duties::Duties;
+use duties::{Duties, Touched};
 use journal::{Naming, Pass};
 
 /// Who bears a pass: a caller, at the moment of all that the pass has seen, in ms.

@@ -33,12 +33,12 @@ use Rattle.net_base.specs.Stamped.{same_actor}
 use Rattle.net_base.specs.Versions.{database_of}
 use Rattle.net_model.specs.Headline.{AnswersCs, last_version, version_in, version_told}
 use Rattle.history_laws.proofs.Shared.{after_push, by_entries, legal_take, next_other, next_same}
-use Rattle.table_laws.specs.ActorRows.{ActorRow, AtClock, AtConv, AtDesk, AtDir, AtMedium, DeskRow, MediumRow, Refuses, Tells}
-use Rattle.table_laws.specs.ConvRows.{ConvRow}
-use Rattle.table_laws.specs.ConvRows as conv_row
-use Rattle.table_laws.specs.DirRows.{DirRow}
-use Rattle.table_laws.specs.DirRows as dir_row
-use Rattle.table_laws.proofs.Shared.{shown_reply}
+use Rattle.history_laws.specs.ActorRows.{ActorRow, AtClock, AtConv, AtDesk, AtDir, AtMedium, DeskRow, MediumRow, Refuses, Tells}
+use Rattle.history_laws.specs.ConvRows.{ConvRow}
+use Rattle.history_laws.specs.ConvRows as conv_row
+use Rattle.history_laws.specs.DirRows.{DirRow}
+use Rattle.history_laws.specs.DirRows as dir_row
+use Rattle.history_laws.proofs.Shared.{shown_reply}
 use Rattle.net_base.proofs.Shared.{same_actor_is}
 use Rattle.world_text.proofs.Shared.{last-more}
 

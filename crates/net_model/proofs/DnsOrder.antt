@@ -44,9 +44,9 @@ use Rattle.net_base.specs.Steps.{Ask, Names, Fid, Play, Asks, Ends, Position, St
 use Rattle.net_base.specs.Versions.{Tuples}
 use Rattle.history_laws.proofs.Shared.{legal_take}
 use Rattle.net_model.specs.DnsOrder.{AnswersQuestions, AnswersRead}
-use Rattle.import_law.specs.Order.{Begins, IsPlayRecorded, StandInOrder}
-use Rattle.import_law.specs.Scripted.{scripted}
-use Rattle.import_law.proofs.Shared.{begins_asks, goes_on, replies, asks_next}
+use Rattle.prefix_law.specs.Order.{Begins, IsPlayRecorded, StandInOrder}
+use Rattle.prefix_law.specs.Scripted.{scripted}
+use Rattle.prefix_law.proofs.Shared.{begins_asks, goes_on, replies, asks_next}
 use Rattle.net_model.proofs.OwnEntries.{keeps_script}
 
 -- The database from which a script answers stays.

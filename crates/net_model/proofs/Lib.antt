@@ -18,3 +18,19 @@ pub mod StepsAsk
 pub mod VersionInForce
 pub mod WrittenVersions
 pub mod WorldBack
+pub mod Walk
+mod IlCases
+pub mod Worlds
+mod ActorCases
+pub mod CasesUdp
+pub mod CasesIl
+pub mod CasesFaults
+pub mod CasesRuns
+pub mod CasesLimits
+pub mod Shared
+pub mod Asked
+pub mod Deeds
+pub mod Carried
+pub mod BadLines
+pub mod Endings
+pub mod Statuses

@@ -5,7 +5,7 @@ use Rattle.std.proofs.lemmas.Slice.Eq.{bytes_eq-Decides}
 use Rattle.net_base.specs.Ndb.{NdbPair}
 use Rattle.net_base.specs.NdbText.{is_empty}
 use Rattle.net_base.specs.NdbBundle.{File, unnamed_file, each_once, tuples_named, tuples_chosen, names_of, choosing, chosen, reading}
-use Rattle.ndb_text.proofs.Shared.{false_true}
+use Rattle.formats.proofs.Shared.{false_true}
 use Rattle.ndb_reader.specs.Written.{db_text}
 use Rattle.net_model.specs.NdbWhole.{file_values, is_local, is_file_whole}
 use Rattle.net_model.proofs.NdbBundles.{bundle_reads, bundle_spelled}

@@ -6,8 +6,8 @@ use Rattle.std.proofs.lemmas.Bool.{or_parts, or_left, or_right}
 use Rattle.net_base.specs.Ndb.{NdbPair}
 use Rattle.net_base.specs.NdbText.{is_empty, lines_of, pairs_of, starts_tuple, goes_on, tuples_of}
 use Rattle.net_base.specs.NdbBundle.{File, file_of, is_file_line, named_files, has_tuple, cause, causes_of, told_line, first_bad, bad_line, chosen, reading, database}
-use Rattle.ndb_text.specs.NdbSpelling.{ReadsTuples, ReadsFiles, ReadsBundle, IsFileName}
-use Rattle.ndb_text.proofs.Shared.{or_false, some_none, before_first-none, line_reads, cons_none, some_once, starts-at, goes_on-at, line_has_no_cause, tuples_read, begins_no_file, and_not_true}
+use Rattle.formats.specs.NdbSpelling.{ReadsTuples, ReadsFiles, ReadsBundle, IsFileName}
+use Rattle.formats.proofs.Shared.{or_false, some_none, before_first-none, line_reads, cons_none, some_once, starts-at, goes_on-at, line_has_no_cause, tuples_read, begins_no_file, and_not_true}
 use Rattle.ndb_reader.proofs.Shared.{before-more, before-stop, named-more, named-stop, reading-is, bundle-is-spelled, push-line}
 use Rattle.world_text.proofs.Shared.{good-more}
 

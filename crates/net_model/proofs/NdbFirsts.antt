@@ -4,7 +4,7 @@ use Rattle.std.proofs.lemmas.List.{length_push}
 use Rattle.net_base.specs.NdbText.{lines_of}
 use Rattle.net_base.specs.NdbBundle.{has_tuple, causes_of, least_of_causes, told_line, first_bad, bad_line}
 use Rattle.net_model.specs.NdbFirst.{IsFirstBadFile}
-use Rattle.ndb_text.proofs.Shared.{some_none}
+use Rattle.formats.proofs.Shared.{some_none}
 
 -- the least cause of the line at place k, after those before it
 abbrev least_after : (Bool → List ℕ → List ℕ) → List (List ℕ) → List (List ℕ) → ℕ → Option ℕ

@@ -9,7 +9,7 @@ use Rattle.net_base.specs.Networks.{tuple_names}
 use Rattle.std.specs.Prelude.{codes}
 use Rattle.net_base.specs.NdbText.{is_empty, lines_of}
 use Rattle.net_base.specs.NdbBundle.{File, unnamed_file, local_file, named_files, each_once, tuples_named, tuples_chosen, choosing, chosen, bad_line, reading}
-use Rattle.ndb_text.proofs.Shared.{cons_none, some_once}
+use Rattle.formats.proofs.Shared.{cons_none, some_once}
 use Rattle.ndb_reader.proofs.Shared.{reading-is}
 use Rattle.net_model.specs.NdbWhole.{file_values, is_local, is_file_whole, begins_local, is_file_first}
 use Rattle.net_model.proofs.NdbBack.{names-are}

@@ -7,8 +7,8 @@ use Rattle.std.proofs.lemmas.List.Splits.{slice_split-cons_no, slice_split-cons_
 use Rattle.net_base.specs.Ndb.{NdbPair}
 use Rattle.net_base.specs.NdbText.{is_white, is_newline, is_percent, is_quote, is_zero, begins, lines_of}
 use Rattle.net_base.specs.NdbBundle.{File, tuples_named, tuples_chosen, names_of, choosing}
-use Rattle.ndb_text.specs.NdbSpelling.{None_of, IsAttr, PairWay, alone, plain, quoted, spelled, Suits, IsPairWord, IsWhite, ReadsWords, ReadsLine, ReadsTuples, ReadsFiles, ReadsBundle}
-use Rattle.ndb_text.proofs.Shared.{or_false, or_false_first, or_false_rest}
+use Rattle.formats.specs.NdbSpelling.{None_of, IsAttr, PairWay, alone, plain, quoted, spelled, Suits, IsPairWord, IsWhite, ReadsWords, ReadsLine, ReadsTuples, ReadsFiles, ReadsBundle}
+use Rattle.formats.proofs.Shared.{or_false, or_false_first, or_false_rest}
 
 -- Pairs, lines and tuples that can be written.
 

@@ -5,8 +5,8 @@ use Rattle.std.proofs.lemmas.List.Folds.{list_any-append}
 use Rattle.std.proofs.lemmas.List.Splits.{slice_split-cons_no}
 use Rattle.net_base.specs.Ndb.{NdbPair}
 use Rattle.net_base.specs.NdbText.{is_white, is_newline, is_percent, is_quote, is_zero, begins, lines_of}
-use Rattle.ndb_text.specs.NdbSpelling.{None_of, IsAttr, plain, quoted, EndsWord, IsPairWord, ReadsWords, ReadsLine, ReadsTuples}
-use Rattle.ndb_text.proofs.Shared.{or_false, or_false_first, or_false_rest}
+use Rattle.formats.specs.NdbSpelling.{None_of, IsAttr, plain, quoted, EndsWord, IsPairWord, ReadsWords, ReadsLine, ReadsTuples}
+use Rattle.formats.proofs.Shared.{or_false, or_false_first, or_false_rest}
 use Rattle.ndb_reader.specs.Written.{value_text, one_pair_text, more_pairs, pairs_text, more_lines, db_text}
 use Rattle.net_model.proofs.NdbWritable.{WritablePair, WritablePairs, WritableLine, WritableLines, BeginsNone, WritableTuples}
 

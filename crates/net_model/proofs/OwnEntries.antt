@@ -11,9 +11,9 @@ use Rattle.net_base.specs.Legal.{IsLegal}
 use Rattle.net_base.specs.Net.{after}
 use Rattle.net_base.specs.Next.{answered, finished_by, own_entries, own_replies, zone_of}
 use Rattle.net_base.specs.Scripts.{at_first}
-use Rattle.import_law.specs.Order.{StandInOrder}
-use Rattle.import_law.specs.Scripted.{scripted}
-use Rattle.import_law.proofs.Shared.{replies, stood_take, HasStood, finished, stood}
+use Rattle.prefix_law.specs.Order.{StandInOrder}
+use Rattle.prefix_law.specs.Scripted.{scripted}
+use Rattle.prefix_law.proofs.Shared.{replies, stood_take, HasStood, finished, stood}
 use Rattle.net_model.specs.ScriptOrder.{KeepsScript, settled_entries}
 use Rattle.net_model.proofs.LastOwn.{of_last_step}
 

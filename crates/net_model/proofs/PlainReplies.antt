@@ -23,13 +23,13 @@ use Rattle.net_base.specs.Legal.{Shows}
 use Rattle.net_base.specs.Medium.{Medium}
 use Rattle.net_base.specs.Net.{Net, outcome_in, work_of}
 use Rattle.net_base.specs.Versions.{database_of}
-use Rattle.table_laws.specs.ActorRows.{ActorRow, AtDesk, AtDir, AtConv, AtMedium, AtClock, DeskRow, MediumRow, NoStation, Tells}
-use Rattle.table_laws.specs.ActorRows as desk_row
-use Rattle.table_laws.specs.ConvRows.{ConvRow}
-use Rattle.table_laws.specs.ConvRows as conv_row
-use Rattle.table_laws.specs.DirRows.{DirRow}
-use Rattle.table_laws.specs.DirRows as dir_row
-use Rattle.table_laws.proofs.Shared.{shown_reply}
+use Rattle.history_laws.specs.ActorRows.{ActorRow, AtDesk, AtDir, AtConv, AtMedium, AtClock, DeskRow, MediumRow, NoStation, Tells}
+use Rattle.history_laws.specs.ActorRows as desk_row
+use Rattle.history_laws.specs.ConvRows.{ConvRow}
+use Rattle.history_laws.specs.ConvRows as conv_row
+use Rattle.history_laws.specs.DirRows.{DirRow}
+use Rattle.history_laws.specs.DirRows as dir_row
+use Rattle.history_laws.proofs.Shared.{shown_reply}
 use Rattle.net_model.proofs.PlainTexts.{ListsTexts, cs_texts, names_text}
 
 desk_texts : (dbs : List Version) (host : HostSpec) (now : ℕ) (d : Desk) (e : Event) (r : Reply) → DeskRow dbs host now d e r → ListsTexts r

@@ -21,7 +21,7 @@ use Rattle.net_base.specs.Paths.{mode_reads, mode_writes}
 use Rattle.net_base.specs.Steps.{Names, Fid, Play, Asks, Ends, answers, answers_call, asks_cs, bytes_in, closes_all, controls, conversation_of, data_name, dials, dotted_name, fid_of, hears_call, if_accepted, is_answer, is_bound, misuses, on_fid, on_taken, open_call, puts_text, serves, serves_call, taken_name, takes_call, uses, with_bound, with_call, with_new, with_readable, with_writable}
 use Rattle.net_base.specs.Remotes.{is_remote, is_remote_path, remote_of}
 use Rattle.net_base.specs.Scripts.{Kept, new_names, own_play, play_by, step_play}
-use Rattle.import_law.specs.Order.{Begins}
+use Rattle.prefix_law.specs.Order.{Begins}
 
 -- the play asks first
 abbrev Asking : Play → Type 0

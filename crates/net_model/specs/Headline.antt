@@ -18,7 +18,7 @@ use Rattle.net_base.specs.Plain.{IsPlain}
 use Rattle.net_base.specs.Stamped.{same_actor}
 use Rattle.net_base.specs.Versions.{database_of}
 use Rattle.net_base.specs.Written.{Conversation, IsRead, peer}
-use Rattle.import_law.specs.WorldImports.{ImportsAnswered}
+use Rattle.prefix_law.specs.WorldImports.{ImportsAnswered}
 use Rattle.prefix_law.specs.PrefixLaw.{Alone, InOrder, WasWritten}
 use Rattle.net_model.specs.DnsOrder.{AnswersQuestions}
 use Rattle.net_model.specs.ScriptOrder.{KeepsScript}

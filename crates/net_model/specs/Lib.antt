@@ -8,11 +8,11 @@ pub mod Words
 pub mod ScriptOrder
 pub mod DnsOrder
 pub mod Headline
-pub use Rattle.worked_worlds.specs.Worked
-pub use Rattle.worked_worlds.specs.WorkedUdp
-pub use Rattle.worked_worlds.specs.WorkedIl
-pub use Rattle.worked_worlds.specs.WorkedFaults
-pub use Rattle.worked_worlds.specs.WorkedRuns
+pub use Rattle.world_text.specs.Worked
+pub use Rattle.world_text.specs.WorkedUdp
+pub use Rattle.world_text.specs.WorkedIl
+pub use Rattle.world_text.specs.WorkedFaults
+pub use Rattle.world_text.specs.WorkedRuns
 pub use Rattle.prefix_law.specs.PrefixLaw
 pub use Rattle.world_text.specs.WorldWords
 pub use Rattle.world_text.specs.LineCauses
@@ -23,4 +23,9 @@ pub use Rattle.world_text.specs.WorldText
 pub use Rattle.world_text.specs.WorldSpelling
 pub use Rattle.world_text.specs.WorldRefusal
 pub use Rattle.world_text.specs.WorldExample
-pub use Rattle.worked_cases.specs.Rounds
+pub mod Rounds
+pub mod WorkedImport
+pub mod Asking
+pub mod Calls
+pub mod Ends
+pub use Rattle.outside.specs.Streams

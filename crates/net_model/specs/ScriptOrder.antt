@@ -14,8 +14,8 @@ use Rattle.net_base.specs.Net.{after, owed}
 use Rattle.net_base.specs.Next.{answered, finished_by, own_entries, own_replies, zone_of}
 use Rattle.net_base.specs.Stamped.{In}
 use Rattle.net_base.specs.Scripts.{at_first}
-use Rattle.import_law.specs.Order.{StandInOrder}
-use Rattle.import_law.specs.Scripted.{scripted}
+use Rattle.prefix_law.specs.Order.{StandInOrder}
+use Rattle.prefix_law.specs.Scripted.{scripted}
 
 -- the entries of steps of which a caller owes nothing: what it owes is of the step of its last own entry
 abbrev pub settled_entries : Bool → List Entry → List Entry

@@ -4,7 +4,7 @@ ghost use Rattle.net_base.specs.declared.event.Event.TheVariants as event;
 ghost use Rattle.net_base.specs.declared.history.Entry.{Entry};
 ghost use Rattle.net_base.specs.declared.world.World.{World};
 ghost use Rattle.net_model.specs.Headline.{AnswersCs, Headline};
-ghost use Rattle.import_law.specs.Order.{Begins};
+ghost use Rattle.prefix_law.specs.Order.{Begins};
 ghost use Rattle.net_model.specs.ScriptOrder.{KeepsScript};
 ghost use Rattle.net_base.specs.Scripts.{Kept, step_play};
 ghost use Rattle.net_base.specs.declared.world.Step.{Step};
@@ -15,8 +15,7 @@ ghost use Rattle.net_base.specs.Legal.{IsLegal};
 ghost use Rattle.net_base.specs.Plain.{IsPlain};
 ghost use Rattle.net_base.specs.Versions.{IsInForce, in_force};
 
-use import_law::imports_are_answered;
-use prefix_law::prefix_law;
+use prefix_law::{imports_are_answered, prefix_law};
 
 /// Every legal history of a world is plain: names are words, lines have no newline, and paths are made of bytes.
 pub fn legal_histories_are_plain()

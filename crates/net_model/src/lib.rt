@@ -1,14 +1,30 @@
 //! The network's plain data and definitions, given on, and the laws over them.
 #![tactic(auto)]
 
+mod answer;
+mod arguments;
+mod cases;
 mod cs_law;
+mod import_cases;
 mod law;
 mod ndb_law;
 mod world_law;
 
+pub use answer::Answer;
+pub use answer::tell_answer;
+pub use answer::tell_usage;
+pub use arguments::words_after_path;
+pub use cases::a_call_has_two_ends;
+pub use cases::a_call_is_refused;
+pub use cases::a_datagram_goes;
+pub use cases::a_lost_frame_is_sent_again;
+pub use cases::changes_are_faults;
+pub use cases::runs_are_as_worked;
+pub use cases::small_limits_end_runs;
 pub use cs_law::no_line_stands_twice;
 pub use cs_law::own_networks_come_first;
 pub use cs_law::worked_queries;
+pub use formats::packets_are_read;
 pub use history_laws::a_fault_is_not_legal;
 pub use history_laws::a_pair_is_given_once;
 pub use history_laws::callers_are_apart;
@@ -20,6 +36,7 @@ pub use history_laws::prefix_is_legal;
 pub use history_laws::same_actors_are_equal;
 pub use history_laws::state_is_fold;
 pub use history_laws::what_is_ready_is_known;
+pub use import_cases::a_call_carries_files;
 pub use law::cs_answers_are_lists;
 pub use law::legal_histories_are_plain;
 pub use law::legal_histories_keep_it;
@@ -100,14 +117,6 @@ pub use net_base::same_actor;
 pub use prefix_law::a_pair_has_one_holder;
 pub use prefix_law::moments_rise;
 pub use prefix_law::prefix_law;
-pub use wire_text::packets_are_read;
-pub use worked_cases::a_call_has_two_ends;
-pub use worked_cases::a_call_is_refused;
-pub use worked_cases::a_datagram_goes;
-pub use worked_cases::a_lost_frame_is_sent_again;
-pub use worked_cases::changes_are_faults;
-pub use worked_cases::runs_are_as_worked;
-pub use worked_cases::small_limits_end_runs;
 pub use world_law::made_worlds_read_back;
 pub use world_law::written_worlds_read_back;
 pub use world_text::controls_are_read;

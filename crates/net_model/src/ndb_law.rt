@@ -7,7 +7,7 @@ ghost use Rattle.net_base.specs.NdbBundle.{local_file, is_file_line, causes_of, 
 ghost use Rattle.net_model.specs.NdbFirst.{IsFirstBadFile};
 ghost use Rattle.net_model.specs.NdbExample.{pair, tuple};
 ghost use Rattle.net_model.specs.NdbWhole.{is_file_whole, is_file_first};
-ghost use Rattle.ndb_text.specs.NdbSpelling.{ReadsLine, ReadsFile, ReadsBundle};
+ghost use Rattle.formats.specs.NdbSpelling.{ReadsLine, ReadsFile, ReadsBundle};
 ghost use Rattle.ndb_reader.specs.Written.{db_text};
 
 /// A line spells one list of pairs at most.

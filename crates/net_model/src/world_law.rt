@@ -1,6 +1,6 @@
 //! Laws of the file of a world.
 ghost use Rattle.std.specs.Prelude.{◌≡◌, ℕ, ◌<◌, ◌^◌, Ok, true};
-ghost use Rattle.made_world.specs.Made.{made_world};
+ghost use Rattle.world_writer.specs.Made.{made_world};
 ghost use Rattle.std.specs.List.{All};
 ghost use Rattle.net_base.specs.declared.world.Version.{Version};
 ghost use Rattle.net_base.specs.declared.world.World.{World};
@@ -11,8 +11,8 @@ ghost use Rattle.world_text.specs.WorldText.{world_reading};
 ghost use Rattle.world_writer.specs.Written.{world_file_text};
 
 use crate::ndb_law::written_databases_read_back;
-use made_world::made_worlds_are_worlds;
 use world_text::{worlds_are_spelled, worlds_have_texts};
+use world_writer::made_worlds_are_worlds;
 
 /// What is written of a world, with a whole database in each version, says this world, and is read back as it.
 pub fn written_worlds_read_back()

@@ -20,7 +20,7 @@ use Rattle.net_base.specs.Net.{Net, after, outcome_in}
 use Rattle.net_base.specs.Next.{by, next_recorded}
 use Rattle.net_base.specs.Steps.{Ask}
 use Rattle.history_laws.proofs.Shared.{legal_push, one_more, timed_push}
-use Rattle.same_values.proofs.Shared.{Decided, decide_actor, decide_event, decide_header, decide_reply}
+use Rattle.netcheck.proofs.Codes.{Decided, decide_actor, decide_event, decide_header, decide_reply}
 use Rattle.netcheck.specs.Judged.{KeepsAt}
 use Rattle.netcheck.proofs.Least.{same_rule}
 

@@ -5,11 +5,11 @@ use Rattle.net_base.specs.declared.world.World.{World}
 use Rattle.net_model.specs.Answers.{Answer, all_kept, rule_broken}
 use Rattle.net_model.specs.Words.{Check}
 use Rattle.world_text.specs.WorldText.{world_reading}
-use Rattle.commands.specs.Built.{asking, IsAnswer, IsFirstBad, IsJudged}
-use Rattle.checked_input.specs.Input.{bad_world, no_history, parts_of, Handed, IsBadFrom, IsBadHanded, IsBadHistory, InputParts}
-use Rattle.commands.specs.Checked.{BreaksOne, IsChecked, KeepsAll}
-use Rattle.command_line.specs.Asking.{IsGiven, is_input_over}
-use Rattle.command_line.proofs.Shared.{given_good, told_of}
+use Rattle.netsh.specs.Built.{asking, IsAnswer, IsFirstBad, IsJudged}
+use Rattle.netcheck.specs.Input.{bad_world, no_history, parts_of, Handed, IsBadFrom, IsBadHanded, IsBadHistory, InputParts}
+use Rattle.netsh.specs.Checked.{BreaksOne, IsChecked, KeepsAll}
+use Rattle.net_model.specs.Asking.{IsGiven, is_input_over}
+use Rattle.net_model.proofs.Shared.{given_good, told_of}
 
 -- an input of which no line is bad hands in a world and a history
 

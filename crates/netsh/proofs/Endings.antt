@@ -5,9 +5,9 @@ use Rattle.net_model.specs.Words.{Command, may_wait, words_wait}
 use Rattle.netsh.specs.declared.command.Question.{Question}
 use Rattle.netsh.specs.declared.command.Question.TheVariants as question
 use Rattle.netsh.specs.declared.top.Asked.TheVariants as asks
-use Rattle.commands.specs.Built.{IsAnswer}
+use Rattle.netsh.specs.Built.{IsAnswer}
 use Rattle.netsh.specs.Commands.{question_read}
-use Rattle.command_line.specs.Calls.{Intake, Output}
+use Rattle.net_model.specs.Calls.{Intake, Output}
 use Rattle.netsh.specs.Ends.{Ends}
 
 same_status : (s t : ℕ) → asks.Answered s ≡ asks.Answered t → s ≡ t

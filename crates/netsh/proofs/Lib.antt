@@ -3,3 +3,10 @@ pub mod Endings
 pub mod Messages
 pub mod RunWords
 pub mod Statuses
+pub mod CsAnswers
+pub mod Exported
+pub mod Given
+pub mod Judging
+pub mod MadeText
+pub mod OneHistory
+pub mod RunEnds

@@ -10,14 +10,14 @@ use Rattle.net_base.specs.Cs.{CsAnswer, Lines, Refused}
 use Rattle.net_base.specs.Legal.{IsLegal, IsTimed}
 use Rattle.net_base.specs.Net.{Net, after}
 use Rattle.net_model.specs.Words.{Command, Cs, Query, Dns, Run, Make, Big, Check, Export, Translate, may_wait, reads_input, words_read, words_wait}
-use Rattle.commands.specs.Built.{asking, made, IsBadLine, IsStatus, IsWorldOf, IsFound, IsFirstBad, IsAnswer}
-use Rattle.checked_input.specs.Input.{Handed}
-use Rattle.commands.specs.Checked.{BreaksOne, IsChecked, KeepsAll}
-use Rattle.command_line.specs.Asking.{IsGiven}
-use Rattle.command_line.specs.Calls.{Intake, Output}
-use Rattle.command_line.specs.Ends.{Answers, TookAll, no_row, answered, unread, no_memory}
-use Rattle.command_line.proofs.Shared.{given_good, IsGood, Sound}
-use Rattle.command_line.proofs.Shared as calls
+use Rattle.netsh.specs.Built.{asking, made, IsBadLine, IsStatus, IsWorldOf, IsFound, IsFirstBad, IsAnswer}
+use Rattle.netcheck.specs.Input.{Handed}
+use Rattle.netsh.specs.Checked.{BreaksOne, IsChecked, KeepsAll}
+use Rattle.net_model.specs.Asking.{IsGiven}
+use Rattle.net_model.specs.Calls.{Intake, Output}
+use Rattle.net_model.specs.Ends.{Answers, TookAll, no_row, answered, unread, no_memory}
+use Rattle.net_model.proofs.Shared.{given_good, IsGood, Sound}
+use Rattle.net_model.proofs.Shared as calls
 use Rattle.netsh.specs.Ends.{IsStatusOf, IsHanded, HasChecked, HasGood, HasRun, Ends, EndsIll, EndsWell, Causes}
 use Rattle.std.proofs.lemmas.Bool.{false≢true}
 use Rattle.netsh.proofs.Checks.{broken_so, checked_0, checked_5, handed_in, judges, kept_so}

@@ -10,13 +10,13 @@ use Rattle.net_base.specs.Net.{Net, after}
 use Rattle.net_model.specs.Words.{Command, Cs, Query, Dns, Run, Make, Big, Check, reads_input, words_read, words_wait, Export, Translate}
 use Rattle.outside.specs.Streams.{Rose}
 use Rattle.outside.specs.declared.fault.TakeError.{TakeError}
-use Rattle.commands.specs.Built.{IsFirstBad, IsWorldOf, asking}
-use Rattle.checked_input.specs.Input.{Handed}
-use Rattle.commands.specs.Checked.{BreaksOne, KeepsAll}
-use Rattle.command_line.specs.Asking as asks
-use Rattle.command_line.specs.Calls.{Intake, IsInput, Output}
-use Rattle.command_line.specs.Ends as calls
-use Rattle.command_line.specs.Ends.{TookAll}
+use Rattle.netsh.specs.Built.{IsFirstBad, IsWorldOf, asking}
+use Rattle.netcheck.specs.Input.{Handed}
+use Rattle.netsh.specs.Checked.{BreaksOne, KeepsAll}
+use Rattle.net_model.specs.Asking as asks
+use Rattle.net_model.specs.Calls.{Intake, IsInput, Output}
+use Rattle.net_model.specs.Ends as calls
+use Rattle.net_model.specs.Ends.{TookAll}
 
 -- what became of a command and its input before anything was written
 abbrev pub IsAnswered : Command → Intake → Result Answer TakeError → Type 0

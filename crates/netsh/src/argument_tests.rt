@@ -1,5 +1,5 @@
 //! The words of command lines of which a word may be no UTF-8.
-use command_line::words_after_path;
+use net_model::words_after_path;
 use std::alloc::{AllocError, Global};
 use std::env::{Env, FillError};
 use std::test::Fail;

@@ -1,18 +1,18 @@
 //! The top call: words and an input in, a status and a text out.
 ghost use Rattle.std.specs.Prelude.{◌≡◌, ◌≢◌, ◌<◌, ◌≤◌, ◌↔◌, ◌⊎◌, ◌+◌, ℕ, map, string_bytes, length, IsNone, IfNone, IfSome, IfOk, IsTrue, Some, None, false};
 ghost use Rattle.net_model.specs.Words.{Big as AnyBig, Command as AnyCommand, Export as AnyExport, Run as AnyRun, command_of, reads_input, words_wait};
-ghost use Rattle.command_line.specs.Calls.{Intake, IsUnread};
+ghost use Rattle.net_model.specs.Calls.{Intake, IsUnread};
 ghost use Rattle.netsh.specs.Ends.{Causes, Ends, EndsWell, HasGood, IsAnswered, most_reads};
 ghost use Rattle.net_model.specs.Answers.{input_limit};
-ghost use Rattle.commands.specs.Built.{IsAnswer};
+ghost use Rattle.netsh.specs.Built.{IsAnswer};
 ghost use Rattle.netsh.specs.Commands.{question_read};
 
 use crate::command::{Command, Question, has_input, read_words};
-use command_line::{Answer, tell_answer, tell_usage};
-use commands::{
+use crate::{
     big, check, cs, dns, export_over, make, query_beside, query_tuples, run_over, translate,
     values_are_answers,
 };
+use net_model::{Answer, tell_answer, tell_usage};
 use outside::{Gate, Sink, Source, SureSink, SureSource, TakeError, read_to_end};
 use std::alloc::{AllocError, Global};
 use std::sync::Wait;

@@ -5,13 +5,13 @@ use Rattle.net_base.specs.declared.world.World.{World}
 use Rattle.net_base.specs.Legal.{IsFault, IsLegal, IsTimed, Rule, rule_number}
 use Rattle.net_model.specs.Answers.{Answer, bad_input, rule_broken}
 use Rattle.netcheck.specs.Judged.{HasFault}
-use Rattle.checked_input.specs.Told.{HandsIn, IsFirstTold, RefusesInput}
-use Rattle.checked_input.specs.declared.fault.InputError.TheVariants as error
+use Rattle.netcheck.specs.Told.{HandsIn, IsFirstTold, RefusesInput}
+use Rattle.netcheck.specs.declared.fault.InputError.TheVariants as error
 use Rattle.net_base.specs.NdbBundle.{bad_line}
 use Rattle.netview.specs.Views.{asking, input_limit, command_view, whole_view, IsAnswer, IsShown}
 use Rattle.netview.specs.Words.{Lint, Show, View}
-use Rattle.command_line.specs.Asking.{IsGiven}
-use Rattle.command_line.proofs.Shared.{answer_within, within_limit}
+use Rattle.net_model.specs.Asking.{IsGiven}
+use Rattle.net_model.proofs.Shared.{answer_within, within_limit}
 
 -- a history with a fault isn't both legal and timed, and has no other fault
 abbrev pub NotLegal : Type 0

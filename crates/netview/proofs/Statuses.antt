@@ -4,13 +4,13 @@ use Rattle.net_base.specs.declared.history.Entry.{Entry}
 use Rattle.net_base.specs.declared.world.World.{World}
 use Rattle.net_base.specs.Legal.{IsLegal, IsTimed}
 use Rattle.net_model.specs.Answers.{Answer}
-use Rattle.checked_input.specs.Input.{Handed}
+use Rattle.netcheck.specs.Input.{Handed}
 use Rattle.netview.specs.Views.{asking, capture_on, medium_named, command_view, IsAnswer, IsFirstBad, IsGood as IsGoodOf, IsShown, IsShownOf}
 use Rattle.netview.specs.Words.{Command, Lint, Show, View, Chart, ChartOfTalks, Pcap, Steps, Words}
-use Rattle.command_line.specs.Calls.{Intake, Output}
-use Rattle.command_line.specs.Ends.{IsStatusOf, TookAll}
-use Rattle.command_line.proofs.Shared.{given_good, IsGood, Sound}
-use Rattle.command_line.proofs.Shared as calls
+use Rattle.net_model.specs.Calls.{Intake, Output}
+use Rattle.net_model.specs.Ends.{IsStatusOf, TookAll}
+use Rattle.net_model.proofs.Shared.{given_good, IsGood, Sound}
+use Rattle.net_model.proofs.Shared as calls
 use Rattle.netview.specs.Ends.{HasBundle, HasHanded, IsBroken, IsHanded, IsRefused, IsShownWith, Ends, Causes}
 
 -- words that gave the command

@@ -5,10 +5,10 @@ use Rattle.net_base.specs.Legal.{IsLegal, IsTimed}
 use Rattle.net_model.specs.Answers.{Answer}
 use Rattle.netcheck.specs.Judged.{HasFault}
 use Rattle.outside.specs.declared.fault.TakeError.{TakeError}
-use Rattle.command_line.specs.Asking as asks
-use Rattle.command_line.specs.Calls.{Intake, IsInput, Output}
-use Rattle.command_line.specs.Ends as calls
-use Rattle.checked_input.specs.Input.{Handed}
+use Rattle.net_model.specs.Asking as asks
+use Rattle.net_model.specs.Calls.{Intake, IsInput, Output}
+use Rattle.net_model.specs.Ends as calls
+use Rattle.netcheck.specs.Input.{Handed}
 use Rattle.netview.specs.Views.{IsFirstBad, asking, command_view}
 use Rattle.netview.specs.Words.{Command, Lint, Show, View}
 

@@ -10,15 +10,15 @@ use Rattle.net_base.specs.declared.world.MediumSpec.{MediumSpec}
 use Rattle.net_base.specs.declared.world.World.{World}
 use Rattle.net_base.specs.Legal.{IsLegal, IsTimed}
 use Rattle.netcheck.specs.Judged.{HasFault}
-use Rattle.command_line.specs.Asking as calls
-use Rattle.command_line.specs.Asking.{Asking}
+use Rattle.net_model.specs.Asking as calls
+use Rattle.net_model.specs.Asking.{Asking}
 use Rattle.net_model.specs.Answers.{Answer, lines_answer, rule_broken}
-use Rattle.checked_input.specs.Input.{Handed, IsBadHanded, parts_of}
+use Rattle.netcheck.specs.Input.{Handed, IsBadHanded, parts_of}
 use Rattle.history_words.specs.HistoryWords.{history_words}
-use Rattle.net_capture.specs.Capture.{capture}
+use Rattle.replay_views.specs.Capture.{capture}
 use Rattle.net_chart.specs.Chart.{chart}
 use Rattle.net_chart.specs.TalkChart.{talk_chart}
-use Rattle.script_steps.specs.Steps.{steps_text}
+use Rattle.replay_views.specs.Steps.{steps_text}
 use Rattle.net_base.specs.NdbBundle.{bad_line}
 use Rattle.netview.specs.Words.{Command, Lint, Show, View, Chart, ChartOfTalks, Pcap, Steps, Words}
 

@@ -6,7 +6,7 @@ mod notes;
 mod top;
 mod view;
 
-use command_line::words_after_path;
+use net_model::words_after_path;
 use outside::{StdSink, StdSource};
 use std::process::ExitCode;
 

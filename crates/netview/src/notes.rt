@@ -4,7 +4,7 @@ ghost use Rattle.netview.specs.Views.{IsAnswer, input_limit};
 ghost use Rattle.netview.specs.Words.{Lint};
 
 use bundle_lint::{LintError, lint};
-use command_line::Answer;
+use net_model::Answer;
 use std::alloc::{AllocError, Global};
 
 /// The notes on a bundle, or its first bad line.

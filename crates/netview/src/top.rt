@@ -8,7 +8,7 @@ ghost use Rattle.netview.specs.Words.{command_of};
 use crate::command::{Command, read_words};
 use crate::notes::notes_over;
 use crate::view::view_over;
-use command_line::{Answer, tell_answer, tell_usage};
+use net_model::{Answer, tell_answer, tell_usage};
 use outside::{Sink, Source, SureSink, SureSource, TakeError, read_to_end};
 use std::alloc::{AllocError, Global};
 

@@ -7,15 +7,13 @@ ghost use Rattle.netview.specs.Views.{IsAnswer, input_limit, medium_named, comma
 ghost use Rattle.netview.specs.Words.{Show};
 
 use crate::command::View;
-use checked_input::{CheckedInput, InputError, check_input};
-use command_line::Answer;
 use history_laws::a_fault_is_not_legal;
 use history_words::words_of;
 use net_base::{History, World};
-use net_capture::capture_of;
 use net_chart::{chart_of, chart_of_talks};
-use netcheck::a_fault_is_one;
-use script_steps::steps_of;
+use net_model::Answer;
+use netcheck::{CheckedInput, InputError, a_fault_is_one, check_input};
+use replay_views::{capture_of, steps_of};
 use std::alloc::{AllocError, Global};
 use std::mem;
 

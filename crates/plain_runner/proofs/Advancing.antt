@@ -25,7 +25,7 @@ use Rattle.plain_runner.specs.Turns.{IsMoving}
 use Rattle.plain_runner.specs.declared.caller.Caller.{Caller}
 use Rattle.plain_runner.specs.declared.runner.Runner.{Runner}
 use Rattle.plain_runner.specs.declared.turn.Turn.{Turn}
-use Rattle.calm_laws.proofs.Shared.{clock_is}
+use Rattle.history_laws.proofs.Shared.{clock_is}
 
 -- The clock is ready to move at any time.
 

@@ -25,7 +25,7 @@ use Rattle.plain_runner.specs.declared.caller.Caller.{Caller}
 use Rattle.plain_runner.specs.declared.caller.Role.{Role}
 use Rattle.plain_runner.specs.declared.caller.Role.TheVariants as role
 use Rattle.plain_runner.specs.declared.runner.Runner.{Runner}
-use Rattle.calm_laws.proofs.Shared.{is_busy}
+use Rattle.history_laws.proofs.Shared.{is_busy}
 use Rattle.plain_runner.proofs.Halting.{NobodyCould, busy_unfinished, done_word, full_word, idle_calm, limit_word, moment_within, other_word, stopped_word}
 use Rattle.net_base.proofs.Shared.{passed_range, unpassed, there_at}
 use Rattle.plain_runner.proofs.Standing.{script_role, unfinished_from, unfinished_more, unfinished_none}

@@ -24,7 +24,7 @@ use Rattle.net_base.specs.Net.{Net, after, outcome_in, owed, step_of, with_of, w
 use Rattle.net_base.specs.Next.{next_recorded, next_of}
 use Rattle.net_base.specs.Steps.{Ask}
 use Rattle.history_laws.proofs.Shared.{at_push, one_more, Each}
-use Rattle.progress_law.proofs.Shared.{steady_after, OfKind}
+use Rattle.history_laws.proofs.Shared.{steady_after, OfKind}
 use Rattle.plain_runner.specs.Followed.{Followed, FollowsRun as FollowsOn, GoesOnWith, IsOf}
 use Rattle.plain_runner.specs.Recording.{IsHistory}
 use Rattle.plain_runner.specs.Tracks.{Grows, IsBefore, IsCallerReady, RecordedSo, Tracks}
@@ -32,7 +32,7 @@ use Rattle.plain_runner.specs.Turns.{IsMoving, may_turn_by}
 use Rattle.plain_runner.specs.declared.runner.Runner.{Runner}
 use Rattle.plain_runner.specs.declared.turn.Turn.{Turn}
 use Rattle.plain_runner.proofs.Advancing.{clock_before}
-use Rattle.calm_laws.proofs.Shared.{Kind, OfScript, OfCourier, OfClock, clock_is, courier_is, kind_of}
+use Rattle.history_laws.proofs.Shared.{Kind, OfScript, OfCourier, OfClock, clock_is, courier_is, kind_of}
 use Rattle.plain_runner.proofs.Could.{past_is}
 use Rattle.plain_runner.proofs.Recorded.{got}
 use Rattle.plain_runner.proofs.Unmoved.{IsStill, duty_still, next_still}

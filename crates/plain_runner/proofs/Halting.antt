@@ -12,7 +12,7 @@ use Rattle.net_base.specs.Next.{by}
 use Rattle.net_base.specs.Summary.{end_word}
 use Rattle.net_base.specs.Tasks.{nobody}
 use Rattle.history_laws.proofs.Shared.{after_push, at_push, by_entries, timed_take}
-use Rattle.calm_laws.proofs.Shared.{Kind, OfScript, OfCourier, OfClock, clock_is, clock_waits, courier_is, is_calm, kind_of}
+use Rattle.history_laws.proofs.Shared.{Kind, OfScript, OfCourier, OfClock, clock_is, clock_waits, courier_is, is_calm, kind_of}
 use Rattle.net_base.proofs.Shared.{none_range, not_below, some_range, script_is}
 use Rattle.plain_runner.proofs.Bounds.{move_within}
 use Rattle.transcript.proofs.Shared.{moment_of_ready}

@@ -25,7 +25,7 @@ use Rattle.net_base.specs.Scripts.{at_first, position}
 use Rattle.net_base.specs.Steps.{Ask, call_names, clone_path, reply_lines}
 use Rattle.net_base.specs.Versions.{Tuples}
 use Rattle.history_laws.proofs.Shared.{Each, each_any, past_after, next_event, Fits, IsNextEvent, IsNamed, IsOpened, IsOwn, Says}
-use Rattle.progress_law.proofs.Shared.{steady_after, IsKind, OfKind}
+use Rattle.history_laws.proofs.Shared.{steady_after, IsKind, OfKind}
 use Rattle.plain_runner.specs.Recording.{IsHistory}
 use Rattle.plain_runner.specs.Turns.{IsReadyTurn, IsTurn, may_turn, may_turn_by}
 use Rattle.plain_runner.specs.declared.turn.Turn.{Turn}

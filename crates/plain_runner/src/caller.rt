@@ -16,7 +16,7 @@ ghost use Rattle.plain_runner.specs.Turns.{AreOwn, IsOwnTurn, OfDuty, turn_ask, 
 use crate::turn::Turn;
 use duties::{Duties, Duty};
 use history_laws::histories_grow;
-use ndb_versions::IndexedVersions;
+use ndb_index::IndexedVersions;
 use net_actors::Actors;
 use net_base::{ActorName, Event, Reply, Script, With, Work};
 use script_player::Player;

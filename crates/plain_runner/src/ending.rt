@@ -16,8 +16,7 @@ use crate::caller::Role;
 use crate::runner::Runner;
 use crate::turn::Turn;
 use duties::Due;
-use net_base::{Event, World};
-use run_record::RunEnd;
+use net_base::{Event, RunEnd, World};
 use std::alloc::AllocError;
 
 impl<'a> Runner<'a> {

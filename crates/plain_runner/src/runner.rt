@@ -16,7 +16,7 @@ use crate::law::histories_are_short;
 use crate::recording::{Coming, record};
 use crate::turn::Turn;
 use duties::WorldWays;
-use ndb_versions::IndexedVersions;
+use ndb_index::IndexedVersions;
 use net_actors::Actors;
 use net_base::{Entry, Event, World};
 use std::alloc::{AllocError, Global};

@@ -17,11 +17,11 @@ use Rattle.net_base.specs.declared.request.Request.{Request}
 use Rattle.net_base.specs.Requests.{head, settled}
 use Rattle.script_task.specs.Rest.{rest}
 use Rattle.script_task.specs.Task.{Heads}
-use Rattle.step_task.specs.declared.step.StepTask.{StepTask}
+use Rattle.played_task.specs.declared.step.StepTask.{StepTask}
 use Rattle.dial_lib.specs.Slots.{HaveSlots}
-use Rattle.step_task.specs.Leaving.{after_one, leaves_so}
-use Rattle.step_task.specs.StepLaws as step_laws
-use Rattle.step_task.specs.StepTasks as step
+use Rattle.played_task.specs.Leaving.{after_one, leaves_so}
+use Rattle.played_task.specs.StepLaws as step_laws
+use Rattle.played_task.specs.StepTasks as step
 use Rattle.played_task.specs.ScriptLaws.{begins, ended_play, step_heads}
 use Rattle.played_task.specs.ScriptTasks.{Scripting, finished_in, AtStep, AtEnd, begun_at, begun_by, progress, step_goes_on, KeptStep, asks, first_asked, after, heard_in_step, told_by_task, is_played, left_by, task_after_all, AllFit, play_behind, plays_of, plays_behind, Plays}
 use Rattle.net_base.proofs.Shared.{append_one}

@@ -8,4 +8,6 @@ pub use Rattle.net_base.specs.Next
 pub use Rattle.net_base.specs.Tasks
 pub use Rattle.script_task.specs.Rest
 pub use Rattle.script_task.specs.Task
-pub use Rattle.step_task.specs.StepTasks
+pub mod StepTasks
+pub mod StepLaws
+pub mod Leaving

@@ -17,11 +17,11 @@ use Rattle.script_task.specs.Fitting.{fits}
 use Rattle.net_base.specs.Requests.{head, planned, settled}
 use Rattle.script_task.specs.Rest.{Continues, rest}
 use Rattle.script_task.specs.Task.{Heads, AsksSo, MovesSo, follow, fits_play}
-use Rattle.step_task.specs.declared.step.StepTask.{StepTask}
+use Rattle.played_task.specs.declared.step.StepTask.{StepTask}
 use Rattle.dial_lib.specs.Slots.{HaveSlots}
-use Rattle.step_task.specs.Leaving as leaving
-use Rattle.step_task.specs.StepLaws as step_laws
-use Rattle.step_task.specs.StepTasks as step
+use Rattle.played_task.specs.Leaving as leaving
+use Rattle.played_task.specs.StepLaws as step_laws
+use Rattle.played_task.specs.StepTasks as step
 use Rattle.played_task.specs.ScriptTasks.{Scripting, finished_in, AtStep, AtEnd, begun_at, step_goes_on, asks, after, task_after_all, play_behind, plays_behind, plays_of, StandsFor, Plays, GoesScripting}
 use Rattle.played_task.specs.Wholes.{AsksThere, Comes, GoesThere, PlaysThere}
 use Rattle.net_base.proofs.Shared.{append_one, none_is}

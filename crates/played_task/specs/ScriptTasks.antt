@@ -12,8 +12,8 @@ use Rattle.net_base.specs.Versions.{Tuples}
 use Rattle.net_base.specs.declared.request.Request.{Request}
 use Rattle.script_task.specs.Rest.{Continues}
 use Rattle.script_task.specs.Task.{follow, fits_play}
-use Rattle.step_task.specs.declared.step.StepTask.{StepTask}
-use Rattle.step_task.specs.StepTasks as step
+use Rattle.played_task.specs.declared.step.StepTask.{StepTask}
+use Rattle.played_task.specs.StepTasks as step
 
 -- The task.
 

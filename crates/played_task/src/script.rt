@@ -6,15 +6,15 @@ ghost use Rattle.net_base.specs.Next.{finished_by};
 ghost use Rattle.net_base.specs.Steps.{Names as AnyNames, Ends, no_names};
 ghost use Rattle.net_base.specs.Versions.{Tuples};
 ghost use Rattle.net_base.specs.declared.left.Left.{Left as AnyLeft};
-ghost use Rattle.step_task.specs.StepTasks.{begun};
+ghost use Rattle.played_task.specs.StepTasks.{begun};
 ghost use Rattle.played_task.specs.ScriptTasks as spec;
 
 use crate::whole::WholeTask;
+use crate::{StepTask, ends_by, first_request};
 use net_base::{Left, Reply, Script, Step};
 use script_task::{Names, Request, Task};
 use std::alloc::{AllocError, Global};
 use std::marker::Model;
-use step_task::{StepTask, ends_by, first_request};
 
 /// A whole script that is being played. Its steps are lent.
 #[derive(Drop)]

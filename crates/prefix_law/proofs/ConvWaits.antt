@@ -17,8 +17,8 @@ use Rattle.net_base.specs.Actors.{Actor, IsDesk, IsDir, IsConv, IsMedium, IsPlai
 use Rattle.net_base.specs.Conversation.{Conv, Core, Il, Udp, conv_step, ticked}
 use Rattle.net_base.specs.Duties.{due_of, due_of_core, generation_of}
 use Rattle.net_base.specs.IlEnd.{End, Turn}
-use Rattle.table_laws.specs.ActorRows.{ActorRow, AtDesk, AtDir, AtConv, AtMedium, AtClock, seen_as}
-use Rattle.table_laws.proofs.Shared.{map_some, mapped, table_rows}
+use Rattle.history_laws.specs.ActorRows.{ActorRow, AtDesk, AtDir, AtConv, AtMedium, AtClock, seen_as}
+use Rattle.history_laws.proofs.Shared.{map_some, mapped, table_rows}
 use Rattle.prefix_law.proofs.ConvMoves.{Act, Rest, Arrival, Writing, Reading, Hanging, Ticking, Move, Stay, Begin, Join, Come, Listen, of_end, moves}
 use Rattle.prefix_law.proofs.Deeds.{both_ways}
 use Rattle.prefix_law.proofs.OtherSteps.{IsUdp, udp_steps}

@@ -28,9 +28,9 @@ use Rattle.prefix_law.proofs.Sides.{put_here}
 use Rattle.prefix_law.proofs.Touch.{owner_of, Owned, Later, Emitted, emitted_later}
 use Rattle.history_laws.proofs.Shared.{TakerFound, slot_found, taker_found}
 use Rattle.prefix_law.proofs.DirSteps.{WithFine, EachDuty, SlotFine, SlotIsFine, DirFine, DirIsFine, Addressed, DirStep, dir_keeps, owns, owner_stays, owner_back, owned_owns, addressed_owns, convs_owns, slot_owns, slot_gets, other_dir_owns, known_owns, set_cases, place_push, place_last, has_pair_is, free_or_announced}
-use Rattle.table_laws.specs.DirRows.{DirRow, pair_by, slot_in}
-use Rattle.table_laws.specs.DirRows as row
-use Rattle.table_laws.proofs.Shared.{dir_rows, map_some}
+use Rattle.history_laws.specs.DirRows.{DirRow, pair_by, slot_in}
+use Rattle.history_laws.specs.DirRows as row
+use Rattle.history_laws.proofs.Shared.{dir_rows, map_some}
 
 -- a slot that was had as it is, with another text
 set_fine : (t : Trace) (h : ℕ) (d : Dir) (n : ℕ) (new : Slot) → DirIsFine t h d → SlotIsFine t h n new → DirFine t h (slice_set d.slots n new) d.pairs

@@ -24,11 +24,11 @@ use Rattle.net_base.specs.Directory.{Dir, dir_step}
 use Rattle.net_base.specs.Duties.{close_calls, follow_up}
 use Rattle.net_base.specs.Medium.{Medium, medium_step}
 use Rattle.net_base.specs.UdpEnd.{UdpEnd}
-use Rattle.table_laws.specs.ConvRows.{ConvRow}
-use Rattle.table_laws.specs.ConvRows as conv_row
-use Rattle.table_laws.specs.DirRows.{DirRow}
-use Rattle.table_laws.specs.DirRows as dir_row
-use Rattle.table_laws.proofs.Shared.{conv_rows, core_stays, dir_rows, map_some}
+use Rattle.history_laws.specs.ConvRows.{ConvRow}
+use Rattle.history_laws.specs.ConvRows as conv_row
+use Rattle.history_laws.specs.DirRows.{DirRow}
+use Rattle.history_laws.specs.DirRows as dir_row
+use Rattle.history_laws.proofs.Shared.{conv_rows, core_stays, dir_rows, map_some}
 use Rattle.prefix_law.proofs.Trace.{Trace}
 use Rattle.prefix_law.proofs.Touch.{Emitted, EmittedAs, EmittedIf, Later as Growing, emitted_later}
 use Rattle.prefix_law.proofs.Acts.{Refusal}

@@ -19,9 +19,9 @@ use Rattle.net_base.specs.Conversation.{Core, Il, Udp, Stage, Connected, Conv, l
 use Rattle.net_base.specs.Mirror.{mirror}
 use Rattle.net_base.specs.UdpEnd.{UdpEnd, datagram_comes, datagram_read, takes_datagram}
 use Rattle.net_base.specs.Written.{Given}
-use Rattle.table_laws.specs.ConvRows.{ConvRow}
-use Rattle.table_laws.specs.ConvRows as row
-use Rattle.table_laws.proofs.Shared.{conv_rows, map_some}
+use Rattle.history_laws.specs.ConvRows.{ConvRow}
+use Rattle.history_laws.specs.ConvRows as row
+use Rattle.history_laws.proofs.Shared.{conv_rows, map_some}
 use Rattle.prefix_law.proofs.UdpDuties.{given_to, EmittedAs, GiftFine}
 
 -- a text for the conversation was written at the one with the mirror of its pair

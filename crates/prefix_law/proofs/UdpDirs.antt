@@ -29,9 +29,9 @@ use Rattle.prefix_law.proofs.DirSteps.{set_cases, has_pair_is, free_or_announced
 use Rattle.prefix_law.proofs.Trace.{HasPlaces}
 use Rattle.prefix_law.proofs.UdpConvs.{SentIf}
 use Rattle.prefix_law.proofs.UdpDuties.{given_to, Emitted, EachDuty, WithFine}
-use Rattle.table_laws.specs.DirRows.{DirRow, pair_by, slot_in}
-use Rattle.table_laws.specs.DirRows as row
-use Rattle.table_laws.proofs.Shared.{dir_rows, map_some}
+use Rattle.history_laws.specs.DirRows.{DirRow, pair_by, slot_in}
+use Rattle.history_laws.specs.DirRows as row
+use Rattle.history_laws.proofs.Shared.{dir_rows, map_some}
 
 -- what is known, and that this was given
 abbrev pub with_new : Option Given → (Given → Type 0) → Given → Type 0

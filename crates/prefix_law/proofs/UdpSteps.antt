@@ -26,8 +26,8 @@ use Rattle.net_base.specs.Duties.{follow_up}
 use Rattle.net_base.specs.IlEnd.{End}
 use Rattle.net_base.specs.Medium.{medium_step}
 use Rattle.net_base.specs.Written.{Given, gave}
-use Rattle.table_laws.specs.ActorRows.{seen_as}
-use Rattle.table_laws.proofs.Shared.{mapped}
+use Rattle.history_laws.specs.ActorRows.{seen_as}
+use Rattle.history_laws.proofs.Shared.{mapped}
 use Rattle.prefix_law.proofs.ConvMoves.{of_end, moves, Move, Stay, Begin, Join, Come, Listen, Emits}
 use Rattle.prefix_law.proofs.Copies.{OfMedium, medium_leaves, medium_more}
 use Rattle.prefix_law.proofs.Trace.{HasPlaces}

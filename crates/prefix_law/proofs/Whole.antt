@@ -47,8 +47,8 @@ use Rattle.prefix_law.proofs.Touch.{IsIn, HeardClose, Utters, Owned, Later, Emit
 use Rattle.prefix_law.proofs.ConvSteps.{GiftFine, owned_more, conv_steps}
 use Rattle.prefix_law.proofs.DirSteps.{WithFine, EachDuty, SlotIsFine, DirIsFine, Addressed, DirStep, all_free}
 use Rattle.prefix_law.proofs.DirRows.{dir_steps}
-use Rattle.table_laws.specs.ActorRows.{seen_as}
-use Rattle.table_laws.proofs.Shared.{map_some}
+use Rattle.history_laws.specs.ActorRows.{seen_as}
+use Rattle.history_laws.proofs.Shared.{map_some}
 use Rattle.prefix_law.proofs.OtherSteps.{IsUdp, harmless_emitted, udp_steps, dir_harmless, udp_dir_follow, conv_follow, MediumFine, TakenIf, medium_grows, medium_steps}
 use Rattle.history_laws.proofs.Shared.{after_push, by_entries}
 use Rattle.prefix_law.proofs.Accounts.{AllSized, AtEnd, given_by, Reading}

@@ -1,1 +1,9 @@
 pub mod PrefixLaw
+pub mod Phases
+pub mod Spans
+pub mod Order
+pub mod LongReads
+pub mod ImportLaw
+pub mod Scripted
+pub mod WorldImports
+pub mod Worked

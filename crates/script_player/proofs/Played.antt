@@ -22,10 +22,10 @@ use Rattle.script_task.specs.Fitting.{fits}
 use Rattle.net_base.specs.Requests.{head, settled}
 use Rattle.script_task.specs.Task.{Heads, follow, fits_play}
 use Rattle.script_task.proofs.Shared.{settles_so}
-use Rattle.step_task.specs.declared.step.StepTask.{StepTask}
-use Rattle.step_task.specs.Leaving.{after_one, leaves_so}
-use Rattle.step_task.specs.StepTasks.{StandsFor, asks, after, after_all, begun, leaves, left_by as left_by_task}
-use Rattle.step_task.specs.StepLaws.{asks_alike, asks_so, begun_asks, begun_stands, moves_so}
+use Rattle.played_task.specs.declared.step.StepTask.{StepTask}
+use Rattle.played_task.specs.Leaving.{after_one, leaves_so}
+use Rattle.played_task.specs.StepTasks.{StandsFor, asks, after, after_all, begun, leaves, left_by as left_by_task}
+use Rattle.played_task.specs.StepLaws.{asks_alike, asks_so, begun_asks, begun_stands, moves_so}
 use Rattle.script_player.specs.Players.{Playing, playing_kept, position_after, next_after, PlaysLeft, KnowsPlaying, IsInStep, Between, IsAtBy, IsAt, playing_begun_by, begun_in, request_by, request_of, asked_as, asked_at, with_room, prepared_by, prepared, expected_by, expected_in, heard_by, playing_heard, left_by_playing, left}
 use Rattle.net_base.proofs.Shared.{append_one, none_is}
 

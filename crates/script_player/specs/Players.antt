@@ -15,9 +15,9 @@ use Rattle.script_task.specs.declared.effect.Effect.TheVariants.{Opens}
 use Rattle.net_base.specs.declared.request.Request.{Request}
 use Rattle.script_task.specs.Effects.{effect_of, opened_file, settles_effect}
 use Rattle.net_base.specs.Requests.{planned}
-use Rattle.step_task.specs.declared.step.StepTask.{StepTask}
+use Rattle.played_task.specs.declared.step.StepTask.{StepTask}
 use Rattle.dial_lib.specs.Slots.{HaveSlots}
-use Rattle.step_task.specs.StepTasks.{StandsFor, asks, after, after_all, begun, left_by as left_by_task}
+use Rattle.played_task.specs.StepTasks.{StandsFor, asks, after, after_all, begun, left_by as left_by_task}
 
 -- what a contract sees of a player
 pub record Playing : Type 0 where

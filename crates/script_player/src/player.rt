@@ -9,13 +9,13 @@ ghost use Rattle.net_base.specs.Versions.{Tuples, database_of};
 ghost use Rattle.script_task.specs.Fitting.{fits};
 ghost use Rattle.script_player.specs.Players as spec;
 
-use ndb_versions::IndexedVersions;
+use ndb_index::IndexedVersions;
 use net_base::{ActorName, Event, Left, Reply, Script};
+use played_task::StepTask;
 use script_task::{Effect, Names, Planned, Task, plan};
 use std::alloc::{AllocError, Global};
 use std::marker::Model;
 use std::sync::Arc;
-use step_task::StepTask;
 
 /// A script that is being played: how many steps are finished, what it is at, and the names that are bound.
 ///

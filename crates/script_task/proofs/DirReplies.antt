@@ -13,10 +13,10 @@ use Rattle.net_base.specs.Actors.{opening_dir}
 use Rattle.net_base.specs.Directory.{Dir, Slot, free_slot, is_free}
 use Rattle.history_laws.proofs.Shared.{slot_found}
 use Rattle.script_task.specs.Fitting.{fits}
-use Rattle.table_laws.specs.DirRows.{DirRow, slot_in}
-use Rattle.table_laws.specs.DirRows as row
-use Rattle.table_laws.specs.Waiting.{EachWaiting, IsOfWaiting}
-use Rattle.table_laws.proofs.Shared.{slots_stay, waiting_at, waiting_stays}
+use Rattle.history_laws.specs.DirRows.{DirRow, slot_in}
+use Rattle.history_laws.specs.DirRows as row
+use Rattle.history_laws.specs.Waiting.{EachWaiting, IsOfWaiting}
+use Rattle.history_laws.proofs.Shared.{slots_stay, waiting_at, waiting_stays}
 
 -- Slots.
 

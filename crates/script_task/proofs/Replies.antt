@@ -26,9 +26,9 @@ use Rattle.net_base.specs.Net.{Net, after, works, played, stepped_to, WorkAt, wo
 use Rattle.history_laws.proofs.Shared.{state_is_fold}
 use Rattle.script_task.specs.Fitting.{fits}
 use Rattle.script_task.proofs.DirReplies.{Fine, dir_fits, opening_fine}
-use Rattle.table_laws.specs.ActorRows.{ActorRow, AtDesk, AtDir, AtConv, AtMedium, AtClock, DeskRow, MediumRow, NoStation, Tells}
-use Rattle.table_laws.specs.ConvRows.{ConvRow, Stale, generation_in}
-use Rattle.table_laws.proofs.Shared.{actor_rows, map_some, shown_reply}
+use Rattle.history_laws.specs.ActorRows.{ActorRow, AtDesk, AtDir, AtConv, AtMedium, AtClock, DeskRow, MediumRow, NoStation, Tells}
+use Rattle.history_laws.specs.ConvRows.{ConvRow, Stale, generation_in}
+use Rattle.history_laws.proofs.Shared.{actor_rows, map_some, shown_reply}
 
 -- Conversations, desks and media.
 

@@ -7,8 +7,7 @@ ghost use Rattle.net_tree.specs.Bindings.{bound_file};
 ghost use Rattle.net_tree.specs.declared.fault.TreeError.TheVariants.{BadFid, Memory};
 ghost use Rattle.script_task.specs.Holdings.{holdings};
 
-use ndb_index::Index;
-use ndb_versions::IndexedVersions;
+use ndb_index::{Index, IndexedVersions};
 use net_base::{FileName, Headers, Heard, Mode};
 use net_tree::{Fid, Fids, TreeError};
 use std::alloc::{AllocError, Global};

@@ -3,11 +3,11 @@ use crate::holding::no_names;
 use dial_lib::{Announce, Beside, Dial, Reject, netmkaddr};
 use net_base::{Addr, FileName, Left, Lines, Mode, Octets, Pair, Proto, Reply, Step};
 use net_tree::Fid;
+use played_task::StepTask;
 use script_task::{Names, Request, Task, settle};
 use std::alloc::{AllocError, Global};
 use std::process::Abort;
 use std::test::*;
-use step_task::StepTask;
 use words::split_first;
 
 // Rows of tests: a step, the letters of its replies, and its requests, with `end` where it is through then.

@@ -2,7 +2,7 @@
 ghost use Rattle.std.specs.Prelude.{◌<◌, IfOk, length};
 ghost use Rattle.std.specs.Arc.{arc_value};
 
-use ndb_versions::IndexedVersions;
+use ndb_index::IndexedVersions;
 use net_base::{Db, Version};
 use script_task::Names;
 use std::alloc::{AllocError, Global};

@@ -1,11 +1,11 @@
 //! Steps over calls, as dialogues: what each step asks, and the replies.
 use crate::dialling::names;
 use net_base::{Left, Mode, Octets, Reply, Step};
+use played_task::StepTask;
 use script_task::{Names, Request, Task, settle};
 use std::alloc::{AllocError, Global};
 use std::process::Abort;
 use std::test::*;
-use step_task::StepTask;
 use words::{put_hex_word, read_hex_word, split_first};
 
 // A file is opened over a call, another one isn't, and the first is closed.

@@ -7,7 +7,7 @@ use Rattle.net_base.specs.SessionScript.{AreMessages, Begins, IsStream, table_ne
 use Rattle.net_base.specs.Server.{Answered, Outcome, answers_by, answers_to, outcome_by}
 use Rattle.net_base.specs.Session.{State, first}
 use Rattle.net_base.specs.SessionTable.{IsSound, Table}
-use Rattle.sessions.proofs.Shared.{after_sound}
+use Rattle.session_script.proofs.Shared.{after_sound}
 use Rattle.session_script.proofs.Shared.{none_begins, one_beginning}
 use Rattle.session_answers.specs.Served.{GoesServed, IsLastMessage, IsServedFirst, served}
 use Rattle.session_answers.specs.Told.{session_of}

@@ -15,7 +15,7 @@ use Rattle.net_base.specs.declared.reply.Reply.TheVariants as reply
 use Rattle.net_base.specs.Numeral.{numeral}
 use Rattle.net_base.specs.Transcript.{addr_word, cause_number, ip_word, reply_words}
 use Rattle.net_base.specs.SessionAnswers.{longest_error, printed}
-use Rattle.sessions.proofs.Shared.{has_room, is_short, length_shown}
+use Rattle.session_script.proofs.Shared.{has_room, is_short, length_shown}
 use Rattle.transcript.proofs.Shared.{address_is}
 
 few_shown : (k n : ℕ) → length (digits_of 10 (suc n)) ≤ k → length (numeral (suc n)) ≤ k

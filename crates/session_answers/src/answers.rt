@@ -12,8 +12,7 @@ ghost use Rattle.net_base.specs.Session as spec;
 
 use crate::replies::Replies;
 use crate::session::Session;
-use net_base::{Lines, Octets, Sequence};
-use run_record::Entries;
+use net_base::{Entries, Lines, Octets, Sequence};
 use session_script::{ExportError, first_message};
 use std::alloc::{AllocError, Global};
 

@@ -3,8 +3,7 @@ ghost use Rattle.std.specs.Prelude.{◌≡◌, ◌==◌, ◌&&◌, ◌∷◌, []
 ghost use Rattle.net_base.specs.Next.{own_replies};
 ghost use Rattle.session_answers.specs.Served.{answered_of};
 
-use net_base::{Entry, Reply};
-use run_record::Entries;
+use net_base::{Entries, Entry, Reply};
 use std::marker::Model;
 
 /// The replies to a caller's own events that are left, but for the last one where the caller owes something.

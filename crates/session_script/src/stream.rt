@@ -11,14 +11,14 @@ ghost use Rattle.session_script.specs.Seen.{seen_table};
 ghost use Rattle.session_script.specs.Streams.{TakesBytes};
 
 use crate::fault::ExportError;
+use crate::scripts_can_be_said;
 use crate::steps::step_of;
 use crate::table::Table;
 use byteorder::{ByteOrder, LittleEndian};
 use net_base::{Sequence, Step, StepList};
 use ninep_wire::{NinepError, Tmsg, decode_t};
-use sessions::scripts_can_be_said;
 use std::alloc::{AllocError, Global};
-use world_words::are_bytes;
+use words::are_bytes;
 
 /// The script of a session with these bytes.
 pub fn script_of(alloc: Global, bytes: &[u8]) -> Result<StepList, ExportError>

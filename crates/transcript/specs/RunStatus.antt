@@ -5,8 +5,8 @@ use Rattle.net_base.specs.declared.world.World.{World}
 use Rattle.net_base.specs.Legal.{IsLegal}
 use Rattle.net_base.specs.Net.{after, moment_after}
 use Rattle.net_base.specs.Summary.{steps_line, totals_lines, totals, end_line, end_word, answered_steps, all_steps}
-use Rattle.run_record.specs.declared.end.RunEnd.{RunEnd}
-use Rattle.run_record.specs.declared.end.RunEnd.TheVariants as ends
+use Rattle.net_base.specs.declared.end.RunEnd.{RunEnd}
+use Rattle.net_base.specs.declared.end.RunEnd.TheVariants as ends
 use Rattle.transcript.specs.declared.summary.RunStatus.{RunStatus}
 
 -- the word that an end prints as, or that of a run which hasn't ended

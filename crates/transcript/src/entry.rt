@@ -8,8 +8,7 @@ use crate::event::put_event;
 use crate::line::{put_number, put_with_numbers, put_word};
 use crate::names::{put_actor, put_addr, put_number_or_dash};
 use crate::reply::put_reply;
-use net_base::{BodyHeader, Entry, Header, History, Octets};
-use run_record::Entries;
+use net_base::{BodyHeader, Entries, Entry, Header, History, Octets};
 use std::alloc::{AllocError, Global};
 use words::{kind_word, put_decimal};
 

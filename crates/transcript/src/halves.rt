@@ -5,8 +5,7 @@ ghost use Rattle.net_base.specs.Transcript.{history_text, lines_from};
 ghost use Rattle.transcript.specs.Part.{part};
 
 use crate::entry::text_from;
-use net_base::Octets;
-use run_record::Entries;
+use net_base::{Entries, Octets};
 use std::alloc::{AllocError, Global};
 use std::thread::{Threads, join};
 

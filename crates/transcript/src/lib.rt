@@ -14,7 +14,7 @@ mod totals;
 pub use entry::text_of;
 pub use halves::text_by;
 pub use law::{plain_texts_tell, printed_runs_tell, texts_tell_words};
+pub use net_base::RunEnd;
 pub use reply::put_reply;
-pub use run_record::RunEnd;
 pub use summary::{RunStatus, summary_by};
 pub use totals::{Totals, totals_of};

@@ -5,8 +5,7 @@ ghost use Rattle.net_base.specs.Summary.{summary, steps_line, both_line, end_lin
 ghost use Rattle.transcript.specs.RunStatus.{IsRunStatusOf, status_lines, run_end_word};
 
 use crate::totals::{Totals, totals_of};
-use net_base::{Octets, World};
-use run_record::{Entries, RunEnd};
+use net_base::{Entries, Octets, RunEnd, World};
 use std::alloc::{AllocError, Global};
 use words::put_wide_decimal;
 

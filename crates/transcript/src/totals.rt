@@ -4,8 +4,7 @@ ghost use Rattle.net_base.specs.Net as net;
 ghost use Rattle.net_base.specs.Summary.{sum_over, writes_counted, reads_counted, bytes_written_in, bytes_read_in};
 ghost use Rattle.transcript.specs.RunStatus.{latest_move};
 
-use net_base::{Entry, Event, Reply};
-use run_record::Entries;
+use net_base::{Entries, Entry, Event, Reply};
 
 /// How many messages were written and read, and how many bytes they have; and the moment of the last move, or 0. A read
 /// of no bytes is no message.

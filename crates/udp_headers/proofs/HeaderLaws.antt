@@ -2,7 +2,7 @@
 use Rattle.std.proofs.Common.{◌≡◌, ℕ, ◌≤◌, true, ◌&&◌, List, ◌++◌, length, take, drop, get_or, refl, sym, ap, ◌∙◌, arith}
 use Rattle.std.proofs.lemmas.Slice.Eq.{bytes_eq-Decides}
 use Rattle.std.proofs.lemmas.Bool.{and_parts}
-use Rattle.wire_text.proofs.Shared.{IsBytes, word_again, long_again, word_high, word_low, long_0, long_1, long_2, long_3, items, by_items}
+use Rattle.formats.proofs.Shared.{IsBytes, word_again, long_again, word_high, word_low, long_0, long_1, long_2, long_3, items, by_items}
 use Rattle.net_base.specs.declared.headers.Headers.{Headers}
 use Rattle.net_base.specs.DatagramHeaders.{AreHeaders, SpellsHeaders, all_mapped, headers_bytes, headers_of, is_mapped, mapped_front}
 

@@ -1,4 +1,4 @@
 pub mod Faults
 pub use Rattle.net_base.specs.Bytes
 pub use Rattle.net_base.specs.DatagramHeaders
-pub use Rattle.wire_text.specs.UdpWire
+pub use Rattle.formats.specs.UdpWire

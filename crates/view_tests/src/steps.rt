@@ -4,7 +4,7 @@ ghost use Rattle.net_base.specs.World.{IsWorld};
 use history_reader::read_transcript;
 use net_base::{History, Octets, World};
 use netcheck::check;
-use script_steps::steps_of;
+use replay_views::steps_of;
 use std::alloc::{AllocError, Global};
 use std::process::Abort;
 use world_file::read_world;

@@ -3,6 +3,7 @@
 
 mod actors;
 mod address;
+mod bytes;
 mod hexadecimal;
 mod mask;
 mod names;
@@ -12,6 +13,7 @@ mod spaced;
 
 pub use actors::put_actor;
 pub use address::{address_in, put_address, put_place, read_address};
+pub use bytes::are_bytes;
 pub use hexadecimal::{put_hex_digits, put_hex_word, read_hex_word};
 pub use mask::{mask_bits, mask_of, read_mask};
 pub use names::{

@@ -1,7 +1,7 @@
 -- A text of sessions says one thing.
 use Rattle.std.proofs.Common.{◌≡◌, inl, inr, ℕ, ◌+◌, List, [], ◌∷◌, sym, ◌∙◌, Option, Some, None, Result}
-use Rattle.sessions.specs.declared.world.Session.{Session}
-use Rattle.sessions.specs.declared.world.SessionWorld.{SessionWorld}
+use Rattle.session_script.specs.declared.world.Session.{Session}
+use Rattle.session_script.specs.declared.world.SessionWorld.{SessionWorld}
 use Rattle.world_text.specs.WorldLines.{Bad, Begins, Draft, Goes, Verdict}
 use Rattle.world_text.specs.WorldText.{Cut, cuts_of}
 use Rattle.world_file.specs.SessionText.{ClosesLines, Extends, Feeds, FollowsLine, Judges, OpensSession, Other, Passes, Row, SaysSessions, SaysFrom, ToldLines, opening_told, session_row}

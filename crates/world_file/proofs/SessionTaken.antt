@@ -3,8 +3,8 @@ use Rattle.std.proofs.Common.{◌≡◌, ◌≤◌, ◌<◌, inl, inr, ℕ, ◌+
 use Rattle.std.specs.Prelude.{IfErr, IfOk, is_none, if◌then◌else◌}
 use Rattle.std.proofs.lemmas.Bool.{false≢true}
 use Rattle.std.proofs.lemmas.List.{nil_from_length}
-use Rattle.sessions.specs.declared.world.Session.{Session}
-use Rattle.sessions.specs.declared.world.SessionWorld.{SessionWorld}
+use Rattle.session_script.specs.declared.world.Session.{Session}
+use Rattle.session_script.specs.declared.world.SessionWorld.{SessionWorld}
 use Rattle.net_base.specs.SessionScript.{IsBadStream}
 use Rattle.world_text.specs.declared.line.LineCause.TheVariants as cause
 use Rattle.world_text.specs.LineCauses.{cause_number_of}

@@ -11,9 +11,9 @@ use Rattle.net_base.specs.NdbText.{is_newline, lines_of}
 use Rattle.net_base.specs.World.{IsWorld, all_apart, is_byte}
 use Rattle.net_base.specs.declared.world.Script.{Script}
 use Rattle.net_base.specs.declared.world.World.{World}
-use Rattle.sessions.specs.declared.world.Session.{Session}
-use Rattle.sessions.specs.declared.world.SessionWorld.{SessionWorld}
-use Rattle.sessions.specs.Worlds.{HaveHosts, HaveStreams, same_place}
+use Rattle.session_script.specs.declared.world.Session.{Session}
+use Rattle.session_script.specs.declared.world.SessionWorld.{SessionWorld}
+use Rattle.session_script.specs.Worlds.{HaveHosts, HaveStreams, same_place}
 use Rattle.world_text.specs.LineReading.{read_line}
 use Rattle.world_text.specs.VersionLines.{bad_version_line, versions_in}
 use Rattle.world_text.specs.WorldLines.{Bad, Begins, Draft, Goes, Verdict, after, at_last, empty_script, host_number, line_verdict, opening_draft, world_of}

@@ -9,8 +9,8 @@ use Rattle.net_base.specs.declared.world.Script.{Script}
 use Rattle.net_base.specs.declared.world.Step.{Step}
 use Rattle.net_base.specs.declared.world.World.{World}
 use Rattle.world_text.specs.VersionLines.{bad_version_line}
-use Rattle.sessions.specs.declared.world.Session.{Session}
-use Rattle.sessions.specs.declared.world.SessionWorld.{SessionWorld}
+use Rattle.session_script.specs.declared.world.Session.{Session}
+use Rattle.session_script.specs.declared.world.SessionWorld.{SessionWorld}
 use Rattle.net_base.specs.SessionScript.{IsBadStream, IsScript}
 use Rattle.world_text.specs.declared.line.LineCause.{LineCause}
 use Rattle.world_text.specs.declared.line.LineCause.TheVariants as cause

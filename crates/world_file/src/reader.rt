@@ -14,8 +14,9 @@ use crate::fault::WorldError;
 use crate::versions::read_versions;
 use net_base::World;
 use std::alloc::Global;
+use words::are_bytes;
 use world_text::{worlds_are_spelled, worlds_so_far_are_small};
-use world_words::{LineFault, are_bytes};
+use world_words::LineFault;
 
 /// The world that a text says, or its first bad line. It goes once through the bytes, and copies each at most once.
 pub fn read_world(alloc: Global, bytes: &[u8]) -> Result<World, WorldError>

@@ -2,8 +2,8 @@
 ghost use Rattle.std.specs.Prelude.{◌≡◌, ℕ, List, Result, Ok, true};
 ghost use Rattle.std.specs.List.{list_all};
 ghost use Rattle.net_base.specs.World.{IsWorld, is_byte};
-ghost use Rattle.sessions.specs.declared.world.SessionWorld.{SessionWorld};
-ghost use Rattle.sessions.specs.Worlds.{HaveHosts, HaveStreams};
+ghost use Rattle.session_script.specs.declared.world.SessionWorld.{SessionWorld};
+ghost use Rattle.session_script.specs.Worlds.{HaveHosts, HaveStreams};
 ghost use Rattle.world_file.specs.SessionText.{SaysSessions};
 
 /// A text says one world with sessions, or one bad line.

@@ -3,7 +3,7 @@ ghost use Rattle.std.specs.Prelude.{◌≡◌, ℕ, List, [], ◌∷◌, ◌+◌
 ghost use Rattle.std.specs.List.{last_or};
 ghost use Rattle.std.specs.Option.{option_and_then};
 ghost use Rattle.net_base.specs.World.{IsWorld};
-ghost use Rattle.sessions.specs.Worlds.{HaveHosts, HaveStreams};
+ghost use Rattle.session_script.specs.Worlds.{HaveHosts, HaveStreams};
 ghost use Rattle.world_text.specs.VersionLines.{bad_version_line};
 ghost use Rattle.world_text.specs.LineCauses.{cause_number_of};
 ghost use Rattle.world_text.specs.WorldLines as lines;
@@ -22,13 +22,12 @@ use crate::fault::WorldError;
 use crate::reader::{at_line, cut_line, read_bundles};
 use crate::session_law::sessions_have_places;
 use net_base::{Octets, Sequence};
-use session_script::{ExportError, script_of};
-use sessions::{Session, SessionWorld};
+use session_script::{ExportError, Session, SessionWorld, script_of};
 use std::alloc::{AllocError, Global};
 use std::marker::Model;
-use words::{read_hex_word, single, split_first};
+use words::{are_bytes, read_hex_word, single, split_first};
 use world_text::LineCause;
-use world_words::{LineFault, are_bytes};
+use world_words::LineFault;
 
 /// The world with sessions that a text says, or its first bad line. It goes once through the bytes.
 pub fn read_sessions(alloc: Global, bytes: &[u8]) -> Result<SessionWorld, WorldError>

@@ -1,7 +1,6 @@
 //! Worked queries and their answers.
 use crate::reading::{database, none_wrong, put_found};
-use cs_resolver::CsError;
-use cs_scan::answer;
+use cs_resolver::{CsError, answer};
 use net_base::{Db, Proto};
 use std::alloc::{AllocError, Global};
 

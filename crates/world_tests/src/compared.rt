@@ -1,8 +1,7 @@
 //! The plain program and the index over many databases.
 use crate::answers::WORKED;
 use crate::reading::{database, put_found};
-use cs_resolver::{CsError, answer_indexed};
-use cs_scan::answer;
+use cs_resolver::{CsError, answer, answer_indexed};
 use ndb_index::Index;
 use ndb_search::{closest, search};
 use net_base::{Db, Lines, Proto};

@@ -1,7 +1,7 @@
 //! A made world.
-use made_world::make_world;
 use net_base::World;
 use std::alloc::{AllocError, Global};
+use world_writer::make_world;
 
 /// Whether the scripts of a world have this many steps each.
 fn has_steps(world: &World, first: usize, second: usize) -> bool {

@@ -20,7 +20,7 @@ use Rattle.world_text.specs.LineCauses.{cause_number_of}
 use Rattle.world_text.specs.VersionLines.{at_causes, begins_at, first_bad_version, is_at_line, last_moment, later_versions, moment_of, own_lines, version_causes, versions_in, with_version}
 use Rattle.world_text.specs.WorldSpelling.{IsGoodBundle, LaterText, line_of_moment, lines_of_later, version_said}
 use Rattle.net_base.proofs.Shared.{number-back, number_in-spelled, no_cons}
-use Rattle.ndb_text.proofs.Shared.{cause-none, least-none, told-none, first-good, cause-alone, one_add}
+use Rattle.formats.proofs.Shared.{cause-none, least-none, told-none, first-good, cause-alone, one_add}
 
 -- Causes.
 

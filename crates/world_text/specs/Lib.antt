@@ -8,3 +8,8 @@ pub mod WorldText
 pub mod WorldSpelling
 pub mod WorldRefusal
 pub mod WorldExample
+pub mod Worked
+pub mod WorkedUdp
+pub mod WorkedIl
+pub mod WorkedFaults
+pub mod WorkedRuns

@@ -11,7 +11,7 @@ use Rattle.net_base.specs.declared.world.Step.TheVariants as step
 use Rattle.net_base.specs.declared.world.World.{World}
 use Rattle.net_base.specs.declared.timer.Timers.TheVariants.{Measured}
 use Rattle.net_base.specs.DatagramHeaders.{headers_bytes}
-use Rattle.worked_worlds.specs.Worked.{ip, script_with, small_bundle}
+use Rattle.world_text.specs.Worked.{ip, script_with, small_bundle}
 
 -- The worked world of UDP.
 

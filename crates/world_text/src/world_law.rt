@@ -6,7 +6,7 @@ ghost use Rattle.net_base.specs.declared.world.MediumSpec.{MediumSpec};
 ghost use Rattle.net_base.specs.World.{IsWorld, all_apart, is_byte};
 ghost use Rattle.world_text.specs.VersionLines.{bad_version_line, versions_in};
 ghost use Rattle.net_base.specs.NdbText.{lines_of};
-ghost use Rattle.worked_worlds.specs.WorkedUdp.{datagram_world};
+ghost use Rattle.world_text.specs.WorkedUdp.{datagram_world};
 ghost use Rattle.world_text.specs.declared.line.WorldLine.{WorldLine};
 ghost use Rattle.world_text.specs.LineFit.{is_fit};
 ghost use Rattle.world_text.specs.LineReading.{read_line};

@@ -13,5 +13,5 @@ mod values;
 
 pub use fault::LineFault;
 pub use lines::read_line;
-pub use names::{are_bytes, is_name};
+pub use names::is_name;
 pub use remote_paths::is_remote_path;

@@ -86,8 +86,3 @@ pub(crate) fn is_nets(nets: &[Proto]) -> bool
         _ => false,
     }
 }
-
-/// Each byte is below 256, by its type.
-pub fn are_bytes(bytes: &[u8])
-    ensures { list_all world.is_byte bytes.now ≡ true }
-{}

@@ -6,12 +6,12 @@ ghost use Rattle.world_words.specs.Told.{IsWrong};
 
 use crate::arguments::Arguments;
 use crate::fault::LineFault;
-use crate::names::{are_bytes, is_name, is_text, is_word};
+use crate::names::{is_name, is_text, is_word};
 use crate::remote_paths::is_remote_path;
 use net_base::{Mode, Octets};
 use std::alloc::Global;
 use udp_headers::decode_headers;
-use words::{mode_named, number_in, read_hex_word};
+use words::{are_bytes, mode_named, number_in, read_hex_word};
 use world_text::LineCause;
 
 impl<'a> Arguments<'a> {

@@ -3,7 +3,7 @@ ghost use Rattle.std.specs.Prelude.{◌≡◌, ◌∷◌, ◌^◌, ◌<◌, [], 
 ghost use Rattle.net_actors.specs.Numbers.{is_actor_among};
 ghost use Rattle.host_tests.specs.Tried.{tried_host, tried_medium, tried_world};
 
-use ndb_versions::IndexedVersions;
+use ndb_index::IndexedVersions;
 use net_actors::{Actors, Due};
 use net_base::{
     ActorName, Db, Fates, HostSpec, Hosts, Iface, Ifaces, Media, MediumSpec, Nets, Octets, Proto,

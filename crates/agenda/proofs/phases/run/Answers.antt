@@ -2,7 +2,7 @@ use Rattle.std.proofs.Common.{List, sym, subst}
 use Rattle.net_base.specs.declared.history.Entry.{Entry}
 use Rattle.net_base.specs.Legal.{IsLegal, IsTimed}
 use Rattle.net_base.specs.Net.{after}
-use Rattle.run_record.specs.Ends.{EndsSo}
+use Rattle.net_base.specs.Ends.{EndsSo}
 use Rattle.agenda.proofs.phases.run.Goals as goal
 
 pub returns-clause-legal : goal.returns-clause-legal

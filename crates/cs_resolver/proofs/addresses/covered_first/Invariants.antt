@@ -1,6 +1,6 @@
 use Rattle.std.proofs.Common.{◌≡◌, ◌++◌, not, take}
 use Rattle.std.specs.Prelude.{filter}
-use Rattle.ndb_tuple.specs.Prefixes.{covers}
+use Rattle.ndb_search.specs.Prefixes.{covers}
 use Rattle.cs_resolver.proofs.addresses.covered_first.Given as goal
 
 abbrev pub invariant-loop-ip : goal.invariant-loop-ip

@@ -1,5 +1,5 @@
 use Rattle.std.proofs.Common.{arith}
-use Rattle.cs_resolver.proofs.Once.{once_more}
+use Rattle.ndb_search.proofs.Shared.{once_more}
 use Rattle.cs_resolver.proofs.addresses.many_once.Goals as goal
 
 pub loop-number-preserved : goal.loop-number-preserved

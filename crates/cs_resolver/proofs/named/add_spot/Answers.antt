@@ -1,4 +1,4 @@
-use Rattle.ndb_tuple.specs.declared.numbers.Kind.TheVariants.{Address}
+use Rattle.ndb_search.specs.declared.tuple_numbers.Kind.TheVariants.{Address}
 use Rattle.cs_resolver.specs.Probes.{numbers_at}
 use Rattle.cs_resolver.proofs.Gathered.{gathers_known, spots_more, spots_again, was_there}
 use Rattle.cs_resolver.proofs.named.add_spot.Goals as goal

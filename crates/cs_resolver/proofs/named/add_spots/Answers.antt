@@ -2,7 +2,7 @@ use Rattle.std.proofs.Common.{List, arith, subst}
 use Rattle.std.specs.Prelude.{flat_map}
 use Rattle.std.proofs.lemmas.List.{take_all}
 use Rattle.net_base.specs.declared.ndb.spot.Spot.{Spot}
-use Rattle.ndb_tuple.specs.declared.numbers.Kind.TheVariants.{Address}
+use Rattle.ndb_search.specs.declared.tuple_numbers.Kind.TheVariants.{Address}
 use Rattle.cs_resolver.specs.Gathering.{Gathers}
 use Rattle.cs_resolver.specs.Probes.{numbers_at}
 use Rattle.cs_resolver.proofs.Gathered.{gathers_none, gathers_more}

@@ -1,6 +1,6 @@
 use Rattle.std.proofs.Common.{◌+◌, ◌≤◌, take}
 use Rattle.std.specs.Prelude.{flat_map}
-use Rattle.ndb_tuple.specs.declared.numbers.Kind.TheVariants.{Address}
+use Rattle.ndb_search.specs.declared.tuple_numbers.Kind.TheVariants.{Address}
 use Rattle.cs_resolver.specs.Gathering.{Gathers, TuplesRead, SpotsRead}
 use Rattle.cs_resolver.specs.Probes.{numbers_at}
 use Rattle.cs_resolver.proofs.named.add_spots.Given as goal

@@ -1,8 +1,8 @@
 use Rattle.std.proofs.Common.{List, ℕ, ◌++◌, sym, ap, ◌∙◌, arith, length, get_or, []}
 use Rattle.std.specs.List.{list_any}
 use Rattle.net_base.specs.Search.{has_attr}
-use Rattle.ndb_tuple.specs.declared.numbers.Kind.TheVariants.{Address}
-use Rattle.ndb_tuple.specs.Numbers.{numbers_in}
+use Rattle.ndb_search.specs.declared.tuple_numbers.Kind.TheVariants.{Address}
+use Rattle.ndb_search.specs.Numbers.{numbers_in}
 use Rattle.cs_resolver.specs.Probes.{numbers_at}
 use Rattle.cs_resolver.proofs.AtSpots.{Lines}
 use Rattle.cs_resolver.proofs.Gathered.{gather_line, gather_tuple, gather_again, gather_behind, tuples_stay, tuples_more, tuples_again, was_there}

@@ -4,7 +4,7 @@ use Rattle.net_base.specs.Callers.{caller_of}
 use Rattle.net_base.specs.Next.{next_by}
 use Rattle.net_base.specs.Steps.{Names}
 use Rattle.net_base.specs.Requests.{planned}
-use Rattle.thread_laws.specs.Works.{entries}
+use Rattle.net_locks.specs.Works.{entries}
 use Rattle.net_locks.specs.Standings.{standing_ask}
 use Rattle.host_net.specs.Playing.{Playing}
 use Rattle.net_guests.specs.Visits.{Visit}

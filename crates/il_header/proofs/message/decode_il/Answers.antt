@@ -1,5 +1,5 @@
 use Rattle.std.proofs.Common.{◌∙◌, arith}
-use Rattle.wire_text.proofs.Shared.{IsSoundIl, spells_il_sound, spells_message, spells_sport, spells_dport, spells_il_read}
+use Rattle.formats.proofs.Shared.{IsSoundIl, spells_il_sound, spells_message, spells_sport, spells_dport, spells_il_read}
 use Rattle.il_header.proofs.message.decode_il.Goals as goal
 
 pub returns-then-bytes-lt-HEADER-clause-only : goal.returns-then-bytes-lt-HEADER-clause-only

@@ -1,6 +1,6 @@
 use Rattle.std.proofs.Common.{◌≡◌, ℕ, List, ◌+◌, ◌++◌, length, drop, sym, ap, arith}
 use Rattle.std.proofs.lemmas.List.{length-take-le}
-use Rattle.wire_text.specs.IlWire.{il_with}
+use Rattle.formats.specs.IlWire.{il_with}
 use Rattle.il_header.proofs.Encoded.{encoded, spells_encoded}
 use Rattle.il_header.proofs.message.encode_il.Goals as goal
 

@@ -1,6 +1,6 @@
 use Rattle.std.proofs.Common.{sym, ap, ◌∙◌, drop, arith}
-use Rattle.wire_text.specs.Sum.{sum_of}
-use Rattle.wire_text.proofs.Shared.{IsBytes-drop, sum_of-zeros}
+use Rattle.formats.specs.Sum.{sum_of}
+use Rattle.formats.proofs.Shared.{IsBytes-drop, sum_of-zeros}
 use Rattle.il_header.proofs.message.sum_of_message.Goals as goal
 
 pub returns : goal.returns

@@ -1,5 +1,5 @@
 use Rattle.std.proofs.Common.{◌≡◌, ◌+◌, ◌*◌, ◌≤◌, length, sum}
-use Rattle.wire_text.specs.Sum.{words}
+use Rattle.formats.specs.Sum.{words}
 use Rattle.ip_wire.proofs.checksum.add_words.Given as goal
 
 abbrev pub invariant-loop-rest : goal.invariant-loop-rest

@@ -1,5 +1,5 @@
 use Rattle.std.proofs.Common.{◌≡◌, ◌-◌, sym, ap, ◌∙◌, sum, zero-add, arith, ℕ}
-use Rattle.wire_text.specs.Sum.{words}
+use Rattle.formats.specs.Sum.{words}
 use Rattle.ip_wire.specs.Carries.{around}
 use Rattle.ip_wire.proofs.Carrying.{sum_of-words}
 use Rattle.ip_wire.proofs.checksum.sum.Goals as goal

@@ -1,5 +1,5 @@
 use Rattle.std.proofs.Common.{arith, ◌∙◌}
-use Rattle.wire_text.proofs.Shared.{spells_ipv4_sound, spells_header, spells_payload, spells_ipv4_read}
+use Rattle.formats.proofs.Shared.{spells_ipv4_sound, spells_header, spells_payload, spells_ipv4_read}
 use Rattle.ip_wire.proofs.ip.decode_ip.Goals as goal
 
 pub returns-then-bytes-lt-HEADER-clause-only : goal.returns-then-bytes-lt-HEADER-clause-only

@@ -1,6 +1,6 @@
 use Rattle.std.proofs.Common.{◌+◌, ◌++◌, false, length, take, drop, refl, sym, ap, ◌∙◌, arith}
 use Rattle.std.proofs.lemmas.List.{length-take-le, take_at}
-use Rattle.wire_text.specs.Ipv4.{summed, flagged_bytes}
+use Rattle.formats.specs.Ipv4.{summed, flagged_bytes}
 use Rattle.ip_wire.specs.Headers.{view}
 use Rattle.net_base.proofs.Shared.{laid}
 use Rattle.ip_wire.proofs.ip.encode_ip.Goals as goal

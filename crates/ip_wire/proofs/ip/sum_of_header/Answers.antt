@@ -1,6 +1,6 @@
 use Rattle.std.proofs.Common.{◌≡◌, ℕ, ◌+◌, ◌-◌, take, drop, sum, sym, ap, ◌∙◌, zero-add, arith}
 use Rattle.std.proofs.lemmas.List.{length-take}
-use Rattle.wire_text.specs.Sum.{words}
+use Rattle.formats.specs.Sum.{words}
 use Rattle.ip_wire.specs.Carries.{around}
 use Rattle.ip_wire.proofs.HeaderSum.{header_sum-parts}
 use Rattle.ip_wire.proofs.ip.sum_of_header.Goals as goal

@@ -1,6 +1,6 @@
 use Rattle.std.proofs.Common.{◌≡◌, ◌⊎◌, arith, sym, ◌∙◌, inl, inr}
-use Rattle.wire_text.specs.UdpWire.{address, sum_field, received_sum}
-use Rattle.wire_text.proofs.Shared.{IsSoundUdp, spells_udp_sound, spells_fields, spells_udp_read}
+use Rattle.formats.specs.UdpWire.{address, sum_field, received_sum}
+use Rattle.formats.proofs.Shared.{IsSoundUdp, spells_udp_sound, spells_fields, spells_udp_read}
 use Rattle.ip_wire.proofs.udp.decode_udp.Goals as goal
 use Rattle.ip_wire.proofs.udp.decode_udp.Goals.{else-field-ne0-via-then-field-ne0+else-field-sum_between, else-field-ne0-via-else-field-ne0}
 

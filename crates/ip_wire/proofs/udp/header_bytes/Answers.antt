@@ -1,5 +1,5 @@
 use Rattle.std.proofs.Common.{◌≡◌, ap, ◌∙◌, arith}
-use Rattle.wire_text.specs.UdpWire.{sent_sum, udp_sum, udp_bytes}
+use Rattle.formats.specs.UdpWire.{sent_sum, udp_sum, udp_bytes}
 use Rattle.ip_wire.proofs.UdpSum.{udp_sum-parts}
 use Rattle.ip_wire.proofs.udp.header_bytes.Goals as goal
 

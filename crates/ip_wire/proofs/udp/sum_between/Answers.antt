@@ -1,5 +1,5 @@
 use Rattle.std.proofs.Common.{ap, ◌∙◌, arith}
-use Rattle.wire_text.specs.UdpWire.{sent_sum}
+use Rattle.formats.specs.UdpWire.{sent_sum}
 use Rattle.ip_wire.proofs.UdpSum.{received_sum-parts}
 use Rattle.ip_wire.proofs.udp.sum_between.Goals as goal
 

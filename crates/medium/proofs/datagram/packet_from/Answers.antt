@@ -1,8 +1,8 @@
 use Rattle.std.proofs.Common.{subst}
 use Rattle.ip_wire.specs.Headers.{view}
 use Rattle.il_header.specs.Views.{message_in}
-use Rattle.wire_text.specs.Ipv4.{SpellsIpv4}
-use Rattle.wire_text.specs.Datagram.{header_for, body_bytes, datagram_packet}
+use Rattle.formats.specs.Ipv4.{SpellsIpv4}
+use Rattle.formats.specs.Datagram.{header_for, body_bytes, datagram_packet}
 use Rattle.medium.specs.Spelled.{HasText}
 use Rattle.medium.proofs.Bodies.{HoldsIl, HoldsUdp, ipv4_in, il_in, udp_in, ok_of, on_err, il_read, udp_read}
 use Rattle.medium.proofs.datagram.packet_from.Goals as goal

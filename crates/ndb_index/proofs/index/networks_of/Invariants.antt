@@ -1,7 +1,7 @@
 use Rattle.std.proofs.Common.{◌≡◌, ℕ, nat_eq, take}
 use Rattle.std.specs.List.{list_any}
-use Rattle.ndb_tuple.specs.declared.prefixes.Prefix.{Prefix}
-use Rattle.ndb_tuple.specs.Places.{tuple_places}
+use Rattle.ndb_search.specs.declared.prefixes.Prefix.{Prefix}
+use Rattle.ndb_search.specs.Places.{tuple_places}
 use Rattle.ndb_index.specs.Nets.{has_prefix, has_length, places_kept}
 use Rattle.ndb_index.proofs.index.networks_of.Given as goal
 

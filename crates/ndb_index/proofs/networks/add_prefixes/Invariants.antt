@@ -1,5 +1,5 @@
 use Rattle.std.proofs.Common.{◌≡◌, ℕ, ◌||◌, take}
-use Rattle.ndb_tuple.specs.Prefixes.{covers}
+use Rattle.ndb_search.specs.Prefixes.{covers}
 use Rattle.ndb_index.specs.Nets.{is_covered}
 use Rattle.ndb_index.proofs.networks.add_prefixes.Given as goal
 

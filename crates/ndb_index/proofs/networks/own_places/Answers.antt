@@ -1,7 +1,7 @@
 use Rattle.std.proofs.Common.{◌≡◌, ◌-◌, ◌++◌, sym, ap, ◌∙◌, arith, List, ℕ, append-nil}
 use Rattle.std.specs.Prelude.{flat_map}
 use Rattle.std.specs.List.{range_with_len}
-use Rattle.ndb_tuple.proofs.Shared.{range_more}
+use Rattle.ndb_search.proofs.Shared.{range_more}
 use Rattle.ndb_index.specs.Nets.{own_places}
 use Rattle.ndb_index.proofs.Own.{none_own}
 use Rattle.ndb_index.proofs.networks.own_places.Goals as goal

@@ -1,7 +1,7 @@
 use Rattle.std.proofs.Common.{◌∙◌, ap, arith, ℕ, Bool, false}
 use Rattle.std.specs.List.{list_any}
 use Rattle.std.proofs.lemmas.List.{take_all}
-use Rattle.ndb_tuple.proofs.Shared.{covers_none}
+use Rattle.ndb_search.proofs.Shared.{covers_none}
 use Rattle.ndb_index.specs.Nets.{is_covered}
 use Rattle.ndb_index.proofs.Covering.{or_more}
 use Rattle.ndb_index.proofs.networks.prefixes_of.Goals as goal

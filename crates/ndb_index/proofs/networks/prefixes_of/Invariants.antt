@@ -1,6 +1,6 @@
 use Rattle.std.proofs.Common.{◌≡◌, ℕ, take}
 use Rattle.std.specs.List.{list_any}
-use Rattle.ndb_tuple.specs.Prefixes.{covers}
+use Rattle.ndb_search.specs.Prefixes.{covers}
 use Rattle.ndb_index.specs.Nets.{is_covered}
 use Rattle.ndb_index.proofs.networks.prefixes_of.Given as goal
 

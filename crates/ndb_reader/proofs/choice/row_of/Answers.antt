@@ -1,6 +1,6 @@
 use Rattle.std.proofs.Common.{◌+◌, ◌-◌, refl, map, ap, ◌∙◌, arith}
 use Rattle.std.proofs.lemmas.List.{length-map}
-use Rattle.ndb_chains.specs.Chains.{first_in}
+use Rattle.ndb_reader.specs.Chains.{first_in}
 use Rattle.ndb_reader.specs.Filed.{files_of}
 use Rattle.ndb_reader.specs.Names.{names_seen, name_bucket}
 use Rattle.ndb_reader.proofs.Chained.{number_of, walk-none, walk-within, walk-next, walk-all}

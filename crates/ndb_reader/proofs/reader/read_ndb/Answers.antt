@@ -15,7 +15,7 @@ use Rattle.ndb_reader.specs.Filed.{filed}
 use Rattle.ndb_reader.proofs.Headed.{any_part}
 use Rattle.ndb_reader.proofs.Reading.{Next, read-bad, reading-is, tells-of}
 use Rattle.ndb_reader.proofs.Turns.{Reads, Turn, reads-none, turn-blank, turn-on, turn-start, turn-file, turns-end}
-use Rattle.ndb_text.specs.NdbSpelling.{ReadsBundle}
+use Rattle.formats.specs.NdbSpelling.{ReadsBundle}
 use Rattle.ndb_reader.proofs.Bundles.{bundle-is-spelled}
 use Rattle.ndb_reader.proofs.reader.read_ndb.Goals as goal
 

@@ -1,9 +1,9 @@
 use Rattle.std.proofs.Common.{[], map, sym, ap, ◌∙◌, unwrap_or}
 use Rattle.std.specs.Option.{option_or}
 use Rattle.net_base.specs.Networks.{Network, longest_first, own_networks}
-use Rattle.ndb_tuple.specs.Closest.{first_filled}
-use Rattle.ndb_tuple.specs.Prefixes.{network_seen}
-use Rattle.ndb_tuple.proofs.Shared.{near_is}
+use Rattle.ndb_search.specs.Closest.{first_filled}
+use Rattle.ndb_search.specs.Prefixes.{network_seen}
+use Rattle.ndb_search.proofs.NonEmpty.{near_is}
 use Rattle.ndb_search.proofs.near.closest.Goals as goal
 
 pub returns-in-Some : goal.returns-in-Some

@@ -1,6 +1,6 @@
 use Rattle.std.proofs.Common.{◌≡◌, None, take, map}
-use Rattle.ndb_tuple.specs.Closest.{first_filled}
-use Rattle.ndb_tuple.specs.Prefixes.{network_seen}
+use Rattle.ndb_search.specs.Closest.{first_filled}
+use Rattle.ndb_search.specs.Prefixes.{network_seen}
 use Rattle.ndb_search.proofs.near.closest_among.Given as goal
 
 abbrev pub invariant-loop-network : goal.invariant-loop-network

@@ -2,8 +2,8 @@ use Rattle.std.proofs.Common.{[], sym, ◌∙◌, arith, ◌<◌, length}
 use Rattle.std.specs.Prelude.{codes}
 use Rattle.net_base.specs.Search.{tuples_with}
 use Rattle.net_base.proofs.Shared.{own-default}
-use Rattle.ndb_tuple.specs.Closest.{first_filled}
-use Rattle.ndb_tuple.proofs.Shared.{of-all}
+use Rattle.ndb_search.specs.Closest.{first_filled}
+use Rattle.ndb_search.proofs.Behind.{of-all}
 use Rattle.ndb_search.proofs.Nearest.{of_here, of_empty, of_other}
 use Rattle.ndb_search.proofs.near.closest_of.Goals as goal
 

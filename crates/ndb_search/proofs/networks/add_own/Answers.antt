@@ -1,6 +1,6 @@
 use Rattle.std.proofs.Common.{map, ◌++◌, ◌∷◌, [], sym, ap, ◌∙◌, arith, append_assoc, append-nil}
 use Rattle.std.proofs.lemmas.List.{map-append}
-use Rattle.ndb_tuple.specs.Prefixes.{network_seen}
+use Rattle.ndb_search.specs.Prefixes.{network_seen}
 use Rattle.ndb_search.proofs.Owned.{none_at, own_more, own_less}
 use Rattle.ndb_search.proofs.networks.add_own.Goals as goal
 

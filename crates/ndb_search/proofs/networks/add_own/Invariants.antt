@@ -1,5 +1,5 @@
 use Rattle.std.proofs.Common.{◌≡◌, ◌++◌, take, map}
-use Rattle.ndb_tuple.specs.Prefixes.{network_seen}
+use Rattle.ndb_search.specs.Prefixes.{network_seen}
 use Rattle.ndb_search.specs.Own.{own_at}
 use Rattle.ndb_search.proofs.networks.add_own.Given as goal
 

@@ -1,9 +1,9 @@
 use Rattle.std.proofs.Common.{ℕ, List, [], ◌++◌, sym, ap, ◌∙◌, arith, ◌<◌, length}
 use Rattle.net_base.specs.Networks.{addresses_of}
 use Rattle.net_base.proofs.Shared.{own-default}
-use Rattle.ndb_tuple.specs.Numbers.{numbers_in}
-use Rattle.ndb_tuple.specs.declared.numbers.Kind.TheVariants.{Address}
-use Rattle.ndb_tuple.proofs.Shared.{of-all}
+use Rattle.ndb_search.specs.Numbers.{numbers_in}
+use Rattle.ndb_search.specs.declared.tuple_numbers.Kind.TheVariants.{Address}
+use Rattle.ndb_search.proofs.Behind.{of-all}
 use Rattle.ndb_search.proofs.Owned.{addresses_more, addresses_less}
 use Rattle.ndb_search.proofs.networks.addresses_of.Goals as goal
 

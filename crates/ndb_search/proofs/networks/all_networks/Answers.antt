@@ -2,7 +2,7 @@ use Rattle.std.proofs.Common.{[], arith, ◌<◌, length}
 use Rattle.std.specs.Prelude.{filter_map}
 use Rattle.net_base.specs.Networks.{network_of}
 use Rattle.net_base.proofs.Shared.{own-default}
-use Rattle.ndb_tuple.proofs.Shared.{of-all}
+use Rattle.ndb_search.proofs.Behind.{of-all}
 use Rattle.ndb_search.proofs.Owned.{network_more, network_less}
 use Rattle.ndb_search.proofs.networks.all_networks.Goals as goal
 

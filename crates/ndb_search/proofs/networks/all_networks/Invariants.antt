@@ -1,7 +1,7 @@
 use Rattle.std.proofs.Common.{◌≡◌, take, map}
 use Rattle.std.specs.Prelude.{filter_map}
 use Rattle.net_base.specs.Networks.{network_of}
-use Rattle.ndb_tuple.specs.Prefixes.{network_seen}
+use Rattle.ndb_search.specs.Prefixes.{network_seen}
 use Rattle.ndb_search.proofs.networks.all_networks.Given as goal
 
 abbrev pub invariant-loop-place : goal.invariant-loop-place

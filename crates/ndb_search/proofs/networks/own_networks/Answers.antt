@@ -2,9 +2,9 @@ use Rattle.std.proofs.Common.{◌≡◌, ◌-◌, ◌++◌, arith, map, ap, sym,
 use Rattle.std.specs.Prelude.{flat_map}
 use Rattle.std.specs.List.{range_with_len}
 use Rattle.net_base.specs.Networks.{Network, addresses_of}
-use Rattle.ndb_tuple.specs.Prefixes.{network_seen}
+use Rattle.ndb_search.specs.Prefixes.{network_seen}
 use Rattle.ndb_search.specs.Own.{own_at}
-use Rattle.ndb_tuple.proofs.Shared.{range_more}
+use Rattle.ndb_search.proofs.Firsts.{range_more}
 use Rattle.ndb_search.proofs.networks.own_networks.Goals as goal
 
 pub loop-ones-preserved : goal.loop-ones-preserved

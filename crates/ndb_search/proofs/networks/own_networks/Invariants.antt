@@ -1,7 +1,7 @@
 use Rattle.std.proofs.Common.{◌≡◌, ◌-◌, map}
 use Rattle.std.specs.Prelude.{flat_map}
 use Rattle.std.specs.List.{range_with_len}
-use Rattle.ndb_tuple.specs.Prefixes.{network_seen}
+use Rattle.ndb_search.specs.Prefixes.{network_seen}
 use Rattle.ndb_search.specs.Own.{own_at}
 use Rattle.ndb_search.proofs.networks.own_networks.Given as goal
 

@@ -1,7 +1,8 @@
 use Rattle.std.proofs.Common.{ℕ, List, [], ◌++◌, sym, ap, ◌∙◌, arith, ◌<◌, length}
 use Rattle.net_base.proofs.Shared.{own-default}
-use Rattle.ndb_tuple.specs.Numbers.{numbers_near, numbers_found}
-use Rattle.ndb_tuple.proofs.Shared.{of-all, found_more, found_less}
+use Rattle.ndb_search.specs.Numbers.{numbers_near, numbers_found}
+use Rattle.ndb_search.proofs.Behind.{of-all}
+use Rattle.ndb_search.proofs.FoundNumbers.{found_more, found_less}
 use Rattle.ndb_search.proofs.numbers.numbers_found.Goals as goal
 
 pub loop-place-preserved : goal.loop-place-preserved

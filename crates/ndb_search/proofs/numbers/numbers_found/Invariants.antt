@@ -1,5 +1,5 @@
 use Rattle.std.proofs.Common.{◌≡◌, take}
-use Rattle.ndb_tuple.specs.Numbers.{numbers_found}
+use Rattle.ndb_search.specs.Numbers.{numbers_found}
 use Rattle.ndb_search.proofs.numbers.numbers_found.Given as goal
 
 abbrev pub invariant-loop-place : goal.invariant-loop-place

@@ -2,8 +2,8 @@ use Rattle.std.proofs.Common.{◌≡◌, ◌++◌, sym, ap, ◌∙◌, arith, ap
 use Rattle.std.specs.Prelude.{filter_map}
 use Rattle.std.proofs.lemmas.List.{at_drop_all}
 use Rattle.net_base.specs.Search.{tuple_has}
-use Rattle.ndb_tuple.specs.Places.{tuple_places, places_with}
-use Rattle.ndb_tuple.proofs.Shared.{places_found}
+use Rattle.ndb_search.specs.Places.{tuple_places, places_with}
+use Rattle.ndb_search.proofs.Found.{places_found}
 use Rattle.ndb_search.proofs.places.search.Goals as goal
 
 pub returns-clause-tuples : goal.returns-clause-tuples

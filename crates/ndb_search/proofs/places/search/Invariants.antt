@@ -1,6 +1,6 @@
 use Rattle.std.proofs.Common.{◌≡◌, ◌++◌, drop}
 use Rattle.net_base.specs.Search.{tuple_has}
-use Rattle.ndb_tuple.specs.Places.{tuple_places}
+use Rattle.ndb_search.specs.Places.{tuple_places}
 use Rattle.ndb_search.proofs.places.search.Given as goal
 
 abbrev pub invariant-loop-place : goal.invariant-loop-place

@@ -1,7 +1,7 @@
 use Rattle.std.proofs.Common.{List, sym, subst, ◌∙◌}
 use Rattle.net_base.specs.declared.world.Script.{Script}
 use Rattle.net_base.specs.World.{IsWorld}
-use Rattle.sessions.specs.Worlds.{IsTranslated}
+use Rattle.session_script.specs.Worlds.{IsTranslated}
 use Rattle.net_export.proofs.Placing.{Placing, all_placed, has_place, is_world, past_all, placing_more, placing_none, session_at, stream_at}
 use Rattle.net_export.proofs.translated.translate.Goals as goal
 

@@ -1,4 +1,4 @@
-use Rattle.ndb_text.proofs.Shared.{file_reads_once}
+use Rattle.formats.proofs.Shared.{file_reads_once}
 use Rattle.net_model.proofs.ndb_law.files_read_once.Goals as goal
 
 pub returns : goal.returns

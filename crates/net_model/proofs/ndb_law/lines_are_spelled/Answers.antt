@@ -1,6 +1,6 @@
 use Rattle.std.proofs.Common.{true}
 use Rattle.net_base.specs.NdbText.{goes_on}
-use Rattle.ndb_text.proofs.Shared.{line_reads, line_has_no_cause, line_is_spelled}
+use Rattle.formats.proofs.Shared.{line_reads, line_has_no_cause, line_is_spelled}
 use Rattle.net_model.proofs.ndb_law.lines_are_spelled.Goals as goal
 use Rattle.net_base.proofs.Shared.{and_none}
 

@@ -1,5 +1,5 @@
 use Rattle.net_base.specs.NdbBundle.{reading}
-use Rattle.ndb_text.proofs.Shared.{some_once}
+use Rattle.formats.proofs.Shared.{some_once}
 use Rattle.net_model.proofs.ndb_law.texts_read_once.Goals as goal
 
 pub returns : goal.returns

@@ -1,4 +1,4 @@
-use Rattle.ndb_text.proofs.Shared.{words_of-plain}
+use Rattle.formats.proofs.Shared.{words_of-plain}
 use Rattle.net_model.proofs.ndb_law.words_without_quotes.Goals as goal
 
 pub returns : goal.returns

@@ -1,5 +1,5 @@
 use Rattle.std.proofs.Common.{refl}
-use Rattle.made_world.specs.Made.{made_world}
+use Rattle.world_writer.specs.Made.{made_world}
 use Rattle.net_model.proofs.WorldBack.{only-whole}
 use Rattle.net_model.proofs.world_law.made_worlds_read_back.Goals as goal
 

@@ -1,8 +1,8 @@
 use Rattle.std.proofs.Common.{Some, ap, sym, ◌∙◌}
 use Rattle.netsh.specs.Commands.{command_read}
 use Rattle.netsh.specs.declared.command.Command.{Command}
-use Rattle.command_line.proofs.Shared.{ends_told}
-use Rattle.commands.specs.Built.{asking}
+use Rattle.net_model.proofs.Shared.{ends_told}
+use Rattle.netsh.specs.Built.{asking}
 use Rattle.netsh.proofs.Endings.{words_answered}
 use Rattle.netsh.proofs.top.ask_words.Goals as goal
 

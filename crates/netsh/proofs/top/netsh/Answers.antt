@@ -1,6 +1,6 @@
 use Rattle.std.proofs.Common.{map, refl, string_bytes, sym}
-use Rattle.command_line.proofs.Shared.{ends_told}
-use Rattle.commands.specs.Built.{asking}
+use Rattle.net_model.proofs.Shared.{ends_told}
+use Rattle.netsh.specs.Built.{asking}
 use Rattle.netsh.proofs.RunWords.{export_within, workers_within}
 use Rattle.netsh.proofs.Statuses.{causes_of}
 use Rattle.netsh.proofs.top.netsh.Goals as goal

@@ -1,7 +1,7 @@
 use Rattle.std.proofs.Common.{Err, ap, sym, ◌∙◌}
 use Rattle.std.proofs.lemmas.Result.{err_from_is_err_and}
-use Rattle.command_line.proofs.Shared.{answered_failed}
-use Rattle.commands.specs.Built.{asking}
+use Rattle.net_model.proofs.Shared.{answered_failed}
+use Rattle.netsh.specs.Built.{asking}
 use Rattle.netsh.proofs.top.read_and_answer.Goals as goal
 
 pub returns-in_err-input-clause-answered : goal.returns-in_err-input-clause-answered

@@ -1,6 +1,6 @@
 use Rattle.std.proofs.Common.{refl, sym}
-use Rattle.command_line.specs.Ends.{no_row}
-use Rattle.command_line.proofs.Shared.{ends_told}
+use Rattle.net_model.specs.Ends.{no_row}
+use Rattle.net_model.proofs.Shared.{ends_told}
 use Rattle.netview.specs.Views.{asking}
 use Rattle.netview.proofs.Statuses.{causes_of, words_ended}
 use Rattle.netview.proofs.top.netview.Goals as goal

@@ -1,6 +1,6 @@
 use Rattle.std.proofs.Common.{Err, ap, refl, ◌∙◌}
 use Rattle.std.proofs.lemmas.Result.{err_from_is_err_and}
-use Rattle.command_line.proofs.Shared.{answered_failed}
+use Rattle.net_model.proofs.Shared.{answered_failed}
 use Rattle.netview.specs.Views.{asking}
 use Rattle.netview.proofs.top.read_and_answer.Goals as goal
 

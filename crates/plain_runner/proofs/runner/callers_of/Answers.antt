@@ -2,7 +2,7 @@ use Rattle.std.proofs.Common.{◌+◌, ℕ, List, length, slice_get, ◌≡◌, 
 use Rattle.net_base.specs.declared.world.Script.{Script}
 use Rattle.net_base.specs.Callers.{clock_number}
 use Rattle.net_actors.proofs.Shared.{some_versions}
-use Rattle.calm_laws.proofs.Shared.{clock_is, courier_is}
+use Rattle.history_laws.proofs.Shared.{clock_is, courier_is}
 use Rattle.plain_runner.proofs.Opening.{AreFirst, all_callers, few_media, none_yet, one_more}
 use Rattle.plain_runner.proofs.Recorded.{got}
 use Rattle.plain_runner.proofs.runner.callers_of.Goals as goal

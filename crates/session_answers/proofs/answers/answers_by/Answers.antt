@@ -3,7 +3,7 @@ use Rattle.std.proofs.lemmas.Bool.Decides.{nat_tests}
 use Rattle.session_answers.specs.Served.{IsLastMessage, IsServedFirst, answered_of, session_state}
 use Rattle.session_answers.proofs.Answering.{answered_all, answered_last, answered_one, begun}
 use Rattle.session_answers.proofs.Told.{answers_are}
-use Rattle.sessions.proofs.Shared.{opening_sound}
+use Rattle.session_script.proofs.Shared.{opening_sound}
 use Rattle.net_base.specs.Session.{State}
 use Rattle.net_base.specs.SessionTable.{IsSound}
 use Rattle.session_answers.proofs.answers.answers_by.Goals as goal

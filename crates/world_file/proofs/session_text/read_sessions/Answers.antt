@@ -1,6 +1,6 @@
 use Rattle.net_base.specs.World.{IsWorld}
-use Rattle.sessions.specs.declared.world.SessionWorld.{SessionWorld}
-use Rattle.sessions.specs.Worlds.{HaveHosts, HaveStreams}
+use Rattle.session_script.specs.declared.world.SessionWorld.{SessionWorld}
+use Rattle.session_script.specs.Worlds.{HaveHosts, HaveStreams}
 use Rattle.world_file.proofs.SessionTaken.{holds}
 use Rattle.world_file.proofs.session_text.read_sessions.Goals as goal
 

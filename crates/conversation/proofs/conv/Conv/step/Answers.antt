@@ -1,6 +1,6 @@
 use Rattle.std.proofs.Common.{ap, ◌∙◌}
 use Rattle.conversation.specs.Kept.{as_step}
-use Rattle.table_laws.proofs.Shared.{conv_copies}
+use Rattle.history_laws.proofs.Shared.{conv_copies}
 use Rattle.conversation.proofs.conv.Conv.step.Goals as goal
 
 pub returns-clause-copy : goal.returns-clause-copy

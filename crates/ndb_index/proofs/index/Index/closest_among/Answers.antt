@@ -1,7 +1,7 @@
 use Rattle.std.proofs.Common.{[], ◌∷◌, refl, sym, ap, ◌∙◌, arith, List, ℕ, get_or}
 use Rattle.std.proofs.lemmas.List.{take_all}
 use Rattle.std.proofs.lemmas.Bool.Decides.{nat_tests}
-use Rattle.ndb_tuple.specs.Closest.{first_filled}
+use Rattle.ndb_search.specs.Closest.{first_filled}
 use Rattle.ndb_index.specs.Near.{tuples_at}
 use Rattle.ndb_index.proofs.Nearby.{places_join, here_first, here_none, same_default}
 use Rattle.ndb_index.proofs.index.Index.closest_among.Goals as goal

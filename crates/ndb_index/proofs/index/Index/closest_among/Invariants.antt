@@ -1,5 +1,5 @@
 use Rattle.std.proofs.Common.{◌≡◌, ◌+◌, ◌≤◌, None, take}
-use Rattle.ndb_tuple.specs.Closest.{first_filled}
+use Rattle.ndb_search.specs.Closest.{first_filled}
 use Rattle.ndb_index.specs.Near.{tuples_at}
 use Rattle.ndb_index.proofs.index.Index.closest_among.Given as goal
 

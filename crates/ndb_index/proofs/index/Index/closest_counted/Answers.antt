@@ -1,6 +1,6 @@
 use Rattle.std.proofs.Common.{List, ℕ, None, Some, sym, ap, ◌∙◌, arith, subst}
 use Rattle.std.specs.Prelude.{codes}
-use Rattle.ndb_tuple.specs.Closest.{first_filled}
+use Rattle.ndb_search.specs.Closest.{first_filled}
 use Rattle.net_base.specs.declared.ndb.spot.Spot.{Spot}
 use Rattle.ndb_index.specs.Near.{AreWithinNear, SpotsWithin, spot_tuples}
 use Rattle.ndb_index.specs.Nets.{longest_places}

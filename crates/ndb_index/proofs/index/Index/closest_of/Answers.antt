@@ -1,7 +1,7 @@
 use Rattle.std.proofs.Common.{◌++◌, refl, sym, ap, ◌∙◌, arith, append-nil, List}
 use Rattle.std.proofs.lemmas.List.{take_all}
 use Rattle.std.proofs.lemmas.Bool.Decides.{nat_tests}
-use Rattle.ndb_tuple.specs.Closest.{first_filled}
+use Rattle.ndb_search.specs.Closest.{first_filled}
 use Rattle.net_base.specs.declared.ndb.spot.Spot.{Spot}
 use Rattle.ndb_index.specs.Near.{spot_tuples, numbers_of}
 use Rattle.ndb_index.proofs.Nearby.{spot_first, spot_none, numbers_more}

@@ -1,5 +1,5 @@
 use Rattle.std.proofs.Common.{◌≡◌, ◌+◌, ◌≤◌, ◌++◌, None, take}
-use Rattle.ndb_tuple.specs.Closest.{first_filled}
+use Rattle.ndb_search.specs.Closest.{first_filled}
 use Rattle.ndb_index.specs.Near.{spot_tuples, numbers_of}
 use Rattle.ndb_index.proofs.index.Index.closest_of.Given as goal
 

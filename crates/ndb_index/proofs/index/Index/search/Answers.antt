@@ -2,7 +2,7 @@ use Rattle.std.proofs.Common.{List, map, slice_get, ap, ◌∙◌}
 use Rattle.std.specs.Prelude.{filter_map}
 use Rattle.net_base.specs.Search.{tuple_has}
 use Rattle.net_base.specs.declared.ndb.spot.Spot.{Spot}
-use Rattle.ndb_tuple.proofs.Shared.{places_found}
+use Rattle.ndb_search.proofs.Shared.{places_found}
 use Rattle.ndb_index.proofs.Nearby.{spots_are_places, all_found}
 use Rattle.ndb_index.proofs.index.Index.search.Goals as goal
 

@@ -1,7 +1,7 @@
 use Rattle.std.proofs.Common.{◌≡◌, ℕ, Option, ap, sym, subst, ◌∙◌}
 use Rattle.std.specs.Prelude.{unwrap_or}
 use Rattle.net_base.specs.Callers.{caller_of}
-use Rattle.thread_laws.specs.Guests.{IsOfGuests}
+use Rattle.net_locks.specs.Guests.{IsOfGuests}
 use Rattle.net_locks.specs.declared.clock.Advance.{Advance}
 use Rattle.net_locks.specs.declared.clock.Advance.TheVariants as advance
 use Rattle.net_locks.specs.Moving.{Halts, MayGo}

@@ -2,9 +2,9 @@ use Rattle.std.proofs.Common.{ℕ, List, ap, sym, subst, arith}
 use Rattle.net_base.specs.declared.noted.Noted.{Noted}
 use Rattle.net_base.specs.declared.noted.Number.TheVariants as number
 use Rattle.net_base.specs.Stamped.{at, moment_noted}
-use Rattle.thread_laws.specs.Guests.{IsGuest}
+use Rattle.net_locks.specs.Guests.{IsGuest}
 use Rattle.net_base.specs.Duties.{Duty}
-use Rattle.due_moments.specs.Marks.{Covers}
+use Rattle.duties.specs.Marks.{Covers}
 use Rattle.net_guests.proofs.bundle.Bundle.fresh.Goals as goal
 
 pub returns-clause-complete : goal.returns-clause-complete

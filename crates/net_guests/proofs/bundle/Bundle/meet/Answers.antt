@@ -1,6 +1,6 @@
 use Rattle.std.proofs.Common.{sym, subst}
 use Rattle.journal.specs.declared.tokens.Sight.{Sight}
-use Rattle.thread_laws.specs.Guests.{IsGuest}
+use Rattle.net_locks.specs.Guests.{IsGuest}
 use Rattle.net_guests.proofs.Passes.{itself, with_that, with_this}
 use Rattle.net_guests.proofs.bundle.Bundle.meet.Goals as goal
 

@@ -2,7 +2,7 @@ use Rattle.std.proofs.Common.{◌≤◌, length, take, refl, ap, sym, subst, ◌
 use Rattle.journal.specs.declared.tokens.Sight.{Sight}
 use Rattle.journal.specs.Rule.{Lawful}
 use Rattle.journal.specs.Tokens.{HoldsAll}
-use Rattle.thread_laws.specs.Works.{noted_net}
+use Rattle.net_locks.specs.Works.{noted_net}
 use Rattle.net_locks.specs.Knowing.{AreMixed, all_touched}
 use Rattle.net_locks.proofs.Knowledge.{caught_up, known_as, known_now}
 use Rattle.net_locks.proofs.Sighted.{holds_all, looked_same}

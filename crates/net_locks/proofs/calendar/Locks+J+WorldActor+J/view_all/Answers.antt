@@ -2,7 +2,7 @@ use Rattle.std.proofs.Common.{◌++◌, ◌<◌, List, length, take, ap, refl, s
 use Rattle.net_base.specs.declared.actor.ActorName.{ActorName}
 use Rattle.journal.specs.declared.tokens.Sight.{Sight}
 use Rattle.journal.specs.Tokens.{HoldsAll}
-use Rattle.thread_laws.specs.Works.{noted_net}
+use Rattle.net_locks.specs.Works.{noted_net}
 use Rattle.net_locks.specs.Knowing.{AreMixed, all_touched}
 use Rattle.net_locks.proofs.Knowledge.{all_touched_all, count_next, mixed_on, touched_next}
 use Rattle.net_locks.proofs.calendar.Locks+J+WorldActor+J.view_all.Goals as goal

@@ -1,7 +1,7 @@
 use Rattle.std.proofs.Common.{◌≡◌, ◌≤◌, ◌+◌, ◌++◌, List, take}
 use Rattle.net_base.specs.declared.actor.ActorName.{ActorName}
 use Rattle.net_base.specs.Actors.{Actor}
-use Rattle.thread_laws.specs.Works.{noted_net}
+use Rattle.net_locks.specs.Works.{noted_net}
 use Rattle.net_locks.specs.Knowing.{AreMixed}
 use Rattle.net_locks.proofs.calendar.Locks+J+WorldActor+J.view_each.Given as goal
 

@@ -3,7 +3,7 @@ use Rattle.net_base.specs.declared.actor.ActorName.{ActorName}
 use Rattle.net_base.specs.declared.actor.ActorName.TheVariants as name
 use Rattle.net_base.specs.Actors.{has_actor}
 use Rattle.net_base.specs.Duties as duties
-use Rattle.thread_laws.specs.Works.{noted_net}
+use Rattle.net_locks.specs.Works.{noted_net}
 use Rattle.net_locks.specs.Knowing.{AreMixed}
 use Rattle.net_locks.proofs.Knowledge.{none_there, one_more, told_due}
 use Rattle.net_locks.proofs.Sighted.{looked_same, said}

@@ -1,8 +1,8 @@
 use Rattle.std.proofs.Common.{◌≡◌, ℕ, false, List, take, ap, sym, subst, ◌∙◌, arith}
 use Rattle.journal.specs.declared.tokens.Sight.{Sight}
 use Rattle.journal.specs.Tokens.{HoldsAll}
-use Rattle.calm_laws.specs.Could.{could, is_full}
-use Rattle.thread_laws.specs.Works.{noted_net}
+use Rattle.history_laws.specs.Could.{could, is_full}
+use Rattle.net_locks.specs.Works.{noted_net}
 use Rattle.net_locks.specs.Standings.{FindsBusy, StandsAt, standing_callers}
 use Rattle.net_locks.proofs.Found.{callers_all, callers_more, finds_less, in_at}
 use Rattle.net_locks.proofs.Sighted.{full_so}

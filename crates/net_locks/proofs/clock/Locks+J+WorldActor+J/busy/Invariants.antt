@@ -1,6 +1,6 @@
 use Rattle.std.proofs.Common.{◌≡◌, take}
-use Rattle.calm_laws.specs.Could.{could, is_full}
-use Rattle.thread_laws.specs.Works.{noted_net}
+use Rattle.history_laws.specs.Could.{could, is_full}
+use Rattle.net_locks.specs.Works.{noted_net}
 use Rattle.net_locks.specs.Standings.{FindsBusy, standing_callers}
 use Rattle.net_locks.proofs.clock.Locks+J+WorldActor+J.busy.Given as goal
 

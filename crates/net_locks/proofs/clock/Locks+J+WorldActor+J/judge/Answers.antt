@@ -3,7 +3,7 @@ use Rattle.std.specs.List.{list_any}
 use Rattle.net_base.specs.declared.world.World.{World}
 use Rattle.journal.specs.declared.tokens.Sight.{Sight}
 use Rattle.journal.specs.Tokens.{HoldsAll}
-use Rattle.thread_laws.specs.Works.{noted_net}
+use Rattle.net_locks.specs.Works.{noted_net}
 use Rattle.net_locks.specs.Standings.{has_left}
 use Rattle.net_locks.proofs.Concluding.{full_limits, has_room as stays_unlimited, is_done, is_stopped, may_move, moment_within, nobody_could, not_calm}
 use Rattle.net_locks.proofs.Halting.{flipped, free_clock, full_clock, has_room, in_end, known_clock, room_as}

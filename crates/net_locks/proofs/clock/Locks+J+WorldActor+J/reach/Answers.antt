@@ -9,8 +9,8 @@ use Rattle.net_base.specs.Stamped.{moment_noted as moment_of}
 use Rattle.journal.specs.declared.tokens.Sight.{Sight}
 use Rattle.journal.specs.Tokens.{HoldsAll}
 use Rattle.duties.specs.Ticking.{dues_of}
-use Rattle.thread_laws.specs.Guests.{IsGuest}
-use Rattle.thread_laws.specs.Works.{noted_net}
+use Rattle.net_locks.specs.Guests.{IsGuest}
+use Rattle.net_locks.specs.Works.{noted_net}
 use Rattle.net_locks.specs.Standings.{standing_moments}
 use Rattle.net_locks.specs.Knowing.{IsKnown}
 use Rattle.net_locks.specs.Turns.{HasRoom, bare}

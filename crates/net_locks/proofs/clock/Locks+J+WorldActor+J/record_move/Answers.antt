@@ -3,7 +3,7 @@ use Rattle.net_base.specs.declared.actor.ActorName.{ActorName}
 use Rattle.net_base.specs.declared.actor.ActorName.TheVariants as name
 use Rattle.net_base.specs.declared.event.Event.TheVariants as event
 use Rattle.net_base.specs.Duties.{Duty}
-use Rattle.thread_laws.specs.Guests.{IsGuestTurn, GuestRecords, deed_at}
+use Rattle.net_locks.specs.Guests.{IsGuestTurn, GuestRecords, deed_at}
 use Rattle.net_locks.specs.Turns.{bare}
 use Rattle.net_locks.proofs.Moved.{leaves_moved}
 use Rattle.net_locks.proofs.Sighted.{looked_same}

@@ -3,8 +3,8 @@ use Rattle.net_base.specs.declared.world.World.{World}
 use Rattle.net_base.specs.Duties.{Duty}
 use Rattle.net_base.specs.Stamped.{moment_noted as moment_of}
 use Rattle.journal.specs.declared.tokens.Sight.{Sight}
-use Rattle.due_moments.specs.Marks.{Covers, Marks}
-use Rattle.thread_laws.specs.Guests.{IsGuest}
+use Rattle.duties.specs.Marks.{Covers, Marks}
+use Rattle.net_locks.specs.Guests.{IsGuest}
 use Rattle.net_locks.specs.Moving.{MayGo}
 use Rattle.net_locks.specs.Turns.{own_seen}
 use Rattle.net_locks.proofs.Visited.{early_end}

@@ -3,7 +3,7 @@ use Rattle.net_base.specs.Actors.{Actor, opening_actor}
 use Rattle.net_base.specs.Net.{played}
 use Rattle.net_actors.specs.Kept.{kept_state}
 use Rattle.net_actors.specs.Small.{IsSmallActor}
-use Rattle.thread_laws.specs.Named.{named}
+use Rattle.net_locks.specs.Named.{named}
 use Rattle.net_locks.proofs.Works.{as_many, led_to, plays, ready_named}
 use Rattle.net_locks.proofs.machine.WorldActorMachine.step.Goals as goal
 

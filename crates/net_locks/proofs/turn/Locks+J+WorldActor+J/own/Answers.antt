@@ -1,7 +1,7 @@
 use Rattle.std.proofs.Common.{List, drop, None, ap, sym, subst, ◌∙◌, arith, rules}
 use Rattle.net_base.specs.declared.actor.ActorName.{ActorName}
 use Rattle.net_base.specs.Duties.{Duty}
-use Rattle.thread_laws.specs.Guests.{IsGuestTurn}
+use Rattle.net_locks.specs.Guests.{IsGuestTurn}
 use Rattle.net_locks.specs.declared.turn.Turn.{Turn}
 use Rattle.net_locks.specs.declared.turn.Turn.TheVariants as turn
 use Rattle.net_locks.specs.Turns.{bare}

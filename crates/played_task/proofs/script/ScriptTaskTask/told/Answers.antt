@@ -1,5 +1,5 @@
 use Rattle.std.proofs.Common.{◌+◌, ◌<◌, ◌∙◌, Option, drop, length, ap, arith}
-use Rattle.step_task.specs.declared.step.StepTask.{StepTask}
+use Rattle.played_task.specs.declared.step.StepTask.{StepTask}
 use Rattle.played_task.specs.ScriptTasks as spec
 use Rattle.played_task.proofs.Played.{has_room, kept_told, told_on, told_through}
 use Rattle.played_task.proofs.script.ScriptTaskTask.told.Goals as goal

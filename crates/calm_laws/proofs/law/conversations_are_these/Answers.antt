@@ -1,5 +1,0 @@
-use Rattle.calm_laws.proofs.Members.{conversation_there, conversation_only}
-use Rattle.calm_laws.proofs.law.conversations_are_these.Goals as goal
-
-pub returns : goal.returns
-returns c = record { there = conversation_there; only = conversation_only }

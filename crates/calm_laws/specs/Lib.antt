@@ -1,2 +1,0 @@
-pub mod Could
-pub mod Moments

@@ -1,4 +1,0 @@
-pub mod BadLines
-pub mod Endings
-pub mod Statuses
-pub mod Shared

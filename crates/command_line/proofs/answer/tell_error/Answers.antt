@@ -1,5 +1,0 @@
-use Rattle.command_line.proofs.Endings.{told_so, told_too_long}
-use Rattle.command_line.proofs.answer.tell_error.Goals as goal
-
-pub returns-in-TooLarge : goal.returns-in-TooLarge
-returns-in-TooLarge g c = told_so _ _ c.in-TooLarge.is _ _ (told_too_long _ _ c.tell.ensures)

@@ -1,5 +1,0 @@
-use Rattle.std.proofs.Common.{rules}
-use Rattle.commands.proofs.exporting.translate_told.Goals as goal
-
-pub returns : goal.returns
-returns c = (c.translate.new.told.world, c.in_ok-translate.ensures.translated, search (rules))

@@ -1,9 +1,0 @@
-use Rattle.std.proofs.Common.{Some}
-use Rattle.commands.proofs.CsAnswers.{lines_over, answers_found}
-use Rattle.commands.proofs.query.query_beside.Goals as goal
-
-pub returns : goal.returns
-returns c =
-    answers_found _ _ _
-    (lines_over c.args.attr.now c.args.value.now (Some c.args.other.now) c.args.input.now _ _ c.in-Ok.ensures.good c.in-Ok.ensures.ok c.in_ok-lines.ensures)
-    c.found.ensures

@@ -1,4 +1,0 @@
-pub mod AnswerLines
-pub mod Built
-pub mod Checked
-pub mod Runs

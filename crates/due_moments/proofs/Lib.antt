@@ -1,4 +1,0 @@
-mod Puts
-mod Ordered
-pub mod Covering
-pub mod Shared

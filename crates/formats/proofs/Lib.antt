@@ -1,0 +1,14 @@
+pub mod DatagramLaws
+pub mod IlLaws
+pub mod Ipv4Laws
+pub mod UdpLaws
+pub mod WireNumbers
+pub mod WireSums
+pub mod Shared
+pub mod NdbComplete
+pub mod NdbFiles
+pub mod NdbLists
+pub mod NdbPlain
+pub mod NdbSound
+pub mod Found
+pub mod QuestionLaws

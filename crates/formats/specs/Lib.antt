@@ -1,0 +1,9 @@
+pub use Rattle.net_base.specs.Bytes
+pub mod Datagram
+pub mod IlWire
+pub mod Ipv4
+pub mod Sum
+pub mod UdpWire
+pub mod NdbSpelling
+pub use Rattle.net_base.specs.DomainNames
+pub use Rattle.net_base.specs.DomainQuestions

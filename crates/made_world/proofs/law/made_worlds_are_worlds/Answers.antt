@@ -1,5 +1,0 @@
-use Rattle.made_world.proofs.Said.{said}
-use Rattle.made_world.proofs.law.made_worlds_are_worlds.Goals as goal
-
-pub returns : goal.returns
-returns c = λ n small. said n small

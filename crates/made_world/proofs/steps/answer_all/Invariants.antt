@@ -1,8 +1,0 @@
-use Rattle.std.proofs.Common.{◌≡◌, ◌++◌}
-use Rattle.std.specs.Prelude.{flat_map}
-use Rattle.std.specs.List.{range_with_len}
-use Rattle.made_world.specs.Made.{answering}
-use Rattle.made_world.proofs.steps.answer_all.Given as goal
-
-abbrev pub invariant-loop-before : goal.invariant-loop-before
-invariant-loop-before l = l.steps ≡ l.initial.steps ++ flat_map answering (range_with_len 1 l.before)

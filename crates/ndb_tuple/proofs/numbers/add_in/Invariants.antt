@@ -1,6 +1,0 @@
-use Rattle.std.proofs.Common.{◌≡◌, ◌++◌, take}
-use Rattle.ndb_tuple.specs.Numbers.{numbers_in}
-use Rattle.ndb_tuple.proofs.numbers.add_in.Given as goal
-
-abbrev pub invariant-loop-place : goal.invariant-loop-place
-invariant-loop-place l = l.numbers.items ≡ l.initial.numbers.items ++ numbers_in l.kind (take l.place l.tuple)

@@ -1,4 +1,0 @@
-pub mod Following
-pub mod Giving
-pub mod Laying
-pub mod Places

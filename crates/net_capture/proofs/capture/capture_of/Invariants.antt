@@ -1,6 +1,0 @@
-use Rattle.std.proofs.Common.{take}
-use Rattle.net_capture.proofs.Following.{Captured}
-use Rattle.net_capture.proofs.capture.capture_of.Given as goal
-
-abbrev pub invariant-loop-entry : goal.invariant-loop-entry
-invariant-loop-entry l = Captured l.world l.medium (take l.entry-index l.entry-items) l.runner l.out

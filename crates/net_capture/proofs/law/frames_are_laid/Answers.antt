@@ -1,5 +1,0 @@
-use Rattle.net_capture.proofs.Places.{all_laid}
-use Rattle.net_capture.proofs.law.frames_are_laid.Goals as goal
-
-pub returns : goal.returns
-returns c = λ w h world legal. all_laid w h world legal

@@ -1,5 +1,0 @@
-use Rattle.std.proofs.Common.{refl}
-use Rattle.net_capture.proofs.savefile.file_header.Goals as goal
-
-pub returns : goal.returns
-returns c = rw (c.write_u32-3.ensures, c.write_u32-2.ensures, c.write_u16-2.ensures, c.write_u16.ensures, c.write_u32.ensures) refl

@@ -1,0 +1,9 @@
+pub mod Following
+pub mod Giving
+pub mod Laying
+pub mod Places
+pub mod Entries
+pub mod Latests
+pub mod Scripts
+pub mod Ranges
+pub mod Lines

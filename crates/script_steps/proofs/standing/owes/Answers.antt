@@ -1,5 +1,0 @@
-use Rattle.script_steps.proofs.Scripts.{owes_so}
-use Rattle.script_steps.proofs.standing.owes.Goals as goal
-
-pub returns : goal.returns
-returns c = λ w h k is. owes_so w h k c.args.caller.now c.is_empty.result c.is_empty.ensures is

@@ -1,3 +1,0 @@
-pub mod WorldSteps
-pub mod Recorded
-pub mod Steps

@@ -1,5 +1,0 @@
-mod Tags
-pub mod Words
-mod WorkedSession
-pub mod Sayable
-pub mod Shared

@@ -1,5 +1,0 @@
-use Rattle.sessions.proofs.Sayable.{script_said}
-use Rattle.sessions.proofs.law.scripts_can_be_said.Goals as goal
-
-pub returns : goal.returns
-returns c = script_said

@@ -1,5 +1,0 @@
-use Rattle.sessions.proofs.Words.{has_room}
-use Rattle.sessions.proofs.law.short_replies_have_room.Goals as goal
-
-pub returns : goal.returns
-returns c = has_room

@@ -1,3 +1,0 @@
-pub mod InHistory
-pub mod Worked
-pub mod Worlds

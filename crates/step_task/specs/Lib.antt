@@ -1,3 +1,0 @@
-pub mod StepTasks
-pub mod StepLaws
-pub mod Leaving

@@ -1,7 +1,0 @@
-pub mod Shared
-mod ConvTable
-mod DirTable
-mod ActorTable
-mod Waiting
-mod Cores
-mod Copies

@@ -1,4 +1,0 @@
-pub mod ConvRows
-pub mod DirRows
-pub mod ActorRows
-pub mod Waiting

@@ -1,5 +1,0 @@
-use Rattle.thread_laws.proofs.Guests.{begins, no_nexts, no_moves}
-use Rattle.thread_laws.proofs.law.guests_begin.Goals as goal
-
-pub returns : goal.returns
-returns c = record { guest = begins; nexts = no_nexts; timely = no_moves }

@@ -1,5 +1,0 @@
-use Rattle.thread_laws.proofs.Nets.{noted_push, past_is, moment_is}
-use Rattle.thread_laws.proofs.law.nets_of_works_grow.Goals as goal
-
-pub returns : goal.returns
-returns c = record { next = noted_push; past = past_is; moment = moment_is }

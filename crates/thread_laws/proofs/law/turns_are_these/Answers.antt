@@ -1,5 +1,0 @@
-use Rattle.thread_laws.proofs.Turns.{duty_turn, script_turn, courier_turn, clock_turn}
-use Rattle.thread_laws.proofs.law.turns_are_these.Goals as goal
-
-pub returns : goal.returns
-returns c = record { duty = duty_turn; script = script_turn; courier = courier_turn; clock = clock_turn }

@@ -1,4 +1,0 @@
-pub mod Works
-pub mod Own
-pub mod Named
-pub mod Guests

@@ -1,2 +1,0 @@
-//! Worlds and histories worked by hand, as values of the definitions.
-#![tactic(auto)]
