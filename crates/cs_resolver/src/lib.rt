@@ -1,4 +1,5 @@
-//! The connection server: from a dial string to the files to open and the addresses to connect to.
+//! The connection server, cs(8): from a dial string to the files to open and the addresses to connect to.
+//! `answer_indexed` uses an index, and `answer` scans; both have the same contract.
 #![tactic(auto)]
 
 mod addresses;

@@ -1,4 +1,5 @@
-//! What an entry owes, the queue of what a caller owes, and the ways of a world's hosts.
+//! The follow-up events (duties) that an entry causes, the queue of those that a caller owes, the routes that packets take,
+//! and the moments at which conversations need a timer tick.
 #![tactic(auto)]
 
 mod due;

@@ -1,4 +1,5 @@
-//! The bytes of IPv4, UDP and IL, and their laws.
+//! The byte formats that standards define, as relations: IPv4, UDP and IL packets, ndb(6) texts, DNS messages.
+//! Only definitions and their theorems; the code that reads and writes them is in the crates above.
 #![tactic(auto)]
 
 mod dns_law;

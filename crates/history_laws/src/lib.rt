@@ -1,4 +1,5 @@
-//! Laws of legal histories that look into no conversation.
+//! Theorems about every valid (legal) history: facts that follow from the rules alone, before any code runs.
+//! `rows` gives each actor's table row by row, `calm` says when the clock may move, `progress` that some pending duty is ready.
 #![tactic(auto)]
 
 mod calm;

@@ -1,4 +1,4 @@
-//! A history for people: a line for each entry, in words.
+//! Words for the events and replies of a history: a line for each entry, and short labels for pictures.
 #![tactic(auto)]
 
 mod entry;

@@ -1,4 +1,5 @@
-//! An index of a network database: searches that look at few of its tuples, with a bound on how many.
+//! An index of a network database: the same answers as scanning, with a bound on how many tuples it looks at.
+//! It also answers the command `query`, and keeps one index for each version of a world's database.
 #![tactic(auto)]
 
 mod found;

@@ -1,5 +1,5 @@
-//! Reads the text of a network database, ndb(6), in one pass, or tells its first bad line; writes it; and
-//! counts looks at its tuples.
+//! Reads the text of a network database, ndb(6), in one pass, or reports its first bad line. It also writes a database,
+//! counts how many tuples a search looks at, and keeps the hash chains that an index is made of.
 #![tactic(auto)]
 
 mod bundle;

@@ -1,4 +1,5 @@
-//! Searches of a network database, ndb(2): tuples by a pair, values beside a pair, and what is closest to a system.
+//! Searches of a network database by scanning it, as ndb(2) defines them: tuples by a pair, values beside a pair, numbers
+//! and networks of a tuple, and what is closest to a system.
 #![tactic(auto)]
 
 mod beside;

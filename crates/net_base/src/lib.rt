@@ -1,4 +1,7 @@
-//! The plain data of the network, and the definitions that contracts cite.
+//! The plain data of the network and the definitions that contracts cite: hosts, packets, events, replies, entries,
+//! how a run ends, and the rules of a valid history. All crates depend on it.
+//!
+//! The definitions are in specs/, one module for each part of the standard that it states.
 #![tactic(auto)]
 
 mod actor;

@@ -1,4 +1,5 @@
-//! Every actor of a world behind its own lock: the turns of callers at these, and what the clock sees and does there.
+//! Each actor of a world protected by its own lock: the turns of callers at the locks, what the clock sees there, and the
+//! theorems about the history that all threads share.
 #![tactic(auto)]
 
 mod calendar;

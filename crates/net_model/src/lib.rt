@@ -1,4 +1,5 @@
-//! The network's plain data and definitions, given on, and the laws over them.
+//! The promises of the program over the data of net_base: the theorems that its top clauses cite, worked cases that
+//! show that the premises can be met, and the words of the command line.
 #![tactic(auto)]
 
 mod answer;

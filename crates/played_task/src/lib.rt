@@ -1,4 +1,4 @@
-//! What is played in the place of a script: its steps one after another, as one task, or a task of one's own.
+//! What runs in the place of a script: its steps one after another, each as a task, or a custom task.
 #![tactic(auto)]
 
 mod either;

@@ -1,4 +1,5 @@
-//! The prefix law: what is read was written at the peer, over every legal history.
+//! In-order delivery: what a program reads from an IL conversation is a prefix of what its peer wrote.
+//! `imports` says the same through an imported network. Both hold for every valid history.
 #![tactic(auto)]
 
 mod imports;

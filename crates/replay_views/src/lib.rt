@@ -1,4 +1,5 @@
-//! The frames of a history as a capture file, which Wireshark and its kin read.
+//! Two views that follow a history entry by entry: the frames as a capture file for Wireshark, and each script's steps
+//! with their results.
 #![tactic(auto)]
 
 mod capture;

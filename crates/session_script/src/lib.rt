@@ -1,4 +1,4 @@
-//! Sessions of 9P as scripts: what a session's messages know, and their steps.
+//! 9P sessions: the files that a client has open after each message, and the script of steps that a session becomes.
 #![tactic(auto)]
 
 mod fault;

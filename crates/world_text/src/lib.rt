@@ -1,4 +1,5 @@
-//! The text of a world, as it is spelled and read, and its laws.
+//! The text of a world file: which lines spell which world, and which line of a bad file is the first bad one.
+//! Only definitions and their theorems, with the worlds that are worked out in them.
 #![tactic(auto)]
 
 mod law;

@@ -1,4 +1,4 @@
-//! Writes the file of a world, each part in its one spelling.
+//! Writes world files: that of any world, each part in its one spelling, and the made world of `make N`.
 #![tactic(auto)]
 
 mod hosts;
