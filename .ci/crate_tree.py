@@ -167,7 +167,8 @@ def functions(path):
             item = Function(path, number + 1, owner, match.group(3), public)
             begin = at + match.start(3)
             end = signature_end(text, begin)
-            item.signature = "fn " + " ".join(text[begin:end].split()).replace("( ", "(").replace(",)", ")").replace(", )", ")")
+            bare = re.sub(r"//[^\n]*", "", text[begin:end])
+            item.signature = "fn " + " ".join(bare.split()).replace("( ", "(").replace(",)", ")").replace(", )", ")")
             item.clauses = read_clauses(text, end)
             item.sentence = comment_before(lines, number)
             item.of_trait = of_trait
