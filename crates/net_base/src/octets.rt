@@ -1,5 +1,5 @@
 //! Texts: lists of bytes, and lists of those.
-ghost use Rattle.std.specs.Prelude.{◌≡◌, ◌<◌, ◌∷◌, ◌++◌, List, [], length, IfOk, OnOk, OnErr, nat_eq};
+ghost use Rattle.std.specs.Prelude.{◌≡◌, ◌<◌, ◌∷◌, ◌++◌, ◌+◌, ◌≤◌, List, [], length, vec_len, vec_capacity, IfOk, OnOk, OnErr, nat_eq};
 ghost use Rattle.std.specs.Cmp.Lexicographic.{pointwise};
 ghost use Rattle.std.specs.Cmp.Rules.{comparing};
 ghost use Rattle.std.proofs.Common.{rules};
@@ -22,10 +22,24 @@ impl Sequence<Octets> {
     }
 }
 
+// Up to this many bytes are added one by one.
+const MOST_BY_ONE: usize = 16;
+
 /// Bytes, which contracts see as a list.
 #[derive(Debug, Drop)]
 pub struct Octets {
     bytes: Vec<u8>,
+}
+
+// Adds a few bytes, for which there is room. It costs less than a call that copies them.
+#[inline(always)]
+fn append_few(to: &mut Vec<u8>, bytes: &[u8])
+    requires room { vec_len to.old + length bytes.now ≤ vec_capacity to.old }
+    ensures { to.new.items ≡ to.old.items ++ bytes.now }
+{
+    for byte in bytes {
+        to.push_reserved(*byte);
+    }
 }
 
 impl Model for Octets {
@@ -96,19 +110,29 @@ impl Octets {
     }
 
     /// Adds a byte at the end.
+    #[inline(always)]
     pub fn push(&mut self, byte: u8) -> Result<(), AllocError>
         ensures ok { OnOk result (self.new ≡ self.old ++ byte ∷ []) }
         ensures err { OnErr result (self.new ≡ self.old) }
     {
+        if self.bytes.len() < self.bytes.capacity() {
+            self.bytes.push_reserved(byte);
+            return Ok(());
+        }
         self.bytes.push(byte)?;
         Ok(())
     }
 
     /// Adds bytes at the end.
+    #[inline(always)]
     pub fn append(&mut self, bytes: &[u8]) -> Result<(), AllocError>
         ensures ok { OnOk result (self.new ≡ self.old ++ bytes.now) }
         ensures err { OnErr result (self.new ≡ self.old) }
     {
+        if bytes.len() <= MOST_BY_ONE && bytes.len() <= self.bytes.capacity() - self.bytes.len() {
+            append_few(&mut self.bytes, bytes);
+            return Ok(());
+        }
         self.bytes.extend_from_slice(bytes)
     }
 }
