@@ -1,9 +1,14 @@
-"""Measures the gate: runs a command, `rt ci --anew` where none is given, and writes a table of the processor seconds that the prover took for
-each crate: its own proof, the proof of its tests, and its must-fail edits (with the check of the crate that they begin with).
+"""Measures CI's proofs: runs a command and writes a table of the processor seconds that the prover took for each crate: its own proof, the proof
+of its tests, and its must-fail edits (with the check of the crate that they begin with).
 
-    python3 .ci/costs.py [COMMAND WORD..] > table.md
+    python3 .ci/costs.py [--table FILE] [COMMAND WORD..]
+
+The command is `rt ci`, or `rt ci --anew` if the kit has that flag, unless another is given. With --table the command's output passes through as
+it is, and the table goes to the file. Without it the output goes to standard error, and the table to standard output. The status is the command's.
 
 It looks at /proc five times a second, so a row may lack a fifth of a second for each check. On a busy machine every check takes longer."""
+
+import contextlib
 import os
 import subprocess
 import sys
@@ -63,26 +68,46 @@ def look(seen, gate):
 
 
 def table(seen):
+    """The lines of the table: a row for each crate, the dearest first, and the sums in minutes."""
     crates = {}
     for name, kind, ticks in seen.values():
         row = crates.setdefault(name, dict.fromkeys(KINDS, 0))
         row[kind] += ticks / TICKS
     total = {kind: sum(row[kind] for row in crates.values()) for kind in KINDS}
-    print("| Crate | Own proof | Its tests | Its edits | Together |\n|---|---|---|---|---|")
+    lines = ["| Crate | Own proof | Its tests | Its edits | Together |", "|---|---|---|---|---|"]
     for name, row in sorted(crates.items(), key=lambda it: -sum(it[1].values())):
-        print(f"| {name} | " + " | ".join(f"{row[kind]:.0f}" if row[kind] else "" for kind in KINDS) + f" | {sum(row.values()):.0f} |")
+        lines.append(f"| {name} | " + " | ".join(f"{row[kind]:.0f}" if row[kind] else "" for kind in KINDS) + f" | {sum(row.values()):.0f} |")
     minutes = [total[kind] / 60 for kind in KINDS]
-    print("| all, in minutes | " + " | ".join(f"{it:.0f}" for it in minutes) + f" | {sum(minutes):.0f} |")
+    lines.append("| all, in minutes | " + " | ".join(f"{it:.0f}" for it in minutes) + f" | {sum(minutes):.0f} |")
+    return "".join(f"{line}\n" for line in lines)
+
+
+def gate():
+    """The words that prove each crate from nothing: this kit's `rt ci` does so by itself, or has a flag for it."""
+    told = subprocess.run(["rt", "ci", "--help"], stdin=subprocess.DEVNULL, stdout=subprocess.PIPE, stderr=subprocess.STDOUT, check=False)
+    return ["rt", "ci", "--anew"] if b"--anew" in told.stdout else ["rt", "ci"]
+
+
+def watch(seen, pid):
+    """Looks once. Processes come and go while it reads them, so it may miss one."""
+    try:
+        look(seen, pid)
+    except (OSError, ValueError, IndexError):
+        pass
 
 
 def main():
+    words, path = sys.argv[1:], None
+    if words[:1] == ["--table"]:
+        path, words = words[1], words[2:]
     seen = {}
-    gate = subprocess.Popen(sys.argv[1:] or ["rt", "ci", "--anew"], stdout=sys.stderr)
-    while gate.poll() is None:
-        look(seen, gate.pid)
+    run = subprocess.Popen(words or gate(), stdout=None if path else sys.stderr)
+    while run.poll() is None:
+        watch(seen, run.pid)
         time.sleep(0.2)
-    table(seen)
-    sys.exit(gate.returncode)
+    with open(path, "w", encoding="utf-8") if path else contextlib.nullcontext(sys.stdout) as file:
+        file.write(table(seen))
+    sys.exit(run.returncode if run.returncode >= 0 else 128 - run.returncode)
 
 
 if __name__ == "__main__":
