@@ -1,10 +1,12 @@
 #!/usr/bin/env python3
-"""How long runs of the program take, on inputs of known size: a benchmark, and no part of the gate.
+"""Measures how long runs of netsh take, on inputs of known size. CI does not run this benchmark.
 
-.ci/speed.py [BINARY [RUNS]]: of each command the least and the middle of RUNS (7), as milliseconds of wall and of processor time,
-and the most memory that it had, in MB (never told below what this script has itself, some 10); the same of mawk and grep. Of a
-long run also the bytes of memory that an entry took beside its text.
-BINARY is crates/netsh/out/netsh, the proved one, unless another is named. Measure on a quiet machine.
+.ci/speed.py [BINARY [RUNS]]
+
+Prints for each command the smallest and the median of RUNS times (7), in milliseconds of wall time and of processor time, and the largest
+memory in MB. The memory is never shown below that of this script, about 10 MB. It measures mawk and grep in the same way, and for a long run
+the bytes of memory of an entry without its text.
+BINARY is crates/netsh/out/netsh, the proved one, unless you name another. Measure on an idle machine.
 """
 
 import os
@@ -21,8 +23,8 @@ PAIRS = 4
 MESSAGES = 2000
 MOMENTS = 5000
 LONG = 9000
-# what others take to find the same line: by its fields, by its head, by its text
-BESIDE = [
+# other programs that find the same line: by its fields, by its beginning, by its text
+OTHERS = [
     ["mawk", '{ for (i = 1; i <= NF; i++) if ($i == "dom=h99.example.com") print }'],
     ["mawk", "/^\\tdom=h99.example.com$/"],
     ["grep", "-F", "dom=h99.example.com"],
@@ -30,9 +32,9 @@ BESIDE = [
 # an input of the greatest length
 MOST = 4 * 1024 * 1024
 PIECE = 65536
-# what such an input is made of, again and again
+# such an input repeats one of these texts
 SHAPES = ["a\n", "a ", "%file a\n", "\n", 'sys="a b" x="c d"\n', "sys=x y=z\n", "sys=h1 ip=10.0.0.1\n\tdom=h1.example.com\n"]
-# bytes of memory in which a run has room, and no stack of a thread
+# bytes of memory that are enough for a run, and not for the stack of a thread
 NO_STACK = 8000 * 1024
 
 
@@ -45,15 +47,15 @@ def database():
 
 
 def asking(queries):
-    """A world whose script asks the desk of its host so many queries."""
+    """A world whose script asks its connection server a number of queries."""
     head = "networld 1\nend 60000\nseed 7\nmedium ether0 1500\nhost h5 il udp\nif ether0 10.0.0.5 255.0.0.0\nscript h5\n"
     return head + "".join(f"cs net!h{7919 * i % (TUPLES - 2)}!9fs\n" for i in range(queries)) + "ndb\n" + database()
 
 
 def pairs(crossed):
-    """A world of PAIRS pairs of hosts, each pair on a medium of its own; each end writes MESSAGES messages in turn.
+    """A world of PAIRS pairs of hosts, each pair on its own link. Each end writes MESSAGES messages in turn.
 
-    All callers come before all listeners; crossed, each caller before its listener, which is to make no difference.
+    All callers come before all listeners; If crossed, each caller comes before its listener. The order must make no difference.
     """
     head = "networld 1\nend 1000000000\nseed 3\n"
     media = "".join(f"medium ether{p} 1500\n" for p in range(PAIRS))
@@ -78,7 +80,7 @@ def listener(pair):
 
 
 def moments(scripts):
-    """A world of one host whose scripts wait for MOMENTS moments each, so that the clock moves as often."""
+    """A world of one host whose scripts wait for MOMENTS times each, so the clock advances as often."""
     head = "networld 1\nend 1000000000\nseed 7\nmedium ether0 1500\nhost a il udp\nif ether0 10.0.0.1 255.0.0.0\n"
     script = "script a\n" + "".join(f"until {moment + 1}\n" for moment in range(MOMENTS))
     return head + scripts * script + "ndb\n"
@@ -95,25 +97,25 @@ def examples():
 
 
 def shapes():
-    """Inputs of about the greatest length, each of one shape, by name, in pieces; the last is one value."""
+    """Inputs of about the largest size, each of one shape: name and pieces. The last one is a single value."""
     for unit in SHAPES:
         yield repr(unit[:14]), [unit * (PIECE // len(unit))] * (MOST // PIECE)
     yield "one value", ["sys="] + ["x" * PIECE] * (MOST // PIECE - 1)
 
 
 def made(binary, messages):
-    """The world of so many messages that the program makes."""
+    """The world with a number of messages that the program makes."""
     return subprocess.run([binary, "make", str(messages)], stdout=subprocess.PIPE, check=True).stdout.decode()
 
 
 def peak(words):
-    """The most memory of a command in bytes, by a process that has little itself: what a child had includes what its parent ever had."""
+    """The largest memory of a command in bytes. A small process starts it, because the number of a child includes that of its parent."""
     code = "import os, subprocess, sys; p = subprocess.Popen(sys.argv[1:], stdout=subprocess.DEVNULL); print(os.wait4(p.pid, 0)[2].ru_maxrss)"
     return 1024 * int(subprocess.run([sys.executable, "-c", code, *words], stdin=subprocess.DEVNULL, stdout=subprocess.PIPE, check=True).stdout)
 
 
 def entry_bytes(binary):
-    """The bytes of memory that `big`, which makes no text, takes for an entry more, with its share of the made world."""
+    """The bytes of memory that `big` takes for one more entry, with its share of the world. `big` makes no text."""
     entries, peaks = [], []
     for messages in (LONG // 2, LONG):
         text = subprocess.run([binary, "run", "1"], input=made(binary, messages).encode(), stdout=subprocess.PIPE, check=True).stdout
@@ -123,7 +125,7 @@ def entry_bytes(binary):
 
 
 def measure(words, pieces, runs, room=None):
-    """The wall and the processor time of each run, in milliseconds, and its most memory, in MB; with so many bytes of memory."""
+    """The wall time and the processor time of each run in milliseconds, and its largest memory in MB. `room` limits the memory, in bytes."""
     walls, processors, peaks = [], [], []
 
     def limit():
@@ -147,7 +149,7 @@ def main():
     runs = int(sys.argv[2]) if len(sys.argv) > 2 else 7
     show("cs", *measure([binary, "cs", "h5", "net!h9990!9fs"], [database()], runs))
     show("query", *measure([binary, "query", "dom", "h99.example.com"], [database()], runs))
-    for words in BESIDE:
+    for words in OTHERS:
         if shutil.which(words[0]):
             show(" ".join(words)[:20], *measure(words, [database()], runs))
     for name, pieces in shapes():
@@ -169,7 +171,7 @@ def main():
 
 
 def show(name, walls, processors, peaks):
-    """The least and the middle of each, and the most memory."""
+    """Prints the smallest and the median of each time, and the largest memory."""
     middle = len(walls) // 2
     times = f"wall {walls[0]:7.1f} {walls[middle]:7.1f}   processor {processors[0]:7.1f} {processors[middle]:7.1f}"
     print(f"{name:20} {times}   memory {peaks[-1]:6.1f}", flush=True)
