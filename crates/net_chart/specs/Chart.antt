@@ -5,7 +5,6 @@ use Rattle.net_base.specs.declared.history.Entry.{Entry}
 use Rattle.net_base.specs.declared.world.World.{World}
 use Rattle.net_base.specs.Numeral.{numeral}
 use Rattle.net_chart.specs.declared.place.Page.{Page}
-use Rattle.net_chart.specs.declared.chart.TheConstants.{STYLE}
 use Rattle.net_chart.specs.Drawing.{band_text, column_text, drawing_of}
 use Rattle.net_chart.specs.Places.{bottom_of, bounded, page_of}
 use Rattle.net_chart.specs.Svg.{attribute, svg_newline}
@@ -35,8 +34,24 @@ view_text width bottom = svg_pair_text view_name width bottom ++ opening_end
 unfoldable pub opening_text : List ℕ
 opening_text = codes "<svg xmlns='http://www.w3.org/2000/svg'"
 
+-- how the page looks: the classes of its elements, and a white ground
 unfoldable pub style_text : List ℕ
-style_text = STYLE.now ++ svg_newline
+style_text =
+    codes "<style>\n"
+    ++ codes "text{font:10px monospace;fill:#222}\n"
+    ++ codes "line,path{stroke:#357;fill:none}\n"
+    ++ codes ".host{font:bold 14px sans-serif;text-anchor:middle}\n"
+    ++ codes ".life{stroke:#bbb}\n"
+    ++ codes ".moment{stroke:#ddd}\n"
+    ++ codes ".when{fill:#888}\n"
+    ++ codes ".right{text-anchor:start}\n"
+    ++ codes ".left{text-anchor:end}\n"
+    ++ codes ".again{stroke:#a60}\n"
+    ++ codes "line.again{stroke-dasharray:5 3}\n"
+    ++ codes ".lost{stroke:#c22}\n"
+    ++ codes ".op{fill:#262}\n"
+    ++ codes "</style>\n"
+    ++ codes "<rect width='100%' height='100%' fill='#fff'/>\n"
 
 unfoldable pub page_start : ℕ → ℕ → List ℕ
 page_start width bottom = opening_text ++ size_text width bottom ++ view_text width bottom ++ style_text

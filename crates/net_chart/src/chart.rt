@@ -29,7 +29,8 @@ line.again{stroke-dasharray:5 3}
 .lost{stroke:#c22}
 .op{fill:#262}
 </style>
-<rect width='100%' height='100%' fill='#fff'/>";
+<rect width='100%' height='100%' fill='#fff'/>
+";
 
 /// The chart of a history of a world, as a page of SVG. A page of more than 400 rows shows the first and the last frame of each
 /// moment, and how many are between. It goes three times through the history.
@@ -118,8 +119,7 @@ fn put_pair(out: &mut Octets, name: &[u8], a: u64, b: u64) -> Result<(), AllocEr
 fn put_style(out: &mut Octets) -> Result<(), AllocError>
     ensures { OnOk result (out.new ≡ out.old ++ spec.style_text) }
 {
-    out.append(STYLE)?;
-    out.append(b"\n")
+    out.append(STYLE)
 }
 
 /// Begins a page.
