@@ -34,3 +34,4 @@ pub mod Carried
 pub mod BadLines
 pub mod Endings
 pub mod Statuses
+mod WordsAfterPath

@@ -5,6 +5,7 @@ pub mod NdbWhole
 pub mod NdbExample
 pub mod Answers
 pub mod Words
+pub mod CommandLine
 pub mod ScriptOrder
 pub mod DnsOrder
 pub mod Headline

@@ -14,6 +14,7 @@ mod world_law;
 pub use answer::Answer;
 pub use answer::tell_answer;
 pub use answer::tell_usage;
+pub use arguments::CommandLine;
 pub use arguments::words_after_path;
 pub use cases::a_call_has_two_ends;
 pub use cases::a_call_is_refused;
