@@ -125,7 +125,7 @@ impl IlCore {
         ensures end { self.new ≡ (table.hangs_up now self.old).end }
         ensures emits { result ≡ (table.hangs_up now self.old).emits }
     {
-        let emits = self.kept.hang_up(now);
+        let emits = self.kept.hangup(now);
         self.stood_for = self.stood_for.after(&HangsUp { now });
         emits
     }

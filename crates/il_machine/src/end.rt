@@ -487,7 +487,7 @@ impl IlEnd {
     }
 
     /// Hangs the end up, and gives what it emits.
-    pub fn hang_up(&mut self, now: u64) -> Option<IlMsg>
+    pub fn hangup(&mut self, now: u64) -> Option<IlMsg>
         requires { now < 2 ^ 63 }
         ensures { TurnsEnd self.old self.new result (λ e. table.hangs_up now e) }
     {

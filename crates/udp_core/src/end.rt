@@ -76,7 +76,7 @@ impl UdpEnd {
     }
 
     /// Hangs the end up, unless it was never connected or announced.
-    pub fn hang_up(&mut self)
+    pub fn hangup(&mut self)
         ensures { self.new ≡ spec.udp_hangs_up self.old }
     {
         if self.state != UdpState::Fresh {

@@ -240,7 +240,7 @@ fn is_met(alloc: Global, end: &mut IlEnd, row: &Row) -> Result<bool, AllocError>
         Deed::Born(start, rstart) => Ok(says(Some(end.born(now, start, rstart)), said)),
         Deed::Hear(heard) => hears(alloc, end, now, heard, said),
         Deed::Write(text) => writes(end, now, text, said),
-        Deed::Hangup => Ok(says(end.hang_up(now), said)),
+        Deed::Hangup => Ok(says(end.hangup(now), said)),
         Deed::Tick => Ok(says(end.tick(now), said)),
         _ => Ok(says(None, said) && is_met_quietly(end, now, deed)?),
     }

@@ -72,7 +72,7 @@ fn reads(end: &mut UdpEnd, count: usize, bytes: Option<&[u8]>) -> Result<bool, A
 fn is_met(alloc: Global, end: &mut UdpEnd, deed: Deed) -> Result<bool, AllocError> {
     match deed {
         Deed::Hangup => {
-            end.hang_up();
+            end.hangup();
             Ok(true)
         }
         Deed::Look(state) => Ok(end.state() == state),

@@ -308,7 +308,7 @@ impl Conv {
                 self.turned(was_over, answer, message)
             }
             Core::Udp(end) => {
-                end.hang_up();
+                end.hangup();
                 self.left(was_over, answer, None)
             }
         }
