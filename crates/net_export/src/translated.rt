@@ -1,5 +1,5 @@
 //! The world that a world with sessions is translated to.
-ghost use Rattle.std.specs.Prelude.{◌≡◌, ◌<◌, List, [], length, OnOk, OnErr};
+ghost use Rattle.std.specs.Prelude.{◌≡◌, ◌<◌, List, length, IfOk, OnOk};
 ghost use Rattle.net_base.specs.declared.world.Step.{Step as AnyStep};
 ghost use Rattle.net_base.specs.World.{IsWorld};
 ghost use Rattle.net_export.specs.Placed.{PutsSession};
@@ -11,14 +11,26 @@ use session_script::{ExportError, Session, SessionWorld, script_of};
 use std::alloc::{AllocError, Global};
 use std::mem;
 
-/// Puts the script of each session in its place. Without memory the world is left without scripts.
-pub fn translate(alloc: Global, told: &mut SessionWorld) -> Result<(), AllocError>
+/// The world with the script of each session in its place, and the sessions.
+pub fn translate(alloc: Global, told: SessionWorld) -> Result<SessionWorld, AllocError>
+    requires world { IsWorld told.world }
+    requires streams { HaveStreams told }
+    ensures translated { IfOk result (λ now. IsTranslated told now.world) }
+    ensures world { IfOk result (λ now. IsWorld now.world) }
+    ensures sessions { IfOk result (λ now. now.sessions ≡ told.sessions) }
+{
+    let mut translated = told;
+    put_scripts(alloc, &mut translated)?;
+    Ok(translated)
+}
+
+// Puts the script of each session in its place.
+fn put_scripts(alloc: Global, told: &mut SessionWorld) -> Result<(), AllocError>
     requires world { IsWorld told.old.world }
     requires streams { HaveStreams told.old }
     ensures translated { OnOk result (IsTranslated told.old told.new.world) }
     ensures world { OnOk result (IsWorld told.new.world) }
     ensures sessions { told.new.sessions ≡ told.old.sessions }
-    ensures err { OnErr result (told.new.world ≡ record told.old.world { scripts = [] }) }
 {
     let mut scripts = mem::replace(&mut told.world.scripts, Sequence::new(alloc)).into_vec();
     for session in told.sessions.as_slice() {

@@ -41,11 +41,10 @@ fn translate_told(alloc: Global, told: SessionWorld) -> Result<Answer, AllocErro
     requires streams { HaveStreams told }
     ensures { IfOk result (λ answer. (w : AnyWorld) × IsTranslated told w × (answer ≡ translation w)) }
 {
-    let mut world = told;
-    translate_world(alloc, &mut world)?;
-    let text = write_world(alloc, &world.world)?;
-    // the program ends behind its one answer, and gives back all memory at once
-    mem::forget(world);
+    let translated = translate_world(alloc, told)?;
+    let text = write_world(alloc, &translated.world)?;
+    // the program ends after its one answer, and gives back all memory at once
+    mem::forget(translated);
     Ok(Answer::whole(text))
 }
 
@@ -86,11 +85,17 @@ fn export_told<R: Threads + Wait + Sync, G: Gate + Sync>(
     ensures { IfOk result (λ answer. (w : AnyWorld) × IsTranslated told w × IsExported w told.sessions answer) }
 {
     sessions_are_played();
-    let mut world = told;
-    translate_world(alloc, &mut world)?;
-    let answer = export_world(rt, alloc, workers, &world.world, &world.sessions, gate);
-    // the program ends behind its one answer, and gives back all memory at once
-    mem::forget(world);
+    let translated = translate_world(alloc, told)?;
+    let answer = export_world(
+        rt,
+        alloc,
+        workers,
+        &translated.world,
+        &translated.sessions,
+        gate,
+    );
+    // the program ends after its one answer, and gives back all memory at once
+    mem::forget(translated);
     answer
 }
 

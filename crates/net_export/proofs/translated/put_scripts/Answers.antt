@@ -3,7 +3,7 @@ use Rattle.net_base.specs.declared.world.Script.{Script}
 use Rattle.net_base.specs.World.{IsWorld}
 use Rattle.session_script.specs.Worlds.{IsTranslated}
 use Rattle.net_export.proofs.Placing.{Placing, all_placed, has_place, is_world, past_all, placing_more, placing_none, session_at, stream_at}
-use Rattle.net_export.proofs.translated.translate.Goals as goal
+use Rattle.net_export.proofs.translated.put_scripts.Goals as goal
 
 -- before the first session
 pub loop-session-init : goal.loop-session-init
