@@ -1,5 +1,5 @@
 -- What is printed of a history, by its text and its summary.
-use Rattle.std.proofs.Common.{◌≡◌, ℕ, ◌<◌, ◌^◌, ◌⊎◌, inl, inr, Bool, true, false, List, [], ◌∷◌, ◌++◌, length, Option, Some, None, refl, sym, ap, ◌∙◌, append-nil, append_assoc}
+use Rattle.std.proofs.Common.{◌≡◌, ℕ, ◌<◌, ◌^◌, inl, inr, Bool, true, false, List, [], ◌∷◌, ◌++◌, length, Option, Some, None, refl, sym, ap, ◌∙◌, append-nil, append_assoc}
 use Rattle.std.specs.Prelude.{codes, if◌then◌else◌}
 use Rattle.std.specs.List.{concat}
 use Rattle.net_base.specs.declared.history.Entry.{Entry}
@@ -9,7 +9,6 @@ use Rattle.net_base.specs.Net.{Net, after}
 use Rattle.net_base.specs.Plain.{IsPlain}
 use Rattle.net_base.specs.Summary.{all_steps, answered_steps, both_line, end_line, end_word, steps_line, summary, totals}
 use Rattle.net_base.specs.Transcript.{history_text}
-use Rattle.history_reader.specs.LineReading.{reading_line}
 use Rattle.history_reader.specs.Spelling.{IsBadText, IsSummary, SpellsHistory}
 use Rattle.history_reader.specs.SummaryText.{IsEndWord}
 use Rattle.history_reader.specs.Wide.{IsWide}
@@ -32,11 +31,12 @@ joined a m b e = simp (append_assoc, append-nil) refl
 pub four_lines : (w : World) (h : List Entry) → IsSummary (summary w h)
 four_lines w h =
     let t = totals h in
-    let net = after w h in
-    (steps_line (answered_steps w h) (all_steps w) ∷ both_line (codes "messages") t.written t.read ∷ both_line (codes "bytes") t.bytes_written t.bytes_read ∷ end_line (end_word w net) net.moment ∷ [],
-    refl,
-    ((answered_steps w h, all_steps w, refl), ((t.written, t.read, refl), ((t.bytes_written, t.bytes_read, refl), ((end_word w net, net.moment, end_words w net, refl), tt)))),
-    joined (steps_line (answered_steps w h) (all_steps w)) (both_line (codes "messages") t.written t.read) (both_line (codes "bytes") t.bytes_written t.bytes_read) (end_line (end_word w net) net.moment))
+    let net = after w h in (
+      steps_line (answered_steps w h) (all_steps w) ∷ both_line (codes "messages") t.written t.read ∷ both_line (codes "bytes") t.bytes_written t.bytes_read ∷ end_line (end_word w net) net.moment ∷ [],
+      refl,
+      ((answered_steps w h, all_steps w, refl), ((t.written, t.read, refl), ((t.bytes_written, t.bytes_read, refl), ((end_word w net, net.moment, end_words w net, refl), tt)))),
+      joined (steps_line (answered_steps w h) (all_steps w)) (both_line (codes "messages") t.written t.read) (both_line (codes "bytes") t.bytes_written t.bytes_read) (end_line (end_word w net) net.moment),
+    )
 
 pub spells_alone : (h : List Entry) → IsWide h → IsPlain h → SpellsHistory (history_text h) h None
 spells_alone h wide plain = record { plain = plain; wide = wide; spelled = ([], sym (append-nil (history_text h)), refl) }

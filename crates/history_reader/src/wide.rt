@@ -3,7 +3,9 @@ ghost use Rattle.std.specs.Prelude.{◌≡◌, ◌<◌, ℕ, Option, length};
 ghost use Rattle.net_base.specs.Plain.{AreBytes};
 ghost use Rattle.history_reader.specs.Wide as wide;
 
-use net_base::{ActorName, Addr, BodyHeader, Call, Entries, Entry, Event, Header, Octets, Pair, Reply};
+use net_base::{
+    ActorName, Addr, BodyHeader, Call, Entries, Entry, Event, Header, Octets, Pair, Reply,
+};
 
 /// The numbers of a history are within the widths of their fields, and its texts are made of bytes.
 pub fn histories_are_wide<E: Entries>(history: &E)
@@ -82,7 +84,9 @@ fn event(event: &Event)
             call(*slot, *generation)
         }
         Event::File {
-            generation, count, ..
+            generation,
+            count,
+            ..
         }
         | Event::Read { generation, count } => call(*count, *generation),
         Event::Write {
