@@ -1,5 +1,6 @@
 pub mod ByPair
 pub mod Covering
+pub mod InForce
 pub mod Nearby
 pub mod Notes
 pub mod Own

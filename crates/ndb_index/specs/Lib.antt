@@ -6,6 +6,7 @@ pub mod Chained
 pub mod Hashing
 pub mod Index
 pub mod Kept
+pub mod Moments
 pub mod Near
 pub mod Nets
 pub use Rattle.net_base.specs.Spots

@@ -1,7 +1,9 @@
-use Rattle.std.proofs.Common.{◌≡◌, drop}
-use Rattle.net_base.specs.Versions.{in_force, last_come}
+use Rattle.std.proofs.Common.{◌-◌}
+use Rattle.ndb_index.proofs.InForce.{Halved}
 use Rattle.ndb_index.proofs.versions.IndexedVersions.in_force.Given as goal
 
--- the last that has come so far, and those that are left
-abbrev pub invariant-loop-number : goal.invariant-loop-number
-invariant-loop-number l = last_come l.last l.number l.now (drop l.number l.self) ≡ in_force l.now l.self
+abbrev pub invariant-loop-end : goal.invariant-loop-end
+invariant-loop-end l = Halved l.self l.now l.first l.end
+
+abbrev pub decreases-loop-end : goal.decreases-loop-end
+decreases-loop-end l = l.end - l.first
