@@ -8,6 +8,7 @@ use Rattle.std.proofs.lemmas.List.{map_push}
 use Rattle.net_base.specs.Addresses.{address_text}
 use Rattle.net_base.specs.Numeral.{numeral}
 use Rattle.net_base.specs.Transcript.{ip_word}
+use Rattle.words.specs.Digits.{four_digits}
 
 abbrev shown : List ℕ → List ℕ
 shown digits = map (λ digit. 48 + digit) digits
@@ -41,8 +42,8 @@ pub numeral_two : (n : ℕ) → 10 ≤ n → n < 100 → numeral n ≡ (48 + n /
 numeral_two n ten lt = numeral_more n ten ∙ ap (λ digits. digits ++ ((48 + n % 10) ∷ [])) (numeral_one (n / 10) (omega (arith, lt)))
 
 -- two digits more
-pub numeral_four : (n : ℕ) → 100 ≤ n → numeral n ≡ numeral (n / 100) ++ (48 + n % 100 / 10) ∷ (48 + n % 100 % 10) ∷ []
-numeral_four n hundred =
+numeral_two_more : (n : ℕ) → 100 ≤ n → numeral n ≡ numeral (n / 100) ++ (48 + n % 100 / 10) ∷ (48 + n % 100 % 10) ∷ []
+numeral_two_more n hundred =
     let front : n / 10 / 10 ≡ n / 100 = omega arith in
     let middle : n / 10 % 10 ≡ n % 100 / 10 = omega arith in
     let last : n % 10 ≡ n % 100 % 10 = omega arith in
@@ -53,14 +54,39 @@ numeral_four n hundred =
     ∙ ap (λ digit. numeral (n / 100) ++ (48 + digit) ∷ (48 + n % 10) ∷ []) middle
     ∙ ap (λ digit. numeral (n / 100) ++ (48 + n % 100 / 10) ∷ (48 + digit) ∷ []) last
 
--- they are put behind the others
-pub two_more : (n : ℕ) (out front new : List ℕ) → 100 ≤ n → front ≡ out ++ numeral (n / 100)
-    → new ≡ front ++ (48 + n % 100 / 10) ∷ (48 + n % 100 % 10) ∷ [] → new ≡ out ++ numeral n
-two_more n out front new hundred before is =
+-- three digits
+pub numeral_three : (n : ℕ) → 100 ≤ n → n < 1000 → numeral n ≡ (48 + n / 100) ∷ (48 + n % 100 / 10) ∷ (48 + n % 100 % 10) ∷ []
+numeral_three n hundred lt =
+    numeral_two_more n hundred
+    ∙ ap (λ digits. digits ++ (48 + n % 100 / 10) ∷ (48 + n % 100 % 10) ∷ []) (numeral_one (n / 100) (omega (arith, lt)))
+
+-- four digits
+pub numeral_four : (n : ℕ) → 1000 ≤ n → n < 10000 → numeral n ≡ four_digits n
+numeral_four n thousand lt =
+    numeral_two_more n (omega (arith, thousand))
+    ∙ ap (λ digits. digits ++ (48 + n % 100 / 10) ∷ (48 + n % 100 % 10) ∷ []) (numeral_two (n / 100) (omega (arith, thousand)) (omega (arith, lt)))
+
+-- four digits more
+numeral_four_more : (n : ℕ) → 10000 ≤ n → numeral n ≡ numeral (n / 10000) ++ four_digits (n % 10000)
+numeral_four_more n le =
+    let front : n / 100 / 100 ≡ n / 10000 = omega arith in
+    let high : n / 100 % 100 ≡ n % 10000 / 100 = omega arith in
+    let low : n % 100 ≡ n % 10000 % 100 = omega arith in
+    numeral_two_more n (omega (arith, le))
+    ∙ ap (λ digits. digits ++ (48 + n % 100 / 10) ∷ (48 + n % 100 % 10) ∷ []) (numeral_two_more (n / 100) (omega (arith, le)))
+    ∙ append_assoc (numeral (n / 100 / 100)) ((48 + n / 100 % 100 / 10) ∷ (48 + n / 100 % 100 % 10) ∷ []) ((48 + n % 100 / 10) ∷ (48 + n % 100 % 10) ∷ [])
+    ∙ ap (λ k. numeral k ++ (48 + n / 100 % 100 / 10) ∷ (48 + n / 100 % 100 % 10) ∷ (48 + n % 100 / 10) ∷ (48 + n % 100 % 10) ∷ []) front
+    ∙ ap (λ k. numeral (n / 10000) ++ (48 + k / 10) ∷ (48 + k % 10) ∷ (48 + n % 100 / 10) ∷ (48 + n % 100 % 10) ∷ []) high
+    ∙ ap (λ k. numeral (n / 10000) ++ (48 + n % 10000 / 100 / 10) ∷ (48 + n % 10000 / 100 % 10) ∷ (48 + k / 10) ∷ (48 + k % 10) ∷ []) low
+
+-- they are put after the others
+pub four_more : (n : ℕ) (out front new : List ℕ) → 10000 ≤ n → front ≡ out ++ numeral (n / 10000)
+    → new ≡ front ++ four_digits (n % 10000) → new ≡ out ++ numeral n
+four_more n out front new le before is =
     is
-    ∙ ap (λ digits. digits ++ (48 + n % 100 / 10) ∷ (48 + n % 100 % 10) ∷ []) before
-    ∙ append_assoc out (numeral (n / 100)) ((48 + n % 100 / 10) ∷ (48 + n % 100 % 10) ∷ [])
-    ∙ ap (λ digits. out ++ digits) (sym (numeral_four n hundred))
+    ∙ ap (λ digits. digits ++ four_digits (n % 10000)) before
+    ∙ append_assoc out (numeral (n / 10000)) (four_digits (n % 10000))
+    ∙ ap (λ digits. out ++ digits) (sym (numeral_four_more n le))
 
 -- what holds of one digit, and of a digit more, holds of all numbers
 module _ (P : ℕ → List ℕ → Type 0) (one : (n : ℕ) → n < 10 → P n ((48 + n) ∷ [])) (more : (n : ℕ) (digits : List ℕ) → 10 ≤ n → P (n / 10) digits → P n (digits ++ ((48 + n % 10) ∷ []))) where

@@ -1,3 +1,4 @@
+pub mod Digits
 pub use Rattle.net_base.specs.Addresses
 pub use Rattle.net_base.specs.ControlWords
 pub use Rattle.net_base.specs.Hexadecimal

@@ -4,50 +4,89 @@ ghost use Rattle.std.specs.Char.{digit_value};
 ghost use Rattle.std.specs.Str.Parse.{digits_value};
 ghost use Rattle.net_base.specs.Addresses as spec;
 ghost use Rattle.net_base.specs.Numeral.{numeral};
+ghost use Rattle.words.specs.Digits.{four_digits};
 
 use itoa::Buffer;
 use net_base::Octets;
 use std::alloc::AllocError;
 
 /// Adds a number's digits.
-#[tactic(auto, using(crate::proofs::Numerals::decimal_is_numeral))]
+#[tactic(auto, using(crate::proofs::Numerals::decimal_is_numeral, crate::proofs::Numerals::four_more))]
 pub fn put_decimal(out: &mut Octets, n: u64) -> Result<(), AllocError>
     ensures numeral { OnOk result (out.new ≡ out.old ++ numeral n) }
     ensures decimal { OnOk result (out.new ≡ out.old ++ decimal n) }
 {
-    // most numbers have few digits
-    if n < 100 {
+    put_digits(out, n)
+}
+
+// Adds the digits, four at a time if there are at most twelve.
+#[tactic(auto, using(crate::proofs::Numerals::decimal_is_numeral, crate::proofs::Numerals::four_more))]
+fn put_digits(out: &mut Octets, n: u64) -> Result<(), AllocError>
+    ensures { OnOk result (out.new ≡ out.old ++ numeral n) }
+{
+    if n < 10_000 {
         return put_short(out, n);
     }
-    if n < 10000 {
-        put_short(out, n / 100)?;
-        return put_two(out, n % 100);
+    if n < 1_000_000_000_000 {
+        put_middle(out, n / 10_000)?;
+        return put_four(out, n % 10_000);
     }
     let mut buffer = Buffer::new();
     out.append(buffer.format(n).as_bytes())
 }
 
-// Adds one digit or two.
+// Adds one digit to eight digits.
 #[inline(always)]
-#[tactic(auto, using(crate::proofs::Numerals::numeral_one, crate::proofs::Numerals::numeral_two))]
+#[tactic(auto, using(crate::proofs::Numerals::four_more))]
+fn put_middle(out: &mut Octets, n: u64) -> Result<(), AllocError>
+    requires { n < 100000000 }
+    ensures { OnOk result (out.new ≡ out.old ++ numeral n) }
+{
+    if n < 10_000 {
+        return put_short(out, n);
+    }
+    put_short(out, n / 10_000)?;
+    put_four(out, n % 10_000)
+}
+
+// Adds one digit to four digits.
+#[inline(always)]
+#[tactic(auto, using(crate::proofs::Numerals::numeral_one, crate::proofs::Numerals::numeral_two, crate::proofs::Numerals::numeral_three, crate::proofs::Numerals::numeral_four))]
 fn put_short(out: &mut Octets, n: u64) -> Result<(), AllocError>
-    requires { n < 100 }
+    requires { n < 10000 }
     ensures { OnOk result (out.new ≡ out.old ++ numeral n) }
 {
     if n < 10 {
         return out.push(b'0' + n as u8);
     }
-    put_two(out, n)
+    if n < 100 {
+        return out.append(&[b'0' + (n / 10) as u8, b'0' + (n % 10) as u8]);
+    }
+    if n < 1000 {
+        let low = n % 100;
+        return out.append(&[
+            b'0' + (n / 100) as u8,
+            b'0' + (low / 10) as u8,
+            b'0' + (low % 10) as u8,
+        ]);
+    }
+    put_four(out, n)
 }
 
-// Adds two digits, the first of which may be 0.
+// Adds four digits, the first of which can be 0.
 #[inline(always)]
-fn put_two(out: &mut Octets, n: u64) -> Result<(), AllocError>
-    requires { n < 100 }
-    ensures { OnOk result (out.new ≡ out.old ++ (48 + n / 10) ∷ (48 + n % 10) ∷ []) }
+fn put_four(out: &mut Octets, n: u64) -> Result<(), AllocError>
+    requires { n < 10000 }
+    ensures { OnOk result (out.new ≡ out.old ++ four_digits n) }
 {
-    out.push(b'0' + (n / 10) as u8)?;
-    out.push(b'0' + (n % 10) as u8)
+    let high = n / 100;
+    let low = n % 100;
+    out.append(&[
+        b'0' + (high / 10) as u8,
+        b'0' + (high % 10) as u8,
+        b'0' + (low / 10) as u8,
+        b'0' + (low % 10) as u8,
+    ])
 }
 
 /// Adds the digits of a number of 128 bits.
