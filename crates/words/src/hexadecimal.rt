@@ -1,24 +1,71 @@
 //! Bytes in lower-case hexadecimal.
-ghost use Rattle.std.specs.Prelude.{◌≡◌, ◌<◌, ◌++◌, IfOk, OnOk};
+ghost use Rattle.std.specs.Prelude.{◌≡◌, ◌<◌, ◌/◌, ◌%◌, ◌∷◌, ◌++◌, [], IfOk, OnOk};
 ghost use Rattle.net_base.specs.Hexadecimal as spec;
 
 use net_base::Octets;
 use std::alloc::{AllocError, Global};
 
+static DIGITS: [u8; 16] = *b"0123456789abcdef";
+
+// The first digit of a byte.
+#[inline(always)]
+fn high_digit(byte: u8) -> u8
+    ensures { result ≡ spec.hex_digit (byte / 16) }
+{
+    hex_digit(byte / 16)
+}
+
+// The second digit of a byte.
+#[inline(always)]
+fn low_digit(byte: u8) -> u8
+    ensures { result ≡ spec.hex_digit (byte % 16) }
+{
+    hex_digit(byte % 16)
+}
+
+#[inline(always)]
 fn hex_digit(n: u8) -> u8
     requires { n < 16 }
     ensures { result ≡ spec.hex_digit n }
 {
-    if n < 10 { b'0' + n } else { b'a' + (n - 10) }
+    DIGITS[n as usize]
 }
 
 /// Adds two digits for each byte.
 pub fn put_hex_digits(out: &mut Octets, bytes: &[u8]) -> Result<(), AllocError>
     ensures { OnOk result (out.new ≡ out.old ++ spec.hex_digits bytes.now) }
 {
+    let mut rest = bytes;
+    while let [a, b, c, d, others @ ..] = rest {
+        put_four_bytes(out, *a, *b, *c, *d)?;
+        rest = others;
+    }
+    put_last_bytes(out, rest)
+}
+
+// Adds the digits of four bytes.
+#[inline(always)]
+fn put_four_bytes(out: &mut Octets, a: u8, b: u8, c: u8, d: u8) -> Result<(), AllocError>
+    ensures { OnOk result (out.new ≡ out.old ++ spec.hex_digits (a ∷ b ∷ c ∷ d ∷ [])) }
+{
+    out.append(&[
+        high_digit(a),
+        low_digit(a),
+        high_digit(b),
+        low_digit(b),
+        high_digit(c),
+        low_digit(c),
+        high_digit(d),
+        low_digit(d),
+    ])
+}
+
+// Adds the digits of a few bytes.
+fn put_last_bytes(out: &mut Octets, bytes: &[u8]) -> Result<(), AllocError>
+    ensures { OnOk result (out.new ≡ out.old ++ spec.hex_digits bytes.now) }
+{
     for byte in bytes {
-        out.push(hex_digit(*byte / 16))?;
-        out.push(hex_digit(*byte % 16))?;
+        out.append(&[high_digit(*byte), low_digit(*byte)])?;
     }
     Ok(())
 }

@@ -19,9 +19,13 @@ pub fn put_word(out: &mut Octets, word: &[u8]) -> Result<(), AllocError>
 
 /// A number.
 #[inline(always)]
+#[tactic(auto, using(crate::proofs::Numerals::numeral_one))]
 pub fn put_number(out: &mut Octets, n: u64) -> Result<(), AllocError>
     ensures { OnOk result (out.new ≡ out.old ++ spaced (numeral n ∷ [])) }
 {
+    if n < 10 {
+        return out.append(&[b' ', b'0' + n as u8]);
+    }
     out.push(b' ')?;
     put_decimal(out, n)
 }
