@@ -40,12 +40,12 @@ ends_first (b ∷ bytes) c cs is = by (is_newline b) refl (cuts_of bytes) refl (
 -- Lines that aren't the one between.
 
 -- a first line that isn't it
-passed_mark : (rest : List ℕ) (c : Cut) (cs : List Cut) → cuts_of rest ≡ c ∷ cs → is_mark c.line ≡ false
+pub passed_mark : (rest : List ℕ) (c : Cut) (cs : List Cut) → cuts_of rest ≡ c ∷ cs → is_mark c.line ≡ false
     → mark_of rest ≡ find (λ (d : Cut). is_mark d.line) cs
 passed_mark rest c cs is not_it = ap (find (λ (d : Cut). is_mark d.line)) is ∙ ap (λ (v : Bool). cond v (Some c) (find (λ (d : Cut). is_mark d.line) cs)) not_it
 
 -- or is
-found_mark : (rest : List ℕ) (c : Cut) (cs : List Cut) → cuts_of rest ≡ c ∷ cs → is_mark c.line ≡ true → mark_of rest ≡ Some c
+pub found_mark : (rest : List ℕ) (c : Cut) (cs : List Cut) → cuts_of rest ≡ c ∷ cs → is_mark c.line ≡ true → mark_of rest ≡ Some c
 found_mark rest c cs is it = ap (find (λ (d : Cut). is_mark d.line)) is ∙ ap (λ (v : Bool). cond v (Some c) (find (λ (d : Cut). is_mark d.line) cs)) it
 
 before_by : Bool → List ℕ → List (List ℕ) → List (List ℕ)
@@ -66,13 +66,13 @@ before_true : (line : List ℕ) (lines : List (List ℕ)) → before_by true lin
 unfolding before_by
 before_true line lines = refl
 
-passed_before : (rest : List ℕ) (c : Cut) (cs : List Cut) → cuts_of rest ≡ c ∷ cs → is_mark c.line ≡ false
+pub passed_before : (rest : List ℕ) (c : Cut) (cs : List Cut) → cuts_of rest ≡ c ∷ cs → is_mark c.line ≡ false
     → lines_before rest ≡ c.line ∷ before_first is_mark (map (λ (d : Cut). d.line) cs)
 passed_before rest c cs is not_it =
     ap (λ (ds : List Cut). before_first is_mark (map (λ (d : Cut). d.line) ds)) is
     ∙ (before_cons c.line (map (λ (d : Cut). d.line) cs) false not_it ∙ before_false c.line (map (λ (d : Cut). d.line) cs))
 
-found_before : (rest : List ℕ) (c : Cut) (cs : List Cut) → cuts_of rest ≡ c ∷ cs → is_mark c.line ≡ true → lines_before rest ≡ []
+pub found_before : (rest : List ℕ) (c : Cut) (cs : List Cut) → cuts_of rest ≡ c ∷ cs → is_mark c.line ≡ true → lines_before rest ≡ []
 found_before rest c cs is it =
     ap (λ (ds : List Cut). before_first is_mark (map (λ (d : Cut). d.line) ds)) is
     ∙ (before_cons c.line (map (λ (d : Cut). d.line) cs) true it ∙ before_true c.line (map (λ (d : Cut). d.line) cs))

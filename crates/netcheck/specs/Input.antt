@@ -1,8 +1,9 @@
 -- An input that has a world and a history of it.
 --     parts_of              the input, cut at its first line `%history`
+--     with_printed          the input of a world's text and what is printed of a run
 --     IsBadHanded           its first bad line
 --     Handed                the world, the history and the summary that it says
-use Rattle.std.specs.Prelude.{◌≡◌, ℕ, ◌+◌, Bool, List, length, map, find, bytes_eq, codes, Option, Some, None, Result, Ok, Err}
+use Rattle.std.specs.Prelude.{◌≡◌, ℕ, ◌+◌, ◌++◌, Bool, List, length, map, find, bytes_eq, codes, Option, Some, None, Result, Ok, Err}
 use Rattle.std.specs.List.{before_first}
 use Rattle.net_base.specs.declared.history.Entry.{Entry}
 use Rattle.net_base.specs.declared.world.World.{World}
@@ -39,6 +40,10 @@ input_parts lines (Some mark) = Some (record { world = laid lines; lines = lengt
 -- both parts of an input, where a line of it is `%history`
 abbrev pub parts_of : List ℕ → Option InputParts
 parts_of input = input_parts (lines_before input) (mark_of input)
+
+-- the text of a world, the line between, and what is printed of a run of it
+abbrev pub with_printed : List ℕ → List ℕ → List ℕ
+with_printed world printed = world ++ (codes "%history\n" ++ printed)
 
 -- Bad lines.
 

@@ -1,11 +1,21 @@
-//! Laws of callers that a world hasn't, and of the first entry that breaks a rule.
-ghost use Rattle.std.specs.Prelude.{◌≡◌, ◌≤◌, ◌⊎◌, ℕ, List, [], None};
+//! Laws of callers that a world hasn't, of the first entry that breaks a rule, and of inputs that are printed.
+ghost use Rattle.std.specs.Prelude.{◌≡◌, ◌≤◌, ◌<◌, ◌^◌, ◌⊎◌, ◌∷◌, ◌++◌, ℕ, List, [], None, Some, length};
 ghost use Rattle.net_base.specs.declared.history.Entry.{Entry};
 ghost use Rattle.net_base.specs.declared.world.World.{World};
 ghost use Rattle.net_base.specs.Callers.{caller_count};
 ghost use Rattle.net_base.specs.Legal.{IsFault, IsLegal, IsTimed, Rule};
 ghost use Rattle.net_base.specs.Net.{owed};
 ghost use Rattle.net_base.specs.Next.{next_recorded};
+ghost use Rattle.net_base.specs.Plain.{IsPlain};
+ghost use Rattle.net_base.specs.Summary.{summary};
+ghost use Rattle.net_base.specs.Transcript.{history_text};
+ghost use Rattle.history_reader.specs.Wide.{IsWide};
+ghost use Rattle.world_text.specs.WorldSpelling.{IsWorldText};
+ghost use Rattle.netcheck.specs.Input.{with_printed};
+ghost use Rattle.netcheck.specs.Told.{HandsIn};
+
+use history_reader::{summaries_are_four_lines, texts_spell_one_history};
+use world_text::worlds_are_spelled;
 
 /// A caller that the world hasn't owes nothing after a legal history, and nothing of it comes next.
 pub fn nobody_owes()
@@ -23,3 +33,15 @@ pub fn a_fault_is_one()
 pub fn legal_or_at_fault()
     ensures { (w : World) (h : List Entry) → (IsLegal w h × IsTimed w h) ⊎ ((s : ℕ) × (r : Rule) × IsFault w h s r) }
 {}
+
+/// The text of a world, which ends with a newline, then `%history`, then a plain history with its summary: an input of these
+/// hands in that world, that history and that summary, and nothing else.
+pub fn printed_histories_are_handed_in()
+    ensures { (w : World) (h : List Entry) (text : List ℕ) → IsWorldText (text ++ 10 ∷ []) w → IsWide h → IsPlain h
+        → length (history_text h ++ summary w h) < 2 ^ 64
+        → HandsIn (with_printed (text ++ 10 ∷ []) (history_text h ++ summary w h)) w h (Some (summary w h)) }
+{
+    summaries_are_four_lines();
+    texts_spell_one_history();
+    worlds_are_spelled();
+}

@@ -10,3 +10,4 @@ pub mod Judging
 pub mod MadeText
 pub mod OneHistory
 pub mod RunEnds
+pub mod Accepted

@@ -25,6 +25,7 @@ use Rattle.net_base.specs.Plain.{IsPlain}
 use Rattle.net_base.specs.Summary.{summary}
 use Rattle.net_base.specs.Transcript.{history_text}
 use Rattle.net_model.specs.Headline.{Headline}
+use Rattle.history_reader.specs.Wide.{IsWide}
 use Rattle.world_writer.specs.Made.{made_world}
 use Rattle.world_text.specs.WorldText.{world_reading}
 use Rattle.world_writer.specs.Written.{world_file_text}
@@ -121,6 +122,8 @@ pub record IsRunAnswer (w : World) (answer : Answer) : Type 0 where
   pub timed : IsTimed w history
   pub headline : Headline w history
   pub text : answer.text ≡ history_text history ++ summary w history
+  -- each number of it is within its field, so that its text can be read back
+  pub wide : IsWide history
   -- and of no other plain history
   pub one : (v : World) (k : List Entry) → IsPlain k → answer.text ≡ history_text k ++ summary v k → k ≡ history
   pub status : IsStatus w (after w history) answer.status

@@ -17,6 +17,7 @@ ghost use Rattle.net_base.specs.Ends.{EndsSo};
 use crate::answer_lines::put_sessions;
 use agenda::{BookedRun, RunEnd};
 use cs_resolver::CsError;
+use history_reader::histories_are_wide;
 use journal::ClosedBooks;
 use net_base::{Lines, Octets, World};
 use net_export::answers_by_caller;
@@ -150,6 +151,7 @@ fn of_books(
     legal_histories_keep_it();
     legal_histories_are_plain();
     printed_runs_tell();
+    histories_are_wide(books);
     text.append(lines.as_slice())?;
     Ok(Answer::new(run_status(end), text))
 }

@@ -16,6 +16,7 @@ returns c =
       timed = c.requires.timed;
       headline = c.legal_histories_keep_it.ensures w h c.requires.world c.requires.legal;
       text = search (rules);
+      wide = c.histories_are_wide.ensures;
       one = only_one c.printed_runs_tell.ensures w h _ plain (search (rules));
       status = subst (IsStatus w (after w h)) (sym c.run_status.ensures) (status_is w (after w h) c.args.end c.requires.end);
     })
