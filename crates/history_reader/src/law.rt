@@ -11,13 +11,14 @@ ghost use Rattle.history_reader.specs.Wide.{IsWide};
 use crate::wide::histories_are_wide;
 use net_base::Entries;
 
-/// The summary of any history of any world is four lines, one of each form.
+/// States that the summary of a history has four lines, one of each form.
 pub fn summaries_are_four_lines()
     ensures { (w : World) (h : List Entry) → IsSummary (summary w h) }
 {}
 
-/// What is printed of a plain history spells it, alone or with a summary of it. This is a fact of values: no number of one
-/// is past its field.
+/// Shows that the text of a plain history spells it, alone or with its summary.
+///
+/// So `read_transcript` reads the text of each plain `History` as that history: no number of a value is too wide for its field.
 pub fn printed_histories_are_spelled<E: Entries>(history: &E)
     ensures wide { IsWide (E.list history.now) }
     ensures alone { IsPlain (E.list history.now)
@@ -29,7 +30,7 @@ pub fn printed_histories_are_spelled<E: Entries>(history: &E)
     histories_are_wide(history);
 }
 
-/// A text spells one history and one summary at most, and then it has no bad line.
+/// States that a text spells at most one history with its summary, and that a text which spells one has no bad line.
 pub fn texts_spell_one_history()
     ensures one { (bytes : List ℕ) (h k : List Entry) (s t : Option (List ℕ)) → length bytes < 2 ^ 64
         → SpellsHistory bytes h s → SpellsHistory bytes k t → (k ≡ h) × (t ≡ s) }

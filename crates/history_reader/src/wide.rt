@@ -1,5 +1,4 @@
-//! Each value of a history fits its field, by its type. These functions do nothing when they run.
-ghost use Rattle.std.specs.Prelude.{◌≡◌, ◌<◌, ℕ, Option, length};
+//! The widths of the fields of a history, which its types give. These functions read the fields and change nothing.
 ghost use Rattle.net_base.specs.Plain.{AreBytes};
 ghost use Rattle.history_reader.specs.Wide as wide;
 
@@ -7,7 +6,7 @@ use net_base::{
     ActorName, Addr, BodyHeader, Call, Entries, Entry, Event, Header, Octets, Pair, Reply,
 };
 
-/// The numbers of a history are within the widths of their fields, and its texts are made of bytes.
+/// Shows that each number of a history is within the width of its field, and that each text is made of bytes.
 pub fn histories_are_wide<E: Entries>(history: &E)
     ensures { wide.IsWide (E.list history.now) }
 {
@@ -222,7 +221,7 @@ fn are_bytes(bytes: &[u8])
     ensures { AreBytes bytes.now }
 {}
 
-/// A slot or a count, and a generation or a length.
+// A slot, a count or a limit, with a generation or a length.
 fn call(slot: u32, generation: u64)
     ensures slot { wide.IsNarrow slot }
     ensures generation { wide.IsLongField generation }

@@ -1,9 +1,8 @@
 -- The text of a world has no line `%history`, so that one put behind it is the first.
-use Rattle.std.proofs.Common.{◌≡◌, ℕ, ◌+◌, ◌==◌, ◌⊎◌, ◌||◌, Bool, true, false, not, cond, List, [], ◌∷◌, ◌++◌, length, map, Option, Some, None, Result, Ok, Err, refl, sym, ap, subst, ◌∙◌, inl, inr, arith, append_assoc}
+use Rattle.std.proofs.Common.{◌≡◌, ℕ, ◌+◌, ◌==◌, ◌⊎◌, ◌||◌, Bool, true, false, cond, List, [], ◌∷◌, ◌++◌, length, Option, Some, None, Result, Ok, Err, refl, sym, ap, subst, ◌∙◌, inl, inr, append_assoc}
 use Rattle.std.specs.Prelude.{codes, if◌then◌else◌}
-use Rattle.std.specs.List.{before_first, find, last_or, list_any, onto_first, slice_split}
+use Rattle.std.specs.List.{find, last_or, list_any, onto_first}
 use Rattle.std.proofs.lemmas.Bool.{false≢true, or_parts}
-use Rattle.std.proofs.lemmas.Bool.Decides.{nat_tests}
 use Rattle.std.proofs.lemmas.Option.{none-some}
 use Rattle.net_base.specs.declared.world.World.{World}
 use Rattle.net_base.specs.NdbBundle.{least_of_causes, told_line}
@@ -14,11 +13,11 @@ use Rattle.world_text.specs.declared.line.LineCause.TheVariants as cause
 use Rattle.world_text.specs.LineReading.{read_line}
 use Rattle.world_text.specs.VersionLines.{bad_version_line, first_bad_version, version_causes}
 use Rattle.world_text.specs.WorldLines.{Bad, Begins, Draft, Goes, Verdict, first_line, judged_line, line_verdict, opening_draft}
-use Rattle.world_text.specs.WorldSpelling.{is_line, laid}
+use Rattle.world_text.specs.WorldSpelling.{laid}
 use Rattle.world_text.specs.WorldText.{Cut, cuts_of, judged, reading_from, with_first, with_versions, world_reading}
-use Rattle.world_text.proofs.Shared.{Shape, shape, false-of-not}
+use Rattle.world_text.proofs.Shared.{shape, false-of-not}
 use Rattle.netcheck.proofs.Halves.{found_before, found_mark, passed_before, passed_mark}
-use Rattle.netcheck.specs.Input.{InputParts, input_parts, is_mark, lines_before, mark_of, parts_of, with_printed}
+use Rattle.netcheck.specs.Input.{input_parts, is_mark, lines_before, mark_of, parts_of, with_printed}
 
 abbrev mark : List ℕ
 mark = codes "%history"

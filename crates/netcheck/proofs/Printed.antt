@@ -1,5 +1,5 @@
 -- A world's text and what is printed of a history of it hand in that world, that history and its summary.
-use Rattle.std.proofs.Common.{◌≡◌, ℕ, ◌<◌, ◌^◌, List, [], ◌∷◌, ◌++◌, length, Option, Some, None, Result, Ok, refl, sym}
+use Rattle.std.proofs.Common.{◌≡◌, ℕ, ◌<◌, ◌^◌, List, [], ◌∷◌, ◌++◌, length, Option, Some, Ok, refl}
 use Rattle.net_base.specs.declared.history.Entry.{Entry}
 use Rattle.net_base.specs.declared.world.World.{World}
 use Rattle.net_base.specs.Plain.{IsPlain}
@@ -9,7 +9,7 @@ use Rattle.history_reader.specs.Spelling.{IsBadText, IsSummary, SpellsHistory}
 use Rattle.history_reader.specs.Wide.{IsWide}
 use Rattle.world_text.specs.WorldSpelling.{IsWorldText}
 use Rattle.world_text.specs.WorldText.{world_reading}
-use Rattle.netcheck.specs.Input.{InputParts, with_printed}
+use Rattle.netcheck.specs.Input.{with_printed}
 use Rattle.netcheck.specs.Told.{HandsIn}
 use Rattle.netcheck.proofs.Handing.{hands_in}
 use Rattle.netcheck.proofs.Marks.{printed_parts}

@@ -34,8 +34,9 @@ pub fn legal_or_at_fault()
     ensures { (w : World) (h : List Entry) → (IsLegal w h × IsTimed w h) ⊎ ((s : ℕ) × (r : Rule) × IsFault w h s r) }
 {}
 
-/// The text of a world, which ends with a newline, then `%history`, then a plain history with its summary: an input of these
-/// hands in that world, that history and that summary, and nothing else.
+/// States what a printed input hands in: its world, its plain history and the summary of that, and nothing else.
+///
+/// The text of the world ends with a newline. Then follow the line `%history`, the text of the history and the summary.
 pub fn printed_histories_are_handed_in()
     ensures { (w : World) (h : List Entry) (text : List ℕ) → IsWorldText (text ++ 10 ∷ []) w → IsWide h → IsPlain h
         → length (history_text h ++ summary w h) < 2 ^ 64

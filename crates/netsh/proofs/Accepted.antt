@@ -13,7 +13,7 @@ use Rattle.world_text.specs.WorldSpelling.{IsWorldText}
 use Rattle.world_text.specs.WorldText.{world_reading}
 use Rattle.net_model.specs.Answers.{Answer, all_kept, input_limit}
 use Rattle.net_model.specs.Words.{Command, Check, Run}
-use Rattle.net_model.specs.Asking.{IsBadOf, is_input_over}
+use Rattle.net_model.specs.Asking.{IsBadOf}
 use Rattle.net_model.proofs.Shared.{given_good, within_limit}
 use Rattle.netcheck.specs.Input.{bad_world, with_printed}
 use Rattle.netcheck.specs.Told.{HandsIn}
@@ -97,6 +97,9 @@ run_accepted plain handed read workers text w printed says limit ran fits =
     let run : IsRunAnswer w printed = subst (λ (v : World). IsRunAnswer v printed) same found.2 in (
       run.history,
       run.text,
-      λ answer. rw run.text (accepted plain handed run.history run.wide w text answer says run.legal run.timed
+      subst
+          (λ (t : List ℕ). (answer : Answer) → IsAnswer Check (with_printed (text ++ 10 ∷ []) t) answer ↔ (answer ≡ all_kept (length run.history)))
+          (sym run.text)
+          (λ answer. accepted plain handed run.history run.wide w text answer says run.legal run.timed
           (subst (λ (t : List ℕ). length (with_printed (text ++ 10 ∷ []) t) ≤ input_limit Check) run.text fits)),
     )

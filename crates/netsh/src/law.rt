@@ -30,8 +30,9 @@ pub fn values_are_answers()
         → IsAnswer (Make messages) input answer }
 {}
 
-/// The answer of `check` to a legal and timed history of a world is `ok N`: its input is the text of the world, which ends with a
-/// newline, then `%history`, the text of the history and its summary.
+/// Shows that `check` answers `ok N` to each legal and timed history of a world, and nothing else.
+///
+/// The input is the text of the world, which ends with a newline, the line `%history`, the text of the history and its summary.
 pub fn printed_histories_are_accepted<E: Entries>(history: &E)
     ensures { (w : AnyWorld) (text : List ℕ) (answer : AnyAnswer) → IsWorldText (text ++ 10 ∷ []) w
         → IsLegal w (E.list history.now) → IsTimed w (E.list history.now)
@@ -45,8 +46,9 @@ pub fn printed_histories_are_accepted<E: Entries>(history: &E)
     printed_histories_are_handed_in();
 }
 
-/// What `run` prints, `check` accepts: to the text of a world, which ends with a newline, then `%history` and what `run` prints of it,
-/// its one answer is `ok N`, where N is the number of the printed entries.
+/// States that `check` accepts what `run` prints: its one answer is `ok N`, where N is the number of the printed entries.
+///
+/// The input is the text of the world, which ends with a newline, the line `%history` and what `run` prints of the world.
 pub fn printed_runs_are_accepted()
     ensures { (workers : ℕ) (text : List ℕ) (w : AnyWorld) (printed : AnyAnswer) → IsWorldText (text ++ 10 ∷ []) w
         → length (text ++ 10 ∷ []) ≤ input_limit (Run workers) → IsAnswer (Run workers) (text ++ 10 ∷ []) printed
