@@ -31,6 +31,7 @@ CHECKS = {
     "statuses": [".ci/statuses"],
     "pages": [".ci/pages"],
     "captures": [".ci/captures"],
+    "dissector": [".ci/dissector"],
     "release": [".ci/release", "check"],
 }
 
