@@ -5,7 +5,7 @@ ghost use Rattle.diagnosis.specs.Cases as spec;
 use crate::told::Told;
 use std::fmt;
 
-/// What there is to explain.
+/// A case that has an explanation.
 #[derive(Clone, Copy, Debug, PartialEq, Eq)]
 pub enum Case {
     /// All went well.

@@ -4,7 +4,7 @@ ghost use Rattle.diagnosis.specs.Causes.{cause_numbered, cause_phrase};
 
 use std::fmt;
 
-/// Why a line is bad.
+/// The cause for which a line is bad.
 #[derive(Clone, Copy, Debug, PartialEq, Eq)]
 pub enum Cause {
     NoTuple,

@@ -27,7 +27,7 @@ pub struct Call<'a> {
     pub status: u8,
 }
 
-/// What a call that has ended is explained by: its case, and what is known of it.
+/// An explanation of a call that has ended: its case, and what is known of it.
 #[derive(Clone, Copy, Debug)]
 pub struct Explanation<'a> {
     pub case: Case,

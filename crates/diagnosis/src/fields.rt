@@ -4,7 +4,7 @@ use crate::lines::quotable;
 use std::fmt;
 use words::{address_in, number_in, single, split_first};
 
-/// What an argument must be.
+/// A kind of argument.
 #[derive(Clone, Copy, Debug, PartialEq, Eq)]
 pub enum Kind {
     /// A number from the first to the second.

@@ -6,7 +6,7 @@ use crate::lines::{first_spoken, quotable};
 use std::fmt;
 use words::split_first;
 
-/// Why there is no answer.
+/// A reason for which a query has no answer.
 #[derive(Clone, Copy, Debug)]
 pub enum Finding<'a> {
     /// The input is empty.

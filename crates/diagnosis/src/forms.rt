@@ -14,7 +14,7 @@ pub struct Form {
     pub fields: &'static [Field],
 }
 
-/// What is wrong with the arguments of a line.
+/// A fault of the arguments of a line.
 #[derive(Clone, Copy)]
 pub enum ArgumentFault<'a> {
     /// This argument, which is the word, has not its form.

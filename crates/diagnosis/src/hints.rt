@@ -3,7 +3,7 @@
 use crate::fields::Kind;
 use std::fmt;
 
-/// What to do about a bad line.
+/// A hint: what to do about a bad line.
 #[derive(Clone, Copy, Debug)]
 pub enum Hint<'a> {
     /// In fixed words.

@@ -15,7 +15,7 @@ pub struct Kept<'a> {
     pub whole: bool,
 }
 
-/// Reads from another source, and keeps the front of what was read, as far as there is memory.
+/// A source that reads from another one, and keeps the front of what was read, as far as there is memory.
 #[derive(Drop)]
 pub struct KeptSource<S> {
     source: S,

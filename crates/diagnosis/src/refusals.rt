@@ -19,7 +19,7 @@ struct Entries {
     first: Octets,
 }
 
-/// What was found at the beginning of a history.
+/// The failed events and the lost packets that were found at the beginning of a history.
 #[derive(Drop)]
 pub struct Refusals {
     refused: Entries,

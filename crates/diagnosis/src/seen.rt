@@ -18,7 +18,7 @@ pub struct RunEnd {
     pub moment: u64,
 }
 
-/// What was seen of an answer.
+/// The part of an answer that was seen.
 #[derive(Clone, Copy)]
 pub struct Seen<'a> {
     pub front: &'a [u8],
@@ -26,7 +26,7 @@ pub struct Seen<'a> {
     pub refusals: &'a Refusals,
 }
 
-/// Writes to another sink, and keeps the front of what was written, and the end of a run's summary.
+/// A sink that writes to another one, and keeps the front of what was written, and the end of a run's summary.
 #[derive(Drop)]
 pub struct SeenSink<K> {
     sink: K,

@@ -2,7 +2,7 @@
 
 use crate::lines::{decimal_in, first_line, word_at};
 
-/// What an answer tells.
+/// An answer that reports an error.
 #[derive(Clone, Copy, Debug, PartialEq, Eq)]
 pub enum Told {
     /// `! line LINE cause CAUSE`

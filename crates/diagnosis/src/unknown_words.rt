@@ -4,7 +4,7 @@ use crate::asked::Input;
 use crate::lines::first_word;
 use words::split_first;
 
-/// The part of a world in which a line stands.
+/// The part of a world that a line is in.
 #[derive(Clone, Copy, Debug, PartialEq, Eq)]
 pub enum Part {
     Head,

@@ -4,7 +4,7 @@ use crate::asked::{Program, command_word};
 use crate::lines::quotable;
 use std::fmt;
 
-/// What is wrong with words that are no command.
+/// A fault of words that are no command.
 #[derive(Clone, Copy, Debug)]
 pub enum Usage<'a> {
     /// There is none.
