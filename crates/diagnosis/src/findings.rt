@@ -86,7 +86,7 @@ impl fmt::Display for Finding<'_> {
         match self {
             Finding::Empty => write!(
                 f,
-                "no answer: the input is empty; give a database by < FILE"
+                "no answer: the input is empty, or all comments; give a database by < FILE"
             ),
             Finding::World => write!(
                 f,

@@ -7,7 +7,7 @@ use std::fmt;
 use words::split_first;
 
 /// The most bytes of a history that are looked at: to look at more would take too much of the time of a run.
-const MOST_BYTES: usize = 32768;
+const MOST_BYTES: usize = 16384;
 
 /// The most bytes of an entry that are kept.
 const MOST_KEPT: usize = 160;
@@ -113,26 +113,26 @@ enum Kept {
 
 // The kind of an entry, if it is told of: an event of a script's own that is refused, or a packet that no station takes.
 fn kind_of(line: &[u8]) -> Option<Kept> {
-    let actor = word_at(line, 3)?;
-    let reply = reply_of(line)?;
+    let (actor, rest) = split_first(rest_at(line, 3)?, b' ');
     if actor.starts_with(b"medium.") {
-        return if is_loss(reply) {
+        return if is_loss(line) {
             Some(Kept::Lost)
         } else {
             None
         };
     }
-    if word_at(line, 4)? == b"-".as_slice() && meaning_of(reply).is_some() {
-        Some(Kept::Refused)
-    } else {
-        None
+    let (cited, event) = split_first(rest?, b' ');
+    if cited != b"-".as_slice() {
+        return None;
     }
+    meaning_of(reply_of(event?)?)?;
+    Some(Kept::Refused)
 }
 
-// What an entry has behind `=`.
-fn reply_of(line: &[u8]) -> Option<&[u8]> {
-    let mut rest = rest_at(line, 5)?;
-    for _ in 0..line.len() {
+// What stands behind the `=` of an entry, of which this is the end.
+fn reply_of(entry: &[u8]) -> Option<&[u8]> {
+    let mut rest = entry;
+    for _ in 0..entry.len() {
         let (word, behind) = split_first(rest, b' ');
         rest = behind?;
         if word == b"=".as_slice() {
@@ -142,8 +142,8 @@ fn reply_of(line: &[u8]) -> Option<&[u8]> {
     None
 }
 
-fn is_loss(reply: &[u8]) -> bool {
-    matches!(word_at(reply, 0), Some(b"nostation" | b"toobig"))
+fn is_loss(line: &[u8]) -> bool {
+    line.ends_with(b" nostation") || line.ends_with(b" toobig")
 }
 
 // What a reply says that refuses, and none for one that doesn't.

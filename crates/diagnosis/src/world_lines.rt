@@ -59,7 +59,7 @@ fn quoted(line: &[u8], place: usize) -> Option<&str> {
 // What stands instead of the first line of a world.
 fn first_hint(bad: WorldLine<'_>) -> Hint<'_> {
     let Some(line) = first_spoken(bad.kept.text) else {
-        return Hint::Do("the input is empty: give a world file by < FILE");
+        return Hint::Do("the input is empty, or all comments: give a world file by < FILE");
     };
     if line == b"%history".as_slice() {
         return Hint::Do("put the world before the line %history");
