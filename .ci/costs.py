@@ -3,8 +3,9 @@ of its tests, and its must-fail edits (with the check of the crate that they beg
 
     python3 .ci/costs.py [--table FILE] [COMMAND WORD..]
 
-The command is `rt ci`, or `rt ci --anew` if the kit has that flag, unless another is given. With --table the command's output passes through as
-it is, and the table goes to the file. Without it the output goes to standard error, and the table to standard output. The status is the command's.
+The command is `rt ci`, unless another is given. Some kits keep what passed, and prove only what changed: give `rt ci --anew` to prove all. With
+--table the command's output passes through as it is, and the table goes to the file. Without it the output goes to standard error, and the table
+to standard output. The status is the command's.
 
 It looks at /proc five times a second, so a row may lack a fifth of a second for each check. On a busy machine every check takes longer."""
 
@@ -82,12 +83,6 @@ def table(seen):
     return "".join(f"{line}\n" for line in lines)
 
 
-def gate():
-    """The words that prove each crate from nothing: this kit's `rt ci` does so by itself, or has a flag for it."""
-    told = subprocess.run(["rt", "ci", "--help"], stdin=subprocess.DEVNULL, stdout=subprocess.PIPE, stderr=subprocess.STDOUT, check=False)
-    return ["rt", "ci", "--anew"] if b"--anew" in told.stdout else ["rt", "ci"]
-
-
 def watch(seen, pid):
     """Looks once. Processes come and go while it reads them, so it may miss one."""
     try:
@@ -101,7 +96,7 @@ def main():
     if words[:1] == ["--table"]:
         path, words = words[1], words[2:]
     seen = {}
-    run = subprocess.Popen(words or gate(), stdout=None if path else sys.stderr)
+    run = subprocess.Popen(words or ["rt", "ci"], stdout=None if path else sys.stderr)
     while run.poll() is None:
         watch(seen, run.pid)
         time.sleep(0.2)
