@@ -3,20 +3,24 @@ ghost use Rattle.std.specs.Prelude.{◌≡◌, None, IfErr, OnOk};
 ghost use Rattle.bundle_lint.specs.Told.{Tells};
 ghost use Rattle.net_base.specs.NdbBundle.{bad_line};
 
-use crate::bundle::{Pair, Part, Tuple, parts_of};
+use crate::attribute::{Attr, near_miss};
+use crate::bundle::{Bundle, Line, Pair, Part, Tuple, bundle_of};
+use crate::facts::{Facts, Outline, facts_of};
 use crate::fault::LintError;
-use crate::known::Known;
-use crate::notes::{put_mask, put_note, put_twice};
-use indexmap::IndexMap;
+use crate::hosts::{note_hosts, note_unreached};
+use crate::network::network_of;
+use crate::notes::Notes;
+use crate::pair::{Spot, note_pair};
+use crate::world::{Setting, setting_of};
 use ndb_reader::{NdbError, read_ndb};
 use net_base::Octets;
 use std::alloc::{AllocError, Global};
-use words::read_address;
 
-/// Notes on a bundle of files of a network database, a line each with the number of the line that is meant, in their order:
-/// a mask written `/N`; an `ip` that is no IPv4 address; a file that `database` names and that isn't there, or that is there and
-/// isn't named; an address of a system that is on no network; an attribute for which nothing asks; a system or a domain that is
-/// named twice. It goes a few times through the text.
+/// Notes on a bundle of files of a network database, in the order of their lines. Each note is one line: the number of the line that
+/// it is about, what is wrong there, what this means for `cs` or `dns`, and what to write.
+///
+/// A text that begins with `networld` is a world file: the notes are on its database, and on hosts and interfaces that differ
+/// from it. It goes a few times through the text.
 pub fn lint(alloc: Global, text: &[u8]) -> Result<Octets, LintError>
     ensures good { OnOk result (bad_line text.now ≡ None) }
     ensures bad { IfErr result (λ e. Tells e (bad_line text.now)) }
@@ -39,128 +43,136 @@ fn read_through(alloc: Global, text: &[u8]) -> Result<(), LintError>
 
 // The notes on a bundle without bad lines.
 fn notes_of(alloc: Global, text: &[u8]) -> Result<Octets, AllocError> {
-    let parts = parts_of(alloc, text)?;
-    let known = Known::of(alloc, &parts)?;
-    let mut keeper = Keeper {
-        alloc,
-        known,
-        names: IndexMap::new(alloc),
-        notes: Octets::new(alloc),
-    };
-    for part in &parts {
-        keeper.take(part)?;
+    let setting = setting_of(alloc, text)?;
+    let mut notes = Notes::new(alloc);
+    if setting.has_database {
+        let bundle = bundle_of(alloc, setting.database, setting.before)?;
+        let facts = facts_of(alloc, &bundle)?;
+        note_hosts(&mut notes, &setting, &facts)?;
+        note_parts(&mut notes, &bundle, &facts, &setting)?;
+    } else {
+        notes.add(
+            1,
+            &[
+                b"this is a world without a database: cs finds no name; write a line ndb, and the database after it",
+            ],
+        )?;
     }
-    let Keeper { notes, .. } = keeper;
-    Ok(notes)
+    Ok(notes.into_text())
 }
 
-// The notes so far, and the line of each system and domain.
-#[derive(Drop)]
-struct Keeper {
-    alloc: Global,
-    known: Known,
-    names: IndexMap<Vec<u8>, u64>,
-    notes: Octets,
-}
-
-impl Keeper {
-    fn take(&mut self, part: &Part) -> Result<(), AllocError> {
-        match part {
-            Part::File { line, name } => self.take_file(*line, name.as_slice()),
-            Part::Tuple(tuple) => self.take_tuple(tuple),
+fn note_parts(
+    notes: &mut Notes,
+    bundle: &Bundle<'_>,
+    facts: &Facts<'_>,
+    setting: &Setting<'_>,
+) -> Result<(), AllocError> {
+    for (number, part) in bundle.parts.iter().enumerate() {
+        match *part {
+            Part::File { line, name } => note_file(notes, facts, line, name)?,
+            Part::Tuple(tuple) => note_tuple(notes, bundle, facts, setting, number, tuple)?,
         }
     }
+    Ok(())
+}
 
-    fn take_file(&mut self, line: u64, name: &[u8]) -> Result<(), AllocError> {
-        let key = Vec::from_slice(self.alloc, name)?;
-        if self.known.named.contains(&key) {
-            return Ok(());
-        }
-        put_note(
-            &mut self.notes,
-            line,
+fn note_file(
+    notes: &mut Notes,
+    facts: &Facts<'_>,
+    line: u64,
+    name: &[u8],
+) -> Result<(), AllocError> {
+    if facts.named.contains(&name) {
+        return Ok(());
+    }
+    notes.add(
+        line,
+        &[
             b"no database names the file ",
             name,
-            b"",
-        )
-    }
+            b": cs does not read it; write file=",
+            name,
+            b" in the first tuple with database",
+        ],
+    )
+}
 
-    fn take_tuple(&mut self, tuple: &Tuple) -> Result<(), AllocError> {
-        let chooses = tuple.names(b"database");
-        let is_system = tuple.names(b"sys");
-        let is_known = chooses || is_system || tuple.names(b"ipnet") || tuple.names(b"dom");
-        for pair in &tuple.pairs {
-            self.take_pair(pair, chooses, is_system)?;
-            if !is_known && !is_asked(pair.attr.as_slice()) {
-                self.note_attr(pair)?;
-            }
-        }
-        Ok(())
+fn note_tuple(
+    notes: &mut Notes,
+    bundle: &Bundle<'_>,
+    facts: &Facts<'_>,
+    setting: &Setting<'_>,
+    number: usize,
+    tuple: Tuple,
+) -> Result<(), AllocError> {
+    let outline = Outline::of_tuple(bundle, tuple);
+    let network = if outline.ipnet {
+        network_of(bundle, tuple)
+    } else {
+        None
+    };
+    let alone = line_alone(bundle, tuple);
+    for line in bundle.lines_of(tuple) {
+        let spot = Spot {
+            line: line.number,
+            tuple: number,
+            outline,
+            own: Outline::of_line(bundle, *line),
+            network,
+            alone,
+        };
+        note_line(notes, bundle, facts, setting, &spot, *line)?;
     }
+    Ok(())
+}
 
-    fn take_pair(&mut self, pair: &Pair, chooses: bool, is_system: bool) -> Result<(), AllocError> {
-        let attr = pair.attr.as_slice();
-        let value = pair.value.as_slice();
-        if attr == b"ipmask".as_slice() && value.starts_with(b"/") {
-            put_mask(&mut self.notes, pair.line, value)
-        } else if attr == b"file".as_slice() && chooses {
-            self.note_file(pair.line, value)
-        } else if attr == b"ip".as_slice() {
-            self.note_address(pair.line, value, is_system)
-        } else if attr == b"sys".as_slice() || attr == b"dom".as_slice() {
-            self.note_name(pair.line, value)
-        } else {
-            Ok(())
-        }
-    }
-
-    fn note_file(&mut self, line: u64, name: &[u8]) -> Result<(), AllocError> {
-        let key = Vec::from_slice(self.alloc, name)?;
-        if self.known.files.contains(&key) {
-            return Ok(());
-        }
-        put_note(&mut self.notes, line, b"there is no file ", name, b"")
-    }
-
-    // An address is looked for among the networks where it is a system's.
-    fn note_address(&mut self, line: u64, text: &[u8], is_system: bool) -> Result<(), AllocError> {
-        match read_address(text) {
-            None => put_note(&mut self.notes, line, b"", text, b" is no IPv4 address"),
-            Some(ip) if is_system && !self.known.has_network_of(ip) => {
-                put_note(&mut self.notes, line, b"", text, b" is on no network")
-            }
-            Some(_) => Ok(()),
+// The line of the first `sys`, if it has an `ip`: then `cs` takes the addresses of this line alone.
+fn line_alone(bundle: &Bundle<'_>, tuple: Tuple) -> Option<u64> {
+    for line in bundle.lines_of(tuple) {
+        let own = Outline::of_line(bundle, *line);
+        if own.sys.is_some() {
+            return if own.ip { Some(line.number) } else { None };
         }
     }
+    None
+}
 
-    fn note_name(&mut self, line: u64, name: &[u8]) -> Result<(), AllocError> {
-        let key = Vec::from_slice(self.alloc, name)?;
-        let first = self.names.get(&key).copied();
-        match first {
-            Some(first) => put_twice(&mut self.notes, line, name, first),
-            None => {
-                self.names.insert(key, line)?;
-                Ok(())
-            }
-        }
+fn note_line(
+    notes: &mut Notes,
+    bundle: &Bundle<'_>,
+    facts: &Facts<'_>,
+    setting: &Setting<'_>,
+    spot: &Spot<'_>,
+    line: Line,
+) -> Result<(), AllocError> {
+    for place in line.first..line.end {
+        let Some(pair) = bundle.pair_at(place) else {
+            continue;
+        };
+        note_pair(notes, facts, spot, pair)?;
+        note_near(notes, spot.line, pair)?;
+        note_unreached(notes, setting, spot, pair)?;
     }
+    Ok(())
+}
 
-    fn note_attr(&mut self, pair: &Pair) -> Result<(), AllocError> {
-        put_note(
-            &mut self.notes,
-            pair.line,
-            b"nothing asks for ",
-            pair.attr.as_slice(),
-            b"",
-        )
+fn note_near(notes: &mut Notes, line: u64, pair: Pair<'_>) -> Result<(), AllocError> {
+    if pair.kind != Attr::Other {
+        return Ok(());
+    }
+    match near_miss(pair.attr) {
+        Some(meant) => note_meant(notes, line, pair.attr, meant),
+        None => Ok(()),
     }
 }
 
-// Whether cs asks for an attribute wherever it stands. What stands with a system, a domain or a network is asked for by `$ATTR`.
-fn is_asked(attr: &[u8]) -> bool {
-    attr == b"il".as_slice()
-        || attr == b"udp".as_slice()
-        || attr == b"port".as_slice()
-        || attr == b"ip".as_slice()
-        || attr == b"ipmask".as_slice()
+fn note_meant(notes: &mut Notes, line: u64, attr: &[u8], meant: &[u8]) -> Result<(), AllocError> {
+    notes.add(
+        line,
+        &[
+            attr,
+            b" is no known attribute: nothing asks for it; write ",
+            meant,
+        ],
+    )
 }

@@ -1,6 +1,6 @@
 //! The words of a good line.
 
-/// A word of a line, `ATTR` or `ATTR=VALUE`, and what stands behind it.
+/// A word of a line, `ATTR` or `ATTR=VALUE`, and the bytes after it.
 #[derive(Clone, Copy)]
 pub struct Word<'a> {
     pub attr: &'a [u8],
@@ -12,17 +12,20 @@ fn is_white(byte: u8) -> bool {
     byte == b' ' || byte == b'\t' || byte == b'\r'
 }
 
-/// Whether a line goes on with the tuple before it.
-pub fn goes_on(line: &[u8]) -> bool {
-    line.iter().next().is_some_and(|byte| is_white(*byte))
+/// Whether a line begins with white space.
+pub fn is_indented(line: &[u8]) -> bool {
+    match line {
+        [first, ..] => is_white(*first),
+        [] => false,
+    }
 }
 
-// What stands behind so many bytes.
+// The bytes after the first `count`.
 fn behind(text: &[u8], count: usize) -> &[u8] {
     text.get(count..).unwrap_or(&[])
 }
 
-// So many bytes.
+// The first `count` bytes.
 fn before(text: &[u8], count: usize) -> &[u8] {
     text.get(..count).unwrap_or(text)
 }
