@@ -1,0 +1,2 @@
+pub mod HistoryJson
+pub mod Members
