@@ -59,6 +59,7 @@ const NETSH: &[Form] = &[
 
 const NETVIEW: &[Form] = &[
     ("pcap", "pcap < FILE, or pcap MEDIUM < FILE", 2, true),
+    ("json", "json < FILE", 1, true),
     (
         "chart",
         "chart < FILE, or chart conversations < FILE",
@@ -151,7 +152,10 @@ impl fmt::Display for Commands {
                 f,
                 "the commands are cs, query, dns, run, make, big, export, translate and check"
             ),
-            Program::Netview => write!(f, "the commands are pcap, chart, steps, words and lint"),
+            Program::Netview => write!(
+                f,
+                "the commands are pcap, json, chart, steps, words and lint"
+            ),
         }
     }
 }

@@ -14,13 +14,14 @@ use Rattle.net_model.specs.Asking as calls
 use Rattle.net_model.specs.Asking.{Asking}
 use Rattle.net_model.specs.Answers.{Answer, lines_answer, rule_broken}
 use Rattle.netcheck.specs.Input.{Handed, IsBadHanded, parts_of}
+use Rattle.history_json.specs.HistoryJson.{history_json}
 use Rattle.history_words.specs.HistoryWords.{history_words}
 use Rattle.replay_views.specs.Capture.{capture}
 use Rattle.net_chart.specs.Chart.{chart}
 use Rattle.net_chart.specs.TalkChart.{talk_chart}
 use Rattle.replay_views.specs.Steps.{steps_text}
 use Rattle.net_base.specs.NdbBundle.{bad_line}
-use Rattle.netview.specs.Words.{Command, Lint, Show, View, Chart, ChartOfTalks, Pcap, Steps, Words}
+use Rattle.netview.specs.Words.{Command, Lint, Show, View, Chart, ChartOfTalks, Json, Pcap, Steps, Words}
 
 -- Bad lines.
 
@@ -58,6 +59,7 @@ capture_on (Some medium) w h = whole_view (capture w h (Some medium))
 abbrev pub command_view : View → List ℕ → World → List Entry → Answer
 command_view (Pcap None) input w h = whole_view (capture w h None)
 command_view (Pcap (Some name)) input w h = capture_on (medium_named name w.media) w h
+command_view Json input w h = whole_view (history_json h)
 command_view Chart input w h = whole_view (chart w h)
 command_view ChartOfTalks input w h = whole_view (talk_chart w h)
 command_view Steps input w h = whole_view (steps_text input w h)

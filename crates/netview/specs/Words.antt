@@ -5,6 +5,8 @@ use Rattle.std.specs.Prelude.{◌&&◌, ℕ, List, [], ◌∷◌, Option, Some, 
 pub data View : Type 0 where
   -- `pcap`, or `pcap MEDIUM`: a capture of all media, or of one
   Pcap : Option (List ℕ) → View
+  -- `json`: the history as JSON
+  Json : View
   -- `chart`: the history as a picture, with a column for each host
   Chart : View
   -- `chart conversations`: the same with a column for each conversation
@@ -28,6 +30,7 @@ one_medium (b ∷ name) = Some (Show (Pcap (Some (b ∷ name))))
 abbrev pub command_of : List (List ℕ) → Option Command
 command_of (name ∷ []) =
     if bytes_eq name (codes "pcap") then Some (Show (Pcap None))
+    else if bytes_eq name (codes "json") then Some (Show Json)
     else if bytes_eq name (codes "chart") then Some (Show Chart)
     else if bytes_eq name (codes "steps") then Some (Show Steps)
     else if bytes_eq name (codes "words") then Some (Show Words)

@@ -10,6 +10,8 @@ pub enum View<'a> {
     Capture,
     /// `pcap MEDIUM`
     CaptureOf(&'a [u8]),
+    /// `json`
+    Json,
     /// `chart`
     Chart,
     /// `chart conversations`
@@ -46,6 +48,9 @@ fn read_one(name: &[u8]) -> Option<Command<'_>>
 {
     if name == b"pcap".as_slice() {
         return Some(Command::Show(View::Capture));
+    }
+    if name == b"json".as_slice() {
+        return Some(Command::Show(View::Json));
     }
     if name == b"chart".as_slice() {
         return Some(Command::Show(View::Chart));

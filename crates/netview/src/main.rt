@@ -1,4 +1,4 @@
-//! A run of a world for people: as a capture, a picture, steps and words; and notes on a database.
+//! A run of a world for people: as a capture, a picture, JSON, steps and words; and notes on a database.
 #![tactic(auto)]
 
 mod command;

@@ -7,6 +7,7 @@ ghost use Rattle.netview.specs.Views.{IsAnswer, input_limit, medium_named, comma
 ghost use Rattle.netview.specs.Words.{Show};
 
 use crate::command::View;
+use history_json::json_of;
 use history_laws::a_fault_is_not_legal;
 use history_words::words_of;
 use net_base::{History, World};
@@ -56,6 +57,7 @@ fn show(
             Some(medium) => Ok(Answer::whole(capture_of(alloc, world, history, Some(medium))?)),
             None => Answer::nothing(alloc),
         },
+        View::Json => Ok(Answer::whole(json_of(alloc, history)?)),
         View::Chart => Ok(Answer::whole(chart_of(alloc, world, history)?)),
         View::ChartOfTalks => Ok(Answer::whole(chart_of_talks(alloc, world, history)?)),
         View::Steps => Ok(Answer::whole(steps_of(alloc, input, world, history)?)),

@@ -7,26 +7,29 @@ const GOOD: &[u8] = b"database= file=/lib/ndb/local
  file=/lib/ndb/common
 ipnet=a ip=10.0.0.0 ipmask=255.0.0.0
  auth=x
-sys=x ip=10.0.0.1
+sys=x sys=x ip=10.0.0.1
 %file /lib/ndb/common
 il=9fs port=17008
 ";
 
 const MASKS: &[u8] = b"ipnet=a ip=10.0.0.0 ipmask=/8
-sys=x ip=10.0.0.1
+sys=x
+
   ip=11.0.0.1
 ";
 
-const OF_MASKS: &[u8] = b"1 /8 is no mask: write 255.0.0.0
-3 11.0.0.1 is on no network
+const OF_MASKS: &[u8] =
+    b"1 ipmask=/8 is no mask: cs takes the class of the address in its place; write ipmask=255.0.0.0
+4 11.0.0.1 is on no network: cs finds no value such as $auth by this address; write a tuple with ipnet, ip and ipmask
 ";
 
 const FILES: &[u8] = b"database= file=/lib/ndb/local file=/a
 %file /b
 ";
 
-const OF_FILES: &[u8] = b"1 there is no file /a
-2 no database names the file /b
+const OF_FILES: &[u8] =
+    b"1 there is no file /a: cs reads nothing for it; write its text behind a line %file /a
+2 no database names the file /b: cs does not read it; write file=/b in the first tuple with database
 ";
 
 const NAMES: &[u8] = b"# names
@@ -34,11 +37,12 @@ ipnet=a ip=10.0.0.0
 sys=x ip=10.0.0.1
 
 sys=\"x\" ip=10.0.0.2
-tcp=http port=80
+tcp=http port=80 prot=80
 ";
 
-const OF_NAMES: &[u8] = b"5 x is named at line 3 already
-6 nothing asks for tcp
+const OF_NAMES: &[u8] =
+    b"5 sys=x is on line 3, too: cs gives the addresses of both tuples; write another name, or one tuple
+6 prot is no known attribute: nothing asks for it; write port
 ";
 
 // Whether these are the notes on a text.
