@@ -1,0 +1,14 @@
+pub mod Turning
+pub mod Growing
+pub mod Searching
+pub mod Still
+pub mod Coming
+pub mod Costs
+pub mod Following
+pub mod Listing
+pub mod Ordering
+pub mod Telling
+pub mod Numbering
+pub mod Refusing
+pub mod RefusedPaths
+pub mod RunEnds
