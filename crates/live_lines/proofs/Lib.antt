@@ -1,0 +1,4 @@
+pub mod Lines
+pub mod LinesBack
+pub mod Results
+pub mod Steps

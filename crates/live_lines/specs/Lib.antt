@@ -1,0 +1,13 @@
+pub mod AnswerLines
+pub mod Causes
+pub mod LiveLines
+pub mod LiveSpelling
+pub mod OutputLines
+pub mod Results
+pub use Rattle.net_base.specs.Numeral
+pub use Rattle.net_base.specs.StepWords
+pub use Rattle.net_base.specs.Summary
+pub use Rattle.net_base.specs.Transcript
+pub use Rattle.world_text.specs.LineReading
+pub use Rattle.world_text.specs.WorldSpelling
+pub use Rattle.world_text.specs.WorldWords
