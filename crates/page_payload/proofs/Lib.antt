@@ -1,0 +1,3 @@
+pub mod Plainness
+pub mod ReadBack
+pub mod Shared
