@@ -1,0 +1,4 @@
+mod Goers
+mod Turning
+mod Walking
+mod ToldRuns

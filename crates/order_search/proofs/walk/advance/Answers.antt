@@ -1,0 +1,21 @@
+use Rattle.std.proofs.Common.{arith, refl}
+use Rattle.order_search.proofs.Walking.{fits, walked}
+use Rattle.order_search.proofs.walk.advance.Goals as goal
+
+pub returns : goal.returns
+returns c =
+    let w = c.args.world.now in
+    let old = c.args.walk.now in
+    walked c.preemptions_grow.ensures.entry c.preemptions_grow.ensures.last c.costs_are.ensures.within w old _ c.args.caller c.cost_of-early.result
+    c.in_ok-entry.entry c.requires.walk c.requires.goes c.cost_of-early.ensures c.in_ok-entry.ensures c.in_ok-push.ensures.ok refl refl
+
+pub overflow_add-walk : goal.overflow_add-walk
+overflow_add-walk c =
+    let w = c.args.world.now in
+    let old = c.args.walk.now in
+    omega (
+      arith,
+      fits w old c.cost_of-early.result c.args.caller c.requires.walk
+          (c.histories_are_short.ensures.few w old.runner.history.entries c.requires.walk.tracks.history.world c.requires.walk.tracks.history.legal)
+          c.cost_of-early.ensures (c.costs_are.ensures.within w old.runner.history.entries c.args.caller),
+    )

@@ -1,0 +1,25 @@
+//! The search through the histories of a world that leave a caller early a few times at most, and runs whose order is drawn.
+//!
+//! `explore` goes through the tree of the callers' turns pass by pass, in depth, and keeps the outcomes as they first come.
+//! No state is kept: going back is playing a path anew. Proved: each reported outcome has a legal, timed and ended
+//! history with its summary and its number of preemptions. Not proved: the results of steps, the order, and that none is missing.
+//! Begin at `explore` in search.rt.
+#![tactic(auto)]
+
+mod ended;
+mod going;
+mod marks;
+mod path;
+mod ranks;
+mod results;
+mod search;
+mod tellings;
+mod trail;
+mod turn;
+mod walk;
+
+pub use ended::Ended;
+pub use ranks::drawn;
+pub use search::{Far, Found, Sought, Watch, explore};
+pub use tellings::Telling;
+pub use trail::Part;
