@@ -7,3 +7,5 @@ pub mod Latests
 pub mod Scripts
 pub mod Ranges
 pub mod Lines
+pub mod StepLines
+pub mod Alike

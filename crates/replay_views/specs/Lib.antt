@@ -1,8 +1,11 @@
+pub mod Alike
 pub mod Capture
 pub mod Following
 pub mod Savefile
 pub use Rattle.formats.specs.Datagram
 pub use Rattle.net_base.specs.Net
 pub mod WorldSteps
+pub mod Endings
 pub mod Recorded
 pub mod Steps
+pub mod StepLines

@@ -1,6 +1,8 @@
 -- Which entries a step of a script recorded itself.
-use Rattle.std.specs.Prelude.{◌≡◌, ℕ, zero, suc, ◌==◌, ◌&&◌, Bool, false, List, [], ◌∷◌, length, take, Option, Some, None, is_none, slice_get, if◌then◌else◌}
+use Rattle.std.specs.Prelude.{◌≡◌, ℕ, zero, suc, ◌==◌, ◌&&◌, Bool, true, false, List, [], ◌∷◌, length, take, Option, Some, None, is_none, slice_get, if◌then◌else◌}
 use Rattle.std.specs.Map.{lookup}
+use Rattle.net_base.specs.declared.event.Event.{Event}
+use Rattle.net_base.specs.declared.event.Event.TheVariants as event
 use Rattle.net_base.specs.declared.history.Entry.{Entry}
 use Rattle.net_base.specs.declared.world.Script.{Script}
 use Rattle.net_base.specs.declared.world.World.{World}
@@ -31,14 +33,34 @@ stamps_below w h c s n (suc k) = with_stamp (stands_there w (take k h) c s n (sl
 abbrev pub stamps_of : World → List Entry → ℕ → Script → ℕ → List ℕ
 stamps_of w h c s n = stamps_below w h c s n (length h)
 
--- the last one and the one before it
+-- the newest and the oldest of stamps
 abbrev pub newest : List ℕ → Option ℕ
 newest [] = None
 newest (k ∷ ks) = Some k
 
-abbrev pub latest_of : List ℕ → Option Latest
-latest_of [] = None
-latest_of (k ∷ ks) = Some (record { last = k; before = newest ks })
+abbrev pub oldest : ℕ → List ℕ → ℕ
+oldest k [] = k
+oldest k (j ∷ js) = oldest j js
+
+-- the newest of stamps whose entry closes no file
+abbrev pub is_close : Event → Bool
+is_close (event.Close g) = true
+is_close _ = false
+
+abbrev pub closes_file : Option Entry → Bool
+closes_file None = false
+closes_file (Some x) = is_close x.event
+
+abbrev pub deed_noted : Bool → ℕ → Option ℕ → Option ℕ
+deed_noted closes k deed = if closes then deed else Some k
+
+abbrev pub deed_among : List Entry → List ℕ → Option ℕ
+deed_among h [] = None
+deed_among h (k ∷ ks) = deed_noted (closes_file (slice_get h k)) k (deed_among h ks)
+
+abbrev pub latest_of : List Entry → List ℕ → Option Latest
+latest_of h [] = None
+latest_of h (k ∷ ks) = Some (record { first = oldest k ks; last = k; before = newest ks; deed = deed_among h (k ∷ ks) })
 
 -- Kept by script and step.
 
@@ -51,12 +73,21 @@ latest_at kept key = lookup (same_step key) kept
 -- the latest entries below k of each step of each script
 abbrev pub AreLatest : World → List Entry → ℕ → List ((ℕ × ℕ) × Latest) → Type 0
 AreLatest w h k kept =
-    (c : ℕ) (s : Script) (n : ℕ) → slice_get w.scripts c ≡ Some s → latest_at kept (c, n) ≡ latest_of (stamps_below w h c s n k)
+    (c : ℕ) (s : Script) (n : ℕ) → slice_get w.scripts c ≡ Some s → latest_at kept (c, n) ≡ latest_of h (stamps_below w h c s n k)
 
 -- with one more
+abbrev pub first_known : ℕ → Option Latest → ℕ
+first_known k None = k
+first_known k (Some l) = l.first
+
 abbrev pub last_known : Option Latest → Option ℕ
 last_known None = None
 last_known (Some l) = Some l.last
 
-abbrev pub latest_noted : ℕ → Option Latest → Option Latest
-latest_noted k before = Some (record { last = k; before = last_known before })
+abbrev pub deed_known : Option Latest → Option ℕ
+deed_known None = None
+deed_known (Some l) = l.deed
+
+abbrev pub latest_noted : Bool → ℕ → Option Latest → Option Latest
+latest_noted closes k before =
+    Some (record { first = first_known k before; last = k; before = last_known before; deed = deed_noted closes k (deed_known before) })

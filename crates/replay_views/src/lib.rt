@@ -3,6 +3,7 @@
 #![tactic(auto)]
 
 mod capture;
+mod ending;
 mod law;
 mod recorded;
 mod savefile;
@@ -12,5 +13,5 @@ mod steps;
 mod world_steps;
 
 pub use capture::capture_of;
-pub use law::frames_are_laid;
-pub use steps::steps_of;
+pub use law::{frames_are_laid, steps_are_told_alike, steps_have_lines};
+pub use steps::{step_rows_of, steps_of};

@@ -7,28 +7,31 @@ ghost use Rattle.net_base.specs.World.{IsWorld};
 ghost use Rattle.plain_runner.specs.Followed.{Followed};
 ghost use Rattle.plain_runner.specs.Tracks.{Tracks};
 ghost use Rattle.replay_views.specs.Recorded as spec;
-ghost use Rattle.replay_views.specs.Recorded.{AreLatest, is_of_step, latest_at, latest_noted, same_step};
+ghost use Rattle.replay_views.specs.Recorded.{AreLatest, is_close, is_of_step, latest_at, latest_noted, same_step};
 
 use crate::standing::finished;
 use indexmap::IndexMap;
-use net_base::{Entry, World};
+use net_base::{Entry, Event, World};
 use plain_runner::Runner;
 use std::alloc::{AllocError, Global};
 
 /// A step by the number of its script, and its own in the script.
 pub type StepKey = (u32, usize);
 
-/// The stamps of the last entry that a step recorded itself, and of the one before it.
+/// The stamps of entries that a step recorded itself: the first and the last one, the one before the last, and the last one that
+/// closes no file.
 #[derive(Clone, Copy)]
 pub struct Latest {
+    pub first: usize,
     pub last: usize,
     pub before: Option<usize>,
+    pub deed: Option<usize>,
 }
 
-/// The last entries of each step.
+/// The first and the last entries of each step.
 pub type LatestSteps = IndexMap<StepKey, Latest>;
 
-/// A run that followed a history, and the last entries of each step.
+/// A run that followed a history, and the first and the last entries of each step.
 #[derive(Drop)]
 pub struct Record<'a> {
     pub runner: Runner<'a>,
@@ -67,43 +70,73 @@ fn note_entry(
     ensures { OnOk result ((w : AnyWorld) (c : ℕ) (s : AnyScript) (n : ℕ) → Tracks w runner.now
         → slice_get w.scripts c ≡ Some s
         → latest_at latest.new.entries (c, n) ≡ cond (is_of_step w runner.now.history.entries c s n entry.now)
-        (latest_noted stamp (latest_at latest.old.entries (c, n))) (latest_at latest.old.entries (c, n))) }
+        (latest_noted (is_close entry.now.event) stamp (latest_at latest.old.entries (c, n)))
+        (latest_at latest.old.entries (c, n))) }
 {
     if entry.cites.is_some() {
         return Ok(());
     }
     match finished(runner, entry.caller) {
         Some(step) => {
-            note(latest, (entry.caller, step), stamp)?;
+            note(latest, (entry.caller, step), stamp, is_close(&entry.event))?;
             Ok(())
         }
         None => Ok(()),
     }
 }
 
-// A step recorded an entry.
-fn note(latest: &mut LatestSteps, key: StepKey, stamp: usize) -> Result<(), AllocError>
+fn is_close(event: &Event) -> bool
+    ensures { result ≡ spec.is_close event.now }
+{
+    match event {
+        Event::Close { .. } => true,
+        _ => false,
+    }
+}
+
+// A step recorded an entry, which closes a file or doesn't.
+fn note(
+    latest: &mut LatestSteps,
+    key: StepKey,
+    stamp: usize,
+    closes: bool,
+) -> Result<(), AllocError>
     ensures { OnOk result ((other : ℕ × ℕ) → latest_at latest.new.entries other
-        ≡ cond (same_step key other) (latest_noted stamp (latest_at latest.old.entries key))
+        ≡ cond (same_step key other) (latest_noted closes stamp (latest_at latest.old.entries key))
         (latest_at latest.old.entries other)) }
 {
-    let before = last_of(latest, key);
-    latest.insert(
-        key,
-        Latest {
-            last: stamp,
-            before,
-        },
-    )?;
+    let noted = noted_by(latest_of(latest, key), stamp, closes);
+    latest.insert(key, noted)?;
     Ok(())
 }
 
-// The last entry of a step so far.
-fn last_of(latest: &LatestSteps, key: StepKey) -> Option<usize>
-    ensures { result ≡ spec.last_known (latest_at latest.now.entries key) }
+fn latest_of(latest: &LatestSteps, key: StepKey) -> Option<Latest>
+    ensures { result ≡ latest_at latest.now.entries key }
 {
-    match latest.get(&key) {
-        Some(latest) => Some(latest.last),
-        None => None,
+    latest.get(&key).copied()
+}
+
+fn noted_by(before: Option<Latest>, stamp: usize, closes: bool) -> Latest
+    ensures { Some result ≡ latest_noted closes stamp before }
+{
+    match before {
+        Some(before) => Latest {
+            first: before.first,
+            last: stamp,
+            before: Some(before.last),
+            deed: deed_noted(before.deed, stamp, closes),
+        },
+        None => Latest {
+            first: stamp,
+            last: stamp,
+            before: None,
+            deed: deed_noted(None, stamp, closes),
+        },
     }
+}
+
+fn deed_noted(deed: Option<usize>, stamp: usize, closes: bool) -> Option<usize>
+    ensures { result ≡ spec.deed_noted closes stamp deed }
+{
+    if closes { deed } else { Some(stamp) }
 }

@@ -1,137 +1,49 @@
 //! What became of a step, or what it waits for.
-ghost use Rattle.std.specs.Prelude.{◌≡◌, ◌++◌, Some, IfOk, OnOk, option_and_then, option_map, slice_get};
+ghost use Rattle.std.specs.Prelude.{◌≡◌, ◌∷◌, ◌++◌, [], Some, OnOk, option_map, slice_get};
+ghost use Rattle.net_base.specs.Transcript.{number_or_dash, spaced};
 ghost use Rattle.plain_runner.specs.Turns.{turn_ask, asks_of};
 ghost use Rattle.replay_views.specs.Steps as spec;
 
+use crate::ending::Ending;
 use crate::recorded::Latest;
 use crate::world_steps::StepLine;
 use history_words::{put_actor, put_event, put_reply};
-use net_base::{Entry, Event, Octets, Reply, Step};
-use net_import::is_open;
+use net_base::{Entry, Octets};
 use plain_runner::Turn;
-use script_task::{bytes_in, is_accepted};
-use std::alloc::{AllocError, Global};
-use words::put_decimal;
+use std::alloc::AllocError;
+use words::{put_decimal, put_number, put_word};
 
-fn put_outcome(out: &mut Octets, word: &[u8], moment: u64, reply: &Reply) -> Result<(), AllocError>
-    ensures { OnOk result (out.new ≡ out.old ++ spec.outcome_text word.now moment reply.now) }
+fn verdict(refused: bool) -> &'static [u8]
+    ensures { result.now ≡ spec.verdict refused }
 {
-    out.append(word)?;
+    if refused { b"refused" } else { b"answered" }
+}
+
+/// Adds how a step ended.
+pub fn put_ending(
+    out: &mut Octets,
+    entries: &[Entry],
+    ending: Option<Ending>,
+) -> Result<(), AllocError>
+    ensures { OnOk result (out.new ≡ out.old ++ spec.ending_text entries.now ending) }
+{
+    let Some(ending) = ending else {
+        return out.append(b"answered");
+    };
+    out.append(verdict(ending.refused))?;
     out.append(b" at ")?;
-    put_decimal(out, moment)?;
+    put_decimal(out, ending.moment)?;
     out.append(b", ")?;
-    put_reply(out, reply)
+    put_reply_at(out, entries, ending.reply)
 }
 
-// A step whose last entry was accepted, with the one before it.
-fn put_ended(out: &mut Octets, last: &Entry, before: &Entry) -> Result<(), AllocError>
-    ensures { OnOk result (out.new ≡ out.old ++ spec.ended_both last.now before.now) }
+fn put_reply_at(out: &mut Octets, entries: &[Entry], stamp: usize) -> Result<(), AllocError>
+    ensures { OnOk result (out.new ≡ out.old ++ spec.reply_text (slice_get entries.now stamp)) }
 {
-    if is_accepted(&before.reply) {
-        put_outcome(out, b"answered", last.moment, &last.reply)
-    } else {
-        put_outcome(out, b"refused", last.moment, &before.reply)
-    }
-}
-
-fn put_told(
-    out: &mut Octets,
-    entries: &[Entry],
-    last: &Entry,
-    before: Option<usize>,
-) -> Result<(), AllocError>
-    ensures { OnOk result (out.new ≡ out.old ++ spec.told_of entries.now last.now before) }
-{
-    if !is_accepted(&last.reply) {
-        return put_outcome(out, b"refused", last.moment, &last.reply);
-    }
-    let Some(stamp) = before else {
-        return put_outcome(out, b"answered", last.moment, &last.reply);
-    };
     match entries.get(stamp) {
-        Some(before) => put_ended(out, last, before),
-        None => put_outcome(out, b"answered", last.moment, &last.reply),
+        Some(entry) => put_reply(out, &entry.reply),
+        None => out.append(b""),
     }
-}
-
-/// Whether a step opens a remote file.
-pub fn is_ropen(steps: &[Step], step: usize) -> bool
-    ensures { result ≡ spec.is_ropen (slice_get steps.now step) }
-{
-    match steps.get(step) {
-        Some(Step::Ropen { .. }) => true,
-        _ => false,
-    }
-}
-
-// Whether an event sends a message of 9P that opens a file. The fifth byte is its type.
-fn is_open_request(event: &Event) -> bool
-    ensures { result ≡ spec.is_open_request event.now }
-{
-    match event {
-        Event::Write { text, .. } => match text.as_slice().get(4) {
-            Some(kind) => *kind == 112,
-            None => false,
-        },
-        _ => false,
-    }
-}
-
-// Whether a remote file was opened, by the last entry of its step and the one before it.
-fn has_opened(alloc: Global, last: &Entry, before: Option<&Entry>) -> Result<bool, AllocError>
-    ensures { IfOk result (λ opened. opened ≡ spec.has_opened last.now (option_map (λ y. y.now) before.entry)) }
-{
-    let Some(before) = before else {
-        return Ok(false);
-    };
-    if !is_open_request(&before.event) {
-        return Ok(false);
-    }
-    is_open(alloc, bytes_in(&last.reply))
-}
-
-fn put_opened(
-    out: &mut Octets,
-    alloc: Global,
-    last: &Entry,
-    before: Option<&Entry>,
-) -> Result<(), AllocError>
-    ensures { OnOk result (out.new ≡ out.old ++ spec.opened_text last.now (option_map (λ y. y.now) before.entry)) }
-{
-    let opened = has_opened(alloc, last, before)?;
-    if opened {
-        put_outcome(out, b"answered", last.moment, &last.reply)
-    } else {
-        put_outcome(out, b"refused", last.moment, &last.reply)
-    }
-}
-
-/// Adds what became of a step, by its last entries.
-pub fn put_answered(
-    out: &mut Octets,
-    alloc: Global,
-    opens: bool,
-    entries: &[Entry],
-    latest: Option<Latest>,
-) -> Result<(), AllocError>
-    ensures { OnOk result (out.new ≡ out.old ++ spec.answered_text opens entries.now latest) }
-{
-    let Some(latest) = latest else {
-        return out.append(b"answered");
-    };
-    let Some(last) = entries.get(latest.last) else {
-        return out.append(b"answered");
-    };
-    if opens {
-        return put_opened(out, alloc, last, entry_at(entries, latest.before));
-    }
-    put_told(out, entries, last, latest.before)
-}
-
-fn entry_at(entries: &[Entry], stamp: Option<usize>) -> Option<&Entry>
-    ensures { option_map (λ x. x.now) result ≡ option_and_then (slice_get entries.now) stamp }
-{
-    entries.get(stamp?)
 }
 
 /// Adds what a step waits for: the next event of its script, unless something is owed.
@@ -182,4 +94,115 @@ fn put_line(out: &mut Octets, line: &StepLine, script: u32) -> Result<(), AllocE
     put_decimal(out, script as u64)?;
     out.append(b" ")?;
     out.append(line.text.as_slice())
+}
+
+// ---- rows
+
+fn put_number_or_dash(out: &mut Octets, n: Option<u64>) -> Result<(), AllocError>
+    ensures { OnOk result (out.new ≡ out.old ++ spaced (number_or_dash n ∷ [])) }
+{
+    match n {
+        Some(n) => put_number(out, n),
+        None => put_word(out, b"-"),
+    }
+}
+
+fn first_in(latest: Option<Latest>) -> Option<u64>
+    ensures { result ≡ spec.first_in latest }
+{
+    match latest {
+        Some(latest) => Some(latest.first as u64),
+        None => None,
+    }
+}
+
+fn last_in(latest: Option<Latest>) -> Option<u64>
+    ensures { result ≡ spec.last_in latest }
+{
+    match latest {
+        Some(latest) => Some(latest.last as u64),
+        None => None,
+    }
+}
+
+fn put_words(
+    out: &mut Octets,
+    word: &[u8],
+    moment: Option<u64>,
+    latest: Option<Latest>,
+    reply: Option<u64>,
+) -> Result<(), AllocError>
+    ensures { OnOk result (out.new ≡ out.old ++ spec.state_words word.now moment latest reply) }
+{
+    put_word(out, word)?;
+    put_number_or_dash(out, moment)?;
+    put_number_or_dash(out, first_in(latest))?;
+    put_number_or_dash(out, last_in(latest))?;
+    put_number_or_dash(out, reply)
+}
+
+/// Adds the words of a row for how a step ended.
+pub fn put_ending_words(
+    out: &mut Octets,
+    latest: Option<Latest>,
+    ending: Option<Ending>,
+) -> Result<(), AllocError>
+    ensures { OnOk result (out.new ≡ out.old ++ spec.ending_words latest ending) }
+{
+    match ending {
+        Some(ending) => put_words(
+            out,
+            verdict(ending.refused),
+            Some(ending.moment),
+            latest,
+            Some(ending.reply as u64),
+        ),
+        None => put_words(out, b"answered", None, latest, None),
+    }
+}
+
+fn waiting_word(owes: bool) -> &'static [u8]
+    ensures { result.now ≡ spec.waiting_word owes }
+{
+    if owes { b"owes" } else { b"waits" }
+}
+
+/// Adds the words of a row for a step that waits.
+pub fn put_waiting_words(
+    out: &mut Octets,
+    owes: bool,
+    latest: Option<Latest>,
+) -> Result<(), AllocError>
+    ensures { OnOk result (out.new ≡ out.old ++ spec.waiting_words owes latest) }
+{
+    put_words(out, waiting_word(owes), None, latest, None)
+}
+
+/// Adds the words of a row for a step that is ahead.
+pub fn put_ahead_words(out: &mut Octets) -> Result<(), AllocError>
+    ensures { OnOk result (out.new ≡ out.old ++ spec.ahead_words) }
+{
+    put_words(out, b"ahead", None, None, None)
+}
+
+/// Adds the number of a step's line and that of its script.
+pub fn put_place_words(
+    out: &mut Octets,
+    lines: &[StepLine],
+    step: usize,
+    script: u32,
+) -> Result<(), AllocError>
+    ensures { OnOk result (out.new ≡ out.old ++ spec.place_words (slice_get lines.now step) script) }
+{
+    put_line_word(out, lines.get(step))?;
+    put_number(out, script as u64)
+}
+
+fn put_line_word(out: &mut Octets, line: Option<&StepLine>) -> Result<(), AllocError>
+    ensures { OnOk result (out.new ≡ out.old ++ spec.line_word (option_map (λ l. l.now) line.entry)) }
+{
+    match line {
+        Some(line) => put_decimal(out, line.number),
+        None => out.append(b"-"),
+    }
 }
