@@ -1,3 +1,4 @@
+pub mod Payloads
 pub mod Plainness
 pub mod ReadBack
 pub mod Shared

@@ -1,5 +1,5 @@
 -- An input in characters that a page may have, and back.
-use Rattle.std.specs.Prelude.{ℕ, ◌+◌, ◌-◌, ◌*◌, ◌==◌, Bool, true, false, not, ◌&&◌, ◌||◌, List, [], ◌∷◌, ◌++◌, flat_map, nat_le, nat_lt, if◌then◌else◌}
+use Rattle.std.specs.Prelude.{ℕ, ◌+◌, ◌-◌, ◌*◌, ◌==◌, Bool, true, not, ◌&&◌, ◌||◌, List, [], ◌∷◌, ◌++◌, flat_map, nat_le, nat_lt, if◌then◌else◌}
 use Rattle.net_base.specs.Hexadecimal.{hex_digits}
 
 -- a newline, and the characters from 32 to 126 without `<`, `>`, `&` and the backslash, are kept
