@@ -72,10 +72,11 @@ fn explain_case<'a>(call: Call<'a>, case: Case) -> Explanation<'a>
 }
 
 fn detail_of<'a>(call: Call<'a>, case: Case) -> Detail<'a> {
-    let input = input_of(call.program, command_word(call.words, 0));
+    let name = command_word(call.words, 0);
+    let input = input_of(call.program, name);
     match case {
         Case::Usage => Detail::Usage(usage_of(call.program, call.words)),
-        Case::TooLong => Detail::MostBytes(most_bytes(input)),
+        Case::TooLong => Detail::MostBytes(most_bytes(input, name)),
         Case::BadLine { line, cause } => Detail::Line(bad_line(input, call.kept, line, cause)),
         Case::Stopped => Detail::End(call.seen.end),
         Case::BrokenRule { stamp, rule } => Detail::Rule(broken_rule(call.kept, stamp, rule)),
@@ -87,9 +88,10 @@ fn detail_of<'a>(call: Call<'a>, case: Case) -> Detail<'a> {
     }
 }
 
-// The most MiB of an input.
-fn most_bytes(input: Input) -> u32 {
+// The most MiB of an input of the command with this name.
+fn most_bytes(input: Input, name: &[u8]) -> u32 {
     match input {
+        Input::History if name == b"page".as_slice() => 16,
         Input::History => 64,
         _ => 4,
     }

@@ -66,6 +66,7 @@ const NETVIEW: &[Form] = &[
         2,
         true,
     ),
+    ("page", "page < FILE", 1, true),
     ("steps", "steps < FILE", 1, true),
     ("words", "words < FILE", 1, true),
     ("lint", "lint < DATABASE", 1, true),
@@ -154,7 +155,7 @@ impl fmt::Display for Commands {
             ),
             Program::Netview => write!(
                 f,
-                "the commands are pcap, json, chart, steps, words and lint"
+                "the commands are pcap, json, chart, page, steps, words and lint"
             ),
         }
     }

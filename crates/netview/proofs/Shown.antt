@@ -1,5 +1,5 @@
 -- What is answered to an input, from what is told of it.
-use Rattle.std.proofs.Common.{◌≡◌, ℕ, ◌≤◌, List, length, Option, Some, None, sym, ◌∙◌, ap, subst, inl, inr}
+use Rattle.std.proofs.Common.{◌≡◌, ℕ, ◌≤◌, ◌<◌, ◌^◌, List, length, Option, Some, None, sym, ◌∙◌, ap, subst, inl, inr, arith}
 use Rattle.net_base.specs.declared.history.Entry.{Entry}
 use Rattle.net_base.specs.declared.world.World.{World}
 use Rattle.net_base.specs.Legal.{IsFault, IsLegal, IsTimed, Rule, rule_number}
@@ -9,7 +9,7 @@ use Rattle.netcheck.specs.Told.{HandsIn, IsFirstTold, RefusesInput}
 use Rattle.netcheck.specs.declared.fault.InputError.TheVariants as error
 use Rattle.net_base.specs.NdbBundle.{bad_line}
 use Rattle.netview.specs.Views.{asking, input_limit, command_view, whole_view, IsAnswer, IsShown}
-use Rattle.netview.specs.Words.{Lint, Show, View}
+use Rattle.netview.specs.Words.{Lint, Show, View, Chart, ChartOfTalks, Json, Page, Pcap, Steps, Words}
 use Rattle.net_model.specs.Asking.{IsGiven}
 use Rattle.net_model.proofs.Shared.{answer_within, within_limit}
 
@@ -37,6 +37,16 @@ module _ (asked : View) (input : List ℕ) (w : World) (h : List Entry) (answer 
         ∙ ap (rule_broken s) (sym fault.1 ∙ (ap rule_number same.1 ∙ other.1)));
     judged = inr (stamp, rule, fault);
   }
+
+-- an input within the limit of a view has fewer than 2^32 bytes
+pub view_fits : (asked : View) (input : List ℕ) → length input ≤ input_limit (Show asked) → length input < 2 ^ 32
+view_fits (Pcap medium) input fits = omega (arith, fits)
+view_fits Json input fits = omega (arith, fits)
+view_fits (Page head tail) input fits = omega (arith, fits)
+view_fits Chart input fits = omega (arith, fits)
+view_fits ChartOfTalks input fits = omega (arith, fits)
+view_fits Steps input fits = omega (arith, fits)
+view_fits Words input fits = omega (arith, fits)
 
 -- an answer to an input within the limit, of which no line is bad
 answer_good : (asked : View) (input : List ℕ) (w : World) (h : List Entry) (told : Option (List ℕ)) (answer : Answer) → length input ≤ input_limit (Show asked)

@@ -11,6 +11,7 @@ abbrev pub view_read : View → words.View
 view_read view.Capture = words.Pcap None
 view_read (view.CaptureOf name) = words.Pcap (Some name.now)
 view_read view.Json = words.Json
+view_read (view.Page head tail) = words.Page head.now tail.now
 view_read view.Chart = words.Chart
 view_read view.ChartOfTalks = words.ChartOfTalks
 view_read view.Steps = words.Steps

@@ -20,14 +20,19 @@ use Rattle.replay_views.specs.Capture.{capture}
 use Rattle.net_chart.specs.Chart.{chart}
 use Rattle.net_chart.specs.TalkChart.{talk_chart}
 use Rattle.replay_views.specs.Steps.{steps_text}
+use Rattle.net_page.specs.Page.{page}
 use Rattle.net_base.specs.NdbBundle.{bad_line}
-use Rattle.netview.specs.Words.{Command, Lint, Show, View, Chart, ChartOfTalks, Json, Pcap, Steps, Words}
+use Rattle.netview.specs.Words.{Command, Lint, Show, View, Chart, ChartOfTalks, Json, Page, Pcap, Steps, Words}
 
 -- Bad lines.
 
--- the most bytes that an input may have: 64 MiB of a world with a history, and 4 MiB of a bundle
+-- the most bytes that an input may have: 64 MiB of a world with a history, 16 MiB for a page, and 4 MiB of a bundle
+abbrev pub view_limit : View → ℕ
+view_limit (Page head tail) = 16777216
+view_limit _ = 67108864
+
 abbrev pub input_limit : Command → ℕ
-input_limit (Show asked) = 67108864
+input_limit (Show asked) = view_limit asked
 input_limit Lint = 4194304
 
 -- the first bad line of an input within the limit, and its least cause, if a line is bad
@@ -60,6 +65,7 @@ abbrev pub command_view : View → List ℕ → World → List Entry → Answer
 command_view (Pcap None) input w h = whole_view (capture w h None)
 command_view (Pcap (Some name)) input w h = capture_on (medium_named name w.media) w h
 command_view Json input w h = whole_view (history_json h)
+command_view (Page head tail) input w h = whole_view (page head tail input w h)
 command_view Chart input w h = whole_view (chart w h)
 command_view ChartOfTalks input w h = whole_view (talk_chart w h)
 command_view Steps input w h = whole_view (steps_text input w h)

@@ -7,6 +7,8 @@ pub data View : Type 0 where
   Pcap : Option (List ℕ) → View
   -- `json`: the history as JSON
   Json : View
+  -- `page`: a page on which a reader steps through the history, with its head and its tail
+  Page : List ℕ → List ℕ → View
   -- `chart`: the history as a picture, with a column for each host
   Chart : View
   -- `chart conversations`: the same with a column for each conversation
@@ -26,18 +28,27 @@ abbrev pub one_medium : List ℕ → Option Command
 one_medium [] = None
 one_medium (b ∷ name) = Some (Show (Pcap (Some (b ∷ name))))
 
--- the command of words, where they are in a row
-abbrev pub command_of : List (List ℕ) → Option Command
-command_of (name ∷ []) =
+-- the command of one word, with the head and the tail of a page
+abbrev pub one_word : List ℕ → List ℕ → List ℕ → Option Command
+one_word head tail name =
     if bytes_eq name (codes "pcap") then Some (Show (Pcap None))
     else if bytes_eq name (codes "json") then Some (Show Json)
+    else if bytes_eq name (codes "page") then Some (Show (Page head tail))
     else if bytes_eq name (codes "chart") then Some (Show Chart)
     else if bytes_eq name (codes "steps") then Some (Show Steps)
     else if bytes_eq name (codes "words") then Some (Show Words)
     else if bytes_eq name (codes "lint") then Some Lint
     else None
-command_of (name ∷ word ∷ []) =
+
+-- the command of two words
+abbrev pub two_words : List ℕ → List ℕ → Option Command
+two_words name word =
     if bytes_eq name (codes "pcap") then one_medium word
     else if bytes_eq name (codes "chart") && bytes_eq word (codes "conversations") then Some (Show ChartOfTalks)
     else None
-command_of _ = None
+
+-- the command of words, if they are in a row, with the head and the tail of a page
+abbrev pub command_of : List ℕ → List ℕ → List (List ℕ) → Option Command
+command_of head tail (name ∷ []) = one_word head tail name
+command_of head tail (name ∷ word ∷ []) = two_words name word
+command_of head tail _ = None

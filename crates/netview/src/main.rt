@@ -1,4 +1,4 @@
-//! A run of a world for people: as a capture, a picture, JSON, steps and words; and notes on a database.
+//! A run of a world for people: as a capture, a picture, a page, JSON, steps and words; and notes on a database.
 #![tactic(auto)]
 
 mod command;
@@ -8,6 +8,7 @@ mod view;
 
 use diagnosis::{Call, KeptSource, Program, SeenSink, tell, tell_no_memory};
 use net_model::words_after_path;
+use net_page::{head, tail};
 use outside::{StdSink, StdSource};
 use std::process::ExitCode;
 
@@ -22,7 +23,7 @@ fn main(rt: HostRuntime) -> ExitCode {
     };
     let mut source = KeptSource::new(rt.alloc(), StdSource::new(rt.stdin()));
     let mut sink = SeenSink::new(rt.alloc(), StdSink::new(rt.stdout()));
-    let status = top::netview(rt.alloc(), &words, &mut source, &mut sink);
+    let status = top::netview(rt.alloc(), &words, head(), tail(), &mut source, &mut sink);
     let call = Call {
         program: Program::Netview,
         words: &words,

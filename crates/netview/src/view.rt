@@ -13,6 +13,7 @@ use history_words::words_of;
 use net_base::{History, World};
 use net_chart::{chart_of, chart_of_talks};
 use net_model::Answer;
+use net_page::page_of;
 use netcheck::{CheckedInput, InputError, a_fault_is_one, check_input};
 use replay_views::{capture_of, steps_of};
 use std::alloc::{AllocError, Global};
@@ -58,6 +59,9 @@ fn show(
             None => Answer::nothing(alloc),
         },
         View::Json => Ok(Answer::whole(json_of(alloc, history)?)),
+        View::Page { head, tail } => Ok(Answer::whole(page_of(
+            alloc, head, tail, input, world, history,
+        )?)),
         View::Chart => Ok(Answer::whole(chart_of(alloc, world, history)?)),
         View::ChartOfTalks => Ok(Answer::whole(chart_of_talks(alloc, world, history)?)),
         View::Steps => Ok(Answer::whole(steps_of(alloc, input, world, history)?)),

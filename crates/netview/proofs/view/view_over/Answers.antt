@@ -1,7 +1,10 @@
 use Rattle.std.proofs.lemmas.Result.{IfOk-weaker}
 use Rattle.netview.specs.Commands.{view_read}
-use Rattle.netview.proofs.Shown.{answers_bad, answers_fault, answers_view}
+use Rattle.netview.proofs.Shown.{answers_bad, answers_fault, answers_view, view_fits}
 use Rattle.netview.proofs.view.view_over.Goals as goal
+
+pub check_input-requires : goal.check_input-requires
+check_input-requires c = view_fits (view_read c.args.asked) c.args.input.now c.requires
 
 pub show-answer-requires-clause-world : goal.show-answer-requires-clause-world
 show-answer-requires-clause-world c = (c.in-Ok.ensures.0).world
