@@ -28,10 +28,12 @@ CHECKS = {
     "sizes": [".ci/sizes"],
     "records": [".ci/records"],
     "manuals": [".ci/manuals"],
+    "page_text": [".ci/page_text"],
     "statuses": [".ci/statuses"],
     "pages": [".ci/pages"],
     "captures": [".ci/captures"],
     "dissector": [".ci/dissector"],
+    "browser": [".ci/browser"],
     "release": [".ci/release", "check"],
 }
 
