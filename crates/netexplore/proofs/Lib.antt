@@ -1,3 +1,4 @@
 mod Statuses
 mod Given
 mod Printing
+mod Witnesses

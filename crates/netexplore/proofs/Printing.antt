@@ -1,5 +1,5 @@
 -- The text of outcomes, one after another.
-use Rattle.std.proofs.Common.{◌≡◌, ℕ, zero, suc, ◌+◌, ◌<◌, ◌≤◌, Bool, List, [], ◌∷◌, ◌++◌, drop, length, Some, slice_get, refl, sym, ap, subst, ◌∙◌, arith}
+use Rattle.std.proofs.Common.{◌≡◌, ℕ, zero, suc, ◌+◌, ◌<◌, ◌≤◌, Bool, List, [], ◌∷◌, ◌++◌, drop, length, Option, Some, slice_get, refl, sym, ap, subst, ◌∙◌, arith}
 use Rattle.std.specs.Prelude.{All, Err, IfOk, Ok, Result, codes}
 use Rattle.std.proofs.lemmas.List.{append-nil, append_assoc, drop_all}
 use Rattle.std.proofs.lemmas.Option.{none-some, same_Some}
@@ -9,7 +9,7 @@ use Rattle.order_search.specs.Tellings.{IsSound, IsTelling}
 use Rattle.order_search.specs.declared.search.Found.{Found}
 use Rattle.order_search.specs.declared.tellings.Telling.{Telling}
 use Rattle.netexplore.specs.Answers.{IsOutcomesAnswer}
-use Rattle.netexplore.specs.Lines.{head_line, labelled, last_line, lines_at, telling_text, tellings_text, told_status}
+use Rattle.netexplore.specs.Lines.{head_line, labelled, last_line, lines_at, losses_words, telling_text, tellings_text, told_status}
 
 -- three texts, one after another
 joined : (out a b e one two three : List ℕ) → one ≡ out ++ a → two ≡ one ++ b → three ≡ two ++ e → three ≡ out ++ (a ++ (b ++ e))
@@ -17,16 +17,25 @@ joined out a b e one two three first second third =
     third
     ∙ (ap (λ (l : List ℕ). l ++ e) (second ∙ ap (λ (l : List ℕ). l ++ b) first) ∙ (append_assoc (out ++ a) b e ∙ append_assoc out a (b ++ e)))
 
-pub head_written : (out one two three : List ℕ) (n p : ℕ) → one ≡ out ++ labelled (codes "outcome ") n → two ≡ one ++ labelled (codes " preemptions ") p
-    → three ≡ two ++ 10 ∷ [] → three ≡ out ++ head_line n p
-unfolding head_line
-head_written out one two three n p first second third =
-    joined out (labelled (codes "outcome ") n) (labelled (codes " preemptions ") p) (10 ∷ []) one two three first second third
+-- four
+joined_four : (out a b d e one two three four : List ℕ) → one ≡ out ++ a → two ≡ one ++ b → three ≡ two ++ d → four ≡ three ++ e
+    → four ≡ out ++ (a ++ (b ++ (d ++ e)))
+joined_four out a b d e one two three four first second third fourth =
+    fourth
+    ∙ (ap (λ (l : List ℕ). l ++ e) third
+    ∙ (append_assoc two d e ∙ joined out a b (d ++ e) one two (two ++ (d ++ e)) first second refl))
 
-pub telling_written : (out one two three summary rest : List ℕ) (n : ℕ) (t : Telling) → one ≡ out ++ head_line n t.preemptions → summary ≡ t.summary
+pub head_written : (out one two three four : List ℕ) (n : ℕ) (losses : Option ℕ) (p : ℕ) → one ≡ out ++ labelled (codes "outcome ") n
+    → two ≡ one ++ losses_words losses → three ≡ two ++ labelled (codes " preemptions ") p → four ≡ three ++ 10 ∷ [] → four ≡ out ++ head_line n losses p
+unfolding head_line
+head_written out one two three four n losses p first second third fourth =
+    joined_four out (labelled (codes "outcome ") n) (losses_words losses) (labelled (codes " preemptions ") p) (10 ∷ []) one two three four first second third
+    fourth
+
+pub telling_written : (out one two three summary rest : List ℕ) (n : ℕ) (t : Telling) → one ≡ out ++ head_line n t.losses t.preemptions → summary ≡ t.summary
     → two ≡ one ++ summary → three ≡ two ++ rest → three ≡ out ++ telling_text n t rest
 telling_written out one two three summary rest n t first is second third =
-    joined out (head_line n t.preemptions) t.summary rest one two three first (second ∙ ap (λ (l : List ℕ). one ++ l) is) third
+    joined out (head_line n t.losses t.preemptions) t.summary rest one two three first (second ∙ ap (λ (l : List ℕ). one ++ l) is) third
 
 drop_one : (xs : List Telling) (n : ℕ) (x : Telling) → slice_get xs n ≡ Some x → drop n xs ≡ x ∷ drop (suc n) xs
 drop_one [] n x is = absurd (none-some x is)
@@ -52,10 +61,10 @@ told_done lines n ts out was le all =
     sym (append-nil out) ∙ (ap (λ (xs : List Telling). out ++ tellings_text lines n xs) (sym (drop_all n ts le)) ∙ all)
 
 -- the answer
-pub outcomes_are : (w : World) (p : ℕ) (ts : List Telling) (lines : List (List ℕ)) (histories entries : ℕ) (whole : Bool) (text first middle : List ℕ) (status : ℕ)
-    (answer : Answer) → All (IsTelling w p) ts → first ≡ [] → middle ≡ first ++ tellings_text lines 0 ts → text ≡ middle ++ last_line histories entries whole
-    → status ≡ told_status whole ts → answer ≡ record { status = status; text = text } → IsOutcomesAnswer w p answer
-outcomes_are w p ts lines histories entries whole text first middle status answer sound none one two status_is is = record {
+pub outcomes_are : (w : World) (losses : Option ℕ) (p : ℕ) (ts : List Telling) (lines : List (List ℕ)) (histories entries : ℕ) (whole : Bool) (text first middle : List ℕ) (status : ℕ)
+    (answer : Answer) → All (IsTelling w losses p) ts → first ≡ [] → middle ≡ first ++ tellings_text lines 0 ts → text ≡ middle ++ last_line histories entries whole
+    → status ≡ told_status whole ts → answer ≡ record { status = status; text = text } → IsOutcomesAnswer w losses p answer
+outcomes_are w losses p ts lines histories entries whole text first middle status answer sound none one two status_is is = record {
   tellings = ts;
   sound = sound;
   lines = lines;
@@ -67,8 +76,8 @@ outcomes_are w p ts lines histories entries whole text first middle status answe
   status = ap (λ (a : Answer). a.status) is ∙ status_is;
 }
 
-pub outcomes_given : {E : Type 0} (w : World) (found : Found) (ts : List Telling) (given : Result Answer E) → ts ≡ found.told.items
-    → IfOk given (λ (a : Answer). (p : ℕ) → All (IsTelling w p) ts → IsOutcomesAnswer w p a)
-    → IfOk given (λ (a : Answer). (p : ℕ) → IsSound w p found → IsOutcomesAnswer w p a)
-outcomes_given w found ts (Ok a) same so = λ p s. so p (subst (All (IsTelling w p)) (sym same) s.told)
-outcomes_given w found ts (Err e) same so = so
+pub outcomes_given : {E : Type 0} (found : Found) (ts : List Telling) (given : Result Answer E) → ts ≡ found.told.items
+    → IfOk given (λ (a : Answer). (w : World) (losses : Option ℕ) (p : ℕ) → All (IsTelling w losses p) ts → IsOutcomesAnswer w losses p a)
+    → IfOk given (λ (a : Answer). (w : World) (losses : Option ℕ) (p : ℕ) → IsSound w losses p found → IsOutcomesAnswer w losses p a)
+outcomes_given found ts (Ok a) same so = λ w losses p s. so w losses p (subst (All (IsTelling w losses p)) (sym same) s.told)
+outcomes_given found ts (Err e) same so = so

@@ -9,11 +9,12 @@ use Rattle.net_model.specs.Answers.{Answer}
 use Rattle.net_model.specs.Calls.{Intake, Output}
 use Rattle.net_model.proofs.Shared.{IsGood, Sound}
 use Rattle.net_model.proofs.Shared as calls
+use Rattle.order_search.specs.Losses.{without}
 use Rattle.order_search.specs.declared.tellings.Telling.{Telling}
 use Rattle.netexplore.specs.Answers.{IsAnswerOf, IsOutcomesAnswer, asking}
 use Rattle.netexplore.specs.Ends.{Causes, Ends}
 use Rattle.netexplore.specs.Lines.{is_done, is_stopped, told_status, word_status}
-use Rattle.netexplore.specs.Words.{Command, Outcomes, Schedule, Witness}
+use Rattle.netexplore.specs.Words.{Command, Losses, Lost, Outcomes, Schedule, Witness}
 
 -- words that gave the command
 pub words_ended : (asked : Command) (command : Option Command) (status : ℕ) (intake : Intake) (output : Output) → Some asked ≡ command
@@ -44,6 +45,11 @@ good_of (Schedule seed) w answer is = good_from answer.status (word_status (end_
 good_of (Outcomes span) w answer is = good_from answer.status (told_status is.whole is.tellings) is.status (told_good is.whole is.tellings)
 good_of (Witness span number) w answer (inl is) = good_from answer.status (word_status (end_word w (after w is.history))) is.status (word_good (end_word w (after w is.history)))
 good_of (Witness span number) w answer (inr none) = inr (inr (inr (ap (λ (a : Answer). a.status) none)))
+good_of (Losses k span) w answer is = good_from answer.status (told_status is.whole is.tellings) is.status (told_good is.whole is.tellings)
+good_of (Lost k span number) w answer (inl is) =
+    let v = without w is.lost in
+    good_from answer.status (word_status (end_word v (after v is.history))) is.status (word_good (end_word v (after v is.history)))
+good_of (Lost k span number) w answer (inr none) = inr (inr (inr (ap (λ (a : Answer). a.status) none)))
 
 sound : Sound asking
 sound = record {

@@ -2,8 +2,10 @@
 --     IsEndedAnswer       the text of a whole history, with its summary and its status
 --     IsWithinAnswer      that of one with at most p preemptions
 --     IsOutcomesAnswer    the lines of outcomes, each of which has a history
+--     IsLostAnswer        a world that loses at most k frames, and the text of one of its histories
 --     asking              what is asked of the program
-use Rattle.std.specs.Prelude.{◌≡◌, ◌≤◌, ℕ, ◌⊎◌, Bool, true, List, [], ◌++◌, All, Option, Some, None, Result, Ok, Err}
+use Rattle.std.specs.Prelude.{◌≡◌, ◌≤◌, ℕ, ◌⊎◌, Bool, true, List, [], ◌++◌, All, Option, Some, None, Result, Ok, Err, codes, length}
+use Rattle.std.specs.List.{list_all}
 use Rattle.net_base.specs.declared.history.Entry.{Entry}
 use Rattle.net_base.specs.declared.world.World.{World}
 use Rattle.net_base.specs.Legal.{IsLegal, IsTimed}
@@ -13,13 +15,16 @@ use Rattle.net_base.specs.Transcript.{history_text}
 use Rattle.net_model.specs.Answers.{Answer, lines_answer}
 use Rattle.net_model.specs.Asking as calls
 use Rattle.net_model.specs.Asking.{Asking}
-use Rattle.turn_orders.specs.Preemptions.{preemptions}
+use Rattle.turn_orders.specs.Preemptions.{IsWithin, preemptions}
 use Rattle.turn_orders.specs.Turns.{IsEnded}
+use Rattle.order_search.specs.declared.losses.Frame.{Frame}
 use Rattle.order_search.specs.declared.tellings.Telling.{Telling}
+use Rattle.order_search.specs.Losses.{AreFrames, is_laid, without}
 use Rattle.order_search.specs.Tellings.{IsTelling}
 use Rattle.world_text.specs.WorldText.{world_reading}
 use Rattle.netexplore.specs.Lines.{last_line, tellings_text, told_status, word_status}
-use Rattle.netexplore.specs.Words.{Command, Outcomes, Schedule, Span, Witness}
+use Rattle.world_writer.specs.Written.{world_file_text}
+use Rattle.netexplore.specs.Words.{Command, Losses, Lost, Outcomes, Schedule, Span, Witness}
 
 -- the text of a legal, timed and ended history of the world with its summary, and the status by how it ends
 pub record IsEndedAnswer (w : World) (answer : Answer) : Type 0 where
@@ -41,16 +46,28 @@ pub record IsWithinAnswer (w : World) (p : ℕ) (answer : Answer) : Type 0 where
   pub status : answer.status ≡ word_status (end_word w (after w history))
 
 -- outcomes, each of which has a legal, timed and ended history with its summary and its preemptions; after each summary come the
--- results of steps
-pub record IsOutcomesAnswer (w : World) (p : ℕ) (answer : Answer) : Type 0 where
+-- results of steps. With a number k of losses, the histories are those of the worlds that lose at most k frames
+pub record IsOutcomesAnswer (w : World) (losses : Option ℕ) (p : ℕ) (answer : Answer) : Type 0 where
   pub tellings : List Telling
-  pub sound : All (IsTelling w p) tellings
+  pub sound : All (IsTelling w losses p) tellings
   pub lines : List (List ℕ)
   pub histories : ℕ
   pub entries : ℕ
   pub whole : Bool
   pub text : answer.text ≡ tellings_text lines 0 tellings ++ last_line histories entries whole
   pub status : answer.status ≡ told_status whole tellings
+
+-- the world without at most k frames, `%history`, and the text of a history of that world that lays each of these frames
+pub record IsLostAnswer (w : World) (k p : ℕ) (answer : Answer) : Type 0 where
+  pub lost : List Frame
+  pub frames : AreFrames lost
+  pub few : length lost ≤ k
+  pub history : List Entry
+  pub within : IsWithin (without w lost) p history
+  pub laid : list_all (is_laid history) lost ≡ true
+  pub text : answer.text ≡
+      world_file_text (without w lost) ++ (codes "%history\n" ++ (history_text history ++ summary (without w lost) history))
+  pub status : answer.status ≡ word_status (end_word (without w lost) (after (without w lost) history))
 
 -- Bad lines.
 
@@ -67,8 +84,10 @@ IsBadLine asked input found = found ≡ bad_world (world_reading input)
 -- what is found in a world
 abbrev pub IsAnswerOf : Command → World → Answer → Type 0
 IsAnswerOf (Schedule seed) w answer = IsEndedAnswer w answer
-IsAnswerOf (Outcomes span) w answer = IsOutcomesAnswer w span.preemptions answer
+IsAnswerOf (Outcomes span) w answer = IsOutcomesAnswer w None span.preemptions answer
 IsAnswerOf (Witness span number) w answer = IsWithinAnswer w span.preemptions answer ⊎ (answer ≡ lines_answer [])
+IsAnswerOf (Losses k span) w answer = IsOutcomesAnswer w (Some k) span.preemptions answer
+IsAnswerOf (Lost k span number) w answer = IsLostAnswer w k span.preemptions answer ⊎ (answer ≡ lines_answer [])
 
 -- an answer to an input without a bad line
 abbrev pub IsFound : Command → List ℕ → Answer → Type 0

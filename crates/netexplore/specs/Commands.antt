@@ -16,3 +16,5 @@ abbrev pub command_read : Command → words.Command
 command_read (command.Schedule seed) = words.Schedule seed
 command_read (command.Outcomes span) = words.Outcomes (span_read span)
 command_read (command.Witness span number) = words.Witness (span_read span) number
+command_read (command.Losses losses span) = words.Losses losses (span_read span)
+command_read (command.Lost losses span number) = words.Lost losses (span_read span) number

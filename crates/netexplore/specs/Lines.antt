@@ -10,9 +10,15 @@ use Rattle.order_search.specs.declared.tellings.Telling.{Telling}
 unfoldable pub labelled : List ℕ → ℕ → List ℕ
 labelled label number = label ++ numeral number
 
+-- the number of losses, if there is one
+abbrev pub losses_words : Option ℕ → List ℕ
+losses_words None = []
+losses_words (Some losses) = labelled (codes " losses ") losses
+
 -- the line in front of an outcome
-unfoldable pub head_line : ℕ → ℕ → List ℕ
-head_line number preemptions = labelled (codes "outcome ") number ++ (labelled (codes " preemptions ") preemptions ++ 10 ∷ [])
+unfoldable pub head_line : ℕ → Option ℕ → ℕ → List ℕ
+head_line number losses preemptions =
+    labelled (codes "outcome ") number ++ (losses_words losses ++ (labelled (codes " preemptions ") preemptions ++ 10 ∷ []))
 
 -- what comes after the summary of an outcome
 abbrev pub lines_at : List (List ℕ) → ℕ → List ℕ
@@ -20,7 +26,7 @@ lines_at lines number = unwrap_or (slice_get lines number) []
 
 -- an outcome: a line, the four lines of its summary, and these lines
 abbrev pub telling_text : ℕ → Telling → List ℕ → List ℕ
-telling_text number t lines = head_line number t.preemptions ++ (t.summary ++ lines)
+telling_text number t lines = head_line number t.losses t.preemptions ++ (t.summary ++ lines)
 
 -- outcomes from a number on: for each a line, the four lines of its summary, and these lines
 abbrev pub tellings_text : List (List ℕ) → ℕ → List Telling → List ℕ

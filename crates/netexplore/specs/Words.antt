@@ -21,6 +21,10 @@ pub data Command : Type 0 where
   Outcomes : Span → Command
   -- `witness P LIMIT N`: a history with one outcome
   Witness : Span → ℕ → Command
+  -- `losses K P LIMIT`: how the histories end in which at most k frames are lost
+  Losses : ℕ → Span → Command
+  -- `lost K P LIMIT N`: a history with one outcome of these, after its world
+  Lost : ℕ → Span → ℕ → Command
 
 -- Numbers.
 
@@ -77,6 +81,17 @@ witness_of None number = None
 witness_of (Some span) None = None
 witness_of (Some span) (Some number) = Some (Witness span number)
 
+abbrev pub losses_of : Option ℕ → Option Span → Option Command
+losses_of None span = None
+losses_of (Some k) None = None
+losses_of (Some k) (Some span) = Some (Losses k span)
+
+abbrev pub lost_of : Option ℕ → Option Span → Option ℕ → Option Command
+lost_of None span number = None
+lost_of (Some k) None number = None
+lost_of (Some k) (Some span) None = None
+lost_of (Some k) (Some span) (Some number) = Some (Lost k span number)
+
 abbrev pub schedule_in : List (List ℕ) → Option Command
 schedule_in (seed ∷ []) = option_map Schedule (seed_in seed)
 schedule_in _ = None
@@ -89,11 +104,22 @@ abbrev pub witness_in : List (List ℕ) → Option Command
 witness_in (p ∷ limit ∷ number ∷ part) = witness_of (span_of (bound_in p) (limit_in limit) (part_words part)) (outcome_in number)
 witness_in _ = None
 
+abbrev pub losses_in : List (List ℕ) → Option Command
+losses_in (k ∷ p ∷ limit ∷ part) = losses_of (bound_in k) (span_of (bound_in p) (limit_in limit) (part_words part))
+losses_in _ = None
+
+abbrev pub lost_in : List (List ℕ) → Option Command
+lost_in (k ∷ p ∷ limit ∷ number ∷ part) =
+    lost_of (bound_in k) (span_of (bound_in p) (limit_in limit) (part_words part)) (outcome_in number)
+lost_in _ = None
+
 abbrev pub named_command : List ℕ → List (List ℕ) → Option Command
 named_command name words =
     if bytes_eq name (codes "schedule") then schedule_in words
     else if bytes_eq name (codes "outcomes") then outcomes_in words
     else if bytes_eq name (codes "witness") then witness_in words
+    else if bytes_eq name (codes "losses") then losses_in words
+    else if bytes_eq name (codes "lost") then lost_in words
     else None
 
 -- the command of words, where they are in a row

@@ -1,23 +1,27 @@
 //! The answers of the commands.
-ghost use Rattle.std.specs.Prelude.{◌≡◌, ◌≤◌, ◌⊎◌, [], Err, length, IfOk};
+ghost use Rattle.std.specs.Prelude.{◌≡◌, ◌≤◌, ◌⊎◌, ◌++◌, ℕ, [], Err, None, Some, codes, length, IfOk};
+ghost use Rattle.net_base.specs.declared.world.World.{World as AnyWorld};
+ghost use Rattle.net_base.specs.Transcript.{history_text};
 ghost use Rattle.net_base.specs.World.{IsWorld};
 ghost use Rattle.net_model.specs.Answers.{lines_answer};
-ghost use Rattle.order_search.specs.Tellings.{IsEndedRun, IsWitness};
-ghost use Rattle.netexplore.specs.Answers.{IsAnswer, IsAnswerOf, IsEndedAnswer, IsOutcomesAnswer, IsWithinAnswer};
+ghost use Rattle.order_search.specs.Tellings.{IsEndedRun, IsKin, IsWitness};
+ghost use Rattle.netexplore.specs.Answers.{IsAnswer, IsAnswerOf, IsEndedAnswer, IsLostAnswer, IsOutcomesAnswer, IsWithinAnswer};
 ghost use Rattle.netexplore.specs.Commands.{command_read};
 ghost use Rattle.netexplore.specs.Lines.{word_status};
 ghost use Rattle.transcript.specs.RunStatus.{run_end_word};
 ghost use Rattle.world_text.specs.WorldText.{world_reading};
+ghost use Rattle.world_writer.specs.Written.{world_file_text};
 
 use crate::command::{Command, Span};
 use crate::lines::outcomes_of;
-use net_base::{RunEnd, World};
+use net_base::{Octets, RunEnd, World};
 use net_model::Answer;
-use order_search::{Ended, Part, Sought, Watch, drawn, explore};
+use order_search::{Ended, Part, Sought, Watch, drawn, explore, lose};
 use std::alloc::{AllocError, Global};
 use std::mem;
 use transcript::text_of;
 use world_file::{WorldError, read_world};
+use world_writer::write_world;
 
 /// The answer to a command and its input, which is within the limit.
 pub fn answer_over<W: Watch>(
@@ -29,14 +33,14 @@ pub fn answer_over<W: Watch>(
     requires { length input.now ≤ 4194304 }
     ensures { IfOk result (λ answer. IsAnswer (command_read command) input.now answer) }
 {
-    let world = match read_world(alloc, input) {
+    let mut world = match read_world(alloc, input) {
         Ok(world) => world,
         Err(WorldError::Bad { line, cause }) => {
             return bad_line(alloc, command, input, line, cause);
         }
         Err(WorldError::Memory) => return Err(AllocError),
     };
-    let answer = answer_of(alloc, command, &world, watch);
+    let answer = answer_of(alloc, command, &mut world, watch);
     // the program ends after its one answer, and gives back all memory at once
     mem::forget(world);
     answer
@@ -63,16 +67,18 @@ fn bad_line(
 fn answer_of<W: Watch>(
     alloc: Global,
     command: Command,
-    world: &World,
+    world: &mut World,
     watch: &W,
 ) -> Result<Answer, AllocError>
-    requires { IsWorld world.now }
-    ensures { IfOk result (λ answer. IsAnswerOf (command_read command) world.now answer) }
+    requires { IsWorld world.old }
+    ensures { IfOk result (λ answer. IsAnswerOf (command_read command) world.old answer) }
 {
     match command {
         Command::Schedule(seed) => schedule(alloc, world, seed),
-        Command::Outcomes(span) => outcomes(alloc, world, span, watch),
+        Command::Outcomes(span) => outcomes(alloc, world, None, span, watch),
         Command::Witness(span, number) => witness(alloc, world, span, number, watch),
+        Command::Losses(losses, span) => outcomes(alloc, world, Some(losses), span, watch),
+        Command::Lost(losses, span, number) => lost(alloc, world, losses, span, number, watch),
     }
 }
 
@@ -85,43 +91,66 @@ fn schedule(alloc: Global, world: &World, seed: u64) -> Result<Answer, AllocErro
     of_run(alloc, world, &ended)
 }
 
-// The outcomes.
+// The outcomes, with at most a number of losses if there is one.
 fn outcomes<W: Watch>(
     alloc: Global,
-    world: &World,
+    world: &mut World,
+    losses: Option<u32>,
     span: Span,
     watch: &W,
 ) -> Result<Answer, AllocError>
-    requires { IsWorld world.now }
-    ensures { IfOk result (λ answer. IsOutcomesAnswer world.now span.preemptions answer) }
+    requires { IsWorld world.old }
+    ensures { IfOk result (λ answer. IsOutcomesAnswer world.old losses span.preemptions answer) }
 {
-    let found = explore(alloc, world, sought_in(span, None), watch)?;
+    let found = explore(alloc, world, sought_in(losses, span, None), watch)?;
     outcomes_of(alloc, world, &found, 1 < span.part.count)
 }
 
 // A history with one outcome, or that there is none.
 fn witness<W: Watch>(
     alloc: Global,
-    world: &World,
+    world: &mut World,
     span: Span,
     number: u32,
     watch: &W,
 ) -> Result<Answer, AllocError>
-    requires { IsWorld world.now }
-    ensures { IfOk result (λ answer. IsWithinAnswer world.now span.preemptions answer ⊎ (answer ≡ lines_answer [])) }
+    requires { IsWorld world.old }
+    ensures { IfOk result (λ answer. IsWithinAnswer world.old span.preemptions answer ⊎ (answer ≡ lines_answer [])) }
 {
-    let found = explore(alloc, world, sought_in(span, Some(number)), watch)?;
+    let found = explore(alloc, world, sought_in(None, span, Some(number)), watch)?;
     match &found.witness {
-        Some(ended) => of_witness(alloc, world, span, ended),
+        Some(ended) => of_witness(alloc, ended),
+        None => Answer::nothing(alloc),
+    }
+}
+
+// A world that loses frames and a history of it with one outcome, or that there is none.
+fn lost<W: Watch>(
+    alloc: Global,
+    world: &mut World,
+    losses: u32,
+    span: Span,
+    number: u32,
+    watch: &W,
+) -> Result<Answer, AllocError>
+    requires { IsWorld world.old }
+    ensures { IfOk result (λ answer. IsLostAnswer world.old losses span.preemptions answer ⊎ (answer ≡ lines_answer [])) }
+{
+    let sought = sought_in(Some(losses), span, Some(number));
+    let found = explore(alloc, world, sought, watch)?;
+    match &found.witness {
+        Some(ended) => of_lost(alloc, world, ended),
         None => Answer::nothing(alloc),
     }
 }
 
 // What is sought.
-fn sought_in(span: Span, number: Option<u32>) -> Sought
-    ensures { result.preemptions ≡ span.preemptions }
+fn sought_in(losses: Option<u32>, span: Span, number: Option<u32>) -> Sought
+    ensures losses { result.losses ≡ losses }
+    ensures preemptions { result.preemptions ≡ span.preemptions }
 {
     Sought {
+        losses,
         preemptions: span.preemptions,
         limit: span.limit,
         part: Part {
@@ -135,26 +164,56 @@ fn sought_in(span: Span, number: Option<u32>) -> Sought
     }
 }
 
-// The text of a history and its summary.
+// The answer that prints a history and its summary.
 fn of_run(alloc: Global, world: &World, ended: &Ended) -> Result<Answer, AllocError>
     requires { IsEndedRun world.now ended.now }
     ensures { IfOk result (λ answer. IsEndedAnswer world.now answer) }
 {
     let _ = world;
-    let mut text = text_of(alloc, &ended.history)?;
-    text.append(ended.summary.as_slice())?;
+    let text = run_text(alloc, ended)?;
     Ok(Answer::new(status_of(ended.end), text))
 }
 
 // That of a witness.
-fn of_witness(alloc: Global, world: &World, span: Span, ended: &Ended) -> Result<Answer, AllocError>
-    requires { IsWitness world.now span.preemptions ended.now }
-    ensures { IfOk result (λ answer. IsWithinAnswer world.now span.preemptions answer ⊎ (answer ≡ lines_answer [])) }
+#[tactic(auto, using(crate::proofs::Witnesses::witness_answer))]
+fn of_witness(alloc: Global, ended: &Ended) -> Result<Answer, AllocError>
+    ensures { IfOk result (λ answer. (w : AnyWorld) (p : ℕ) → IsWitness w None p ended.now
+        → IsWithinAnswer w p answer ⊎ (answer ≡ lines_answer [])) }
 {
-    let _ = world;
+    let text = run_text(alloc, ended)?;
+    Ok(Answer::new(status_of(ended.end), text))
+}
+
+// That of a witness with losses, after the world that loses its frames.
+#[tactic(auto, using(crate::proofs::Witnesses::lost_answer))]
+fn of_lost(alloc: Global, world: &mut World, ended: &Ended) -> Result<Answer, AllocError>
+    ensures { IfOk result (λ answer. (w : AnyWorld) (k p : ℕ) → IsKin w (Some k) world.old → IsWitness w (Some k) p ended.now
+        → IsLostAnswer w k p answer ⊎ (answer ≡ lines_answer [])) }
+{
+    lose(alloc, world, ended.lost.as_slice())?;
+    let text = world_and_run_text(alloc, world, ended)?;
+    Ok(Answer::new(status_of(ended.end), text))
+}
+
+// The text of a world, `%history`, and the text of a run.
+fn world_and_run_text(alloc: Global, world: &World, ended: &Ended) -> Result<Octets, AllocError>
+    ensures { IfOk result (λ text. text
+        ≡ world_file_text world.now ++ (codes "%history\n" ++ (history_text ended.now.history ++ ended.now.summary))) }
+{
+    let mut text = write_world(alloc, world)?;
+    let run = run_text(alloc, ended)?;
+    text.append(b"%history\n")?;
+    text.append(run.as_slice())?;
+    Ok(text)
+}
+
+// The text of a history and its summary.
+fn run_text(alloc: Global, ended: &Ended) -> Result<Octets, AllocError>
+    ensures { IfOk result (λ text. text ≡ history_text ended.now.history ++ ended.now.summary) }
+{
     let mut text = text_of(alloc, &ended.history)?;
     text.append(ended.summary.as_slice())?;
-    Ok(Answer::new(status_of(ended.end), text))
+    Ok(text)
 }
 
 // The status by how a history has ended.

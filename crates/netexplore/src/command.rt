@@ -29,6 +29,10 @@ pub enum Command {
     Outcomes(Span),
     /// `witness P LIMIT N`
     Witness(Span, u32),
+    /// `losses K P LIMIT`
+    Losses(u32, Span),
+    /// `lost K P LIMIT N`
+    Lost(u32, Span, u32),
 }
 
 /// The command that words give, if they are in a row.
@@ -53,6 +57,12 @@ fn read_named(name: &[u8], words: &[String]) -> Option<Command>
     }
     if name == b"witness".as_slice() {
         return read_witness(words);
+    }
+    if name == b"losses".as_slice() {
+        return read_losses(words);
+    }
+    if name == b"lost".as_slice() {
+        return read_lost(words);
     }
     None
 }
@@ -92,6 +102,33 @@ fn read_witness(words: &[String]) -> Option<Command>
     }
 }
 
+fn read_losses(words: &[String]) -> Option<Command>
+    ensures { option_map command_read result ≡ spec.losses_in (map string_bytes words.now) }
+{
+    match words {
+        [losses, preemptions, limit, part @ ..] => {
+            let losses = read_bound(losses.as_bytes())?;
+            let span = read_span(preemptions.as_bytes(), limit.as_bytes(), part)?;
+            Some(Command::Losses(losses, span))
+        }
+        _ => None,
+    }
+}
+
+fn read_lost(words: &[String]) -> Option<Command>
+    ensures { option_map command_read result ≡ spec.lost_in (map string_bytes words.now) }
+{
+    match words {
+        [losses, preemptions, limit, number, part @ ..] => {
+            let losses = read_bound(losses.as_bytes())?;
+            let span = read_span(preemptions.as_bytes(), limit.as_bytes(), part)?;
+            let number = read_number(number.as_bytes())?;
+            Some(Command::Lost(losses, span, number))
+        }
+        _ => None,
+    }
+}
+
 fn read_span(preemptions: &[u8], limit: &[u8], part: &[String]) -> Option<Span>
     ensures { option_map span_read result
         ≡ spec.span_of (spec.bound_in preemptions.now) (spec.limit_in limit.now) (spec.part_words (map string_bytes part.now)) }
@@ -114,7 +151,7 @@ fn read_seed(word: &[u8]) -> Option<u64>
     number_in(0, 18_446_744_073_709_551_615, word)
 }
 
-/// A bound on preemptions, 0 to 99.
+/// A bound on losses or preemptions, 0 to 99.
 #[tactic(auto, unfolding(crate::specs::Words::bound_in))]
 fn read_bound(word: &[u8]) -> Option<u32>
     ensures { result ≡ spec.bound_in word.now }

@@ -27,7 +27,11 @@ impl fmt::Display for FarNote {
         let preemptions = Counted(far.preemptions, "preemption", "preemptions");
         let histories = Counted(far.histories, "history", "histories");
         let outcomes = Counted(far.outcomes as u64, "outcome", "outcomes");
-        write!(f, "{preemptions}: {histories}, {outcomes}")
+        let Some(losses) = far.losses else {
+            return write!(f, "{preemptions}: {histories}, {outcomes}");
+        };
+        let losses = Counted(losses, "loss", "losses");
+        write!(f, "{losses}, {preemptions}: {histories}, {outcomes}")
     }
 }
 
@@ -81,7 +85,7 @@ pub struct Ending<'a> {
 
 /// Reports why a call ended as it did, unless all went well.
 pub fn tell_end<R: Eprint>(rt: &R, alloc: Global, ending: Ending<'_>) {
-    let lists = is_named(ending.words, "outcomes");
+    let lists = is_named(ending.words, "outcomes") || is_named(ending.words, "losses");
     match ending.status {
         0 => {}
         1 => {
@@ -92,8 +96,13 @@ pub fn tell_end<R: Eprint>(rt: &R, alloc: Global, ending: Ending<'_>) {
             let _ = eprintln!(rt; "netexplore: {}", some_note(ending.stopped));
         }
         5 => {
+            let list = if is_named(ending.words, "lost") {
+                "losses"
+            } else {
+                "outcomes"
+            };
             let _ = eprintln!(rt;
-                "netexplore: there is no outcome of this number; netexplore outcomes with the same words lists them"
+                "netexplore: there is no outcome of this number; netexplore {list} with the same words lists them"
             );
         }
         _ => tell_as_run(rt, alloc, ending),
@@ -102,7 +111,7 @@ pub fn tell_end<R: Eprint>(rt: &R, alloc: Global, ending: Ending<'_>) {
 
 /// The commands.
 const USAGE: &str =
-    "netexplore schedule SEED, outcomes P LIMIT or witness P LIMIT N, and PART/PARTS behind the last two; a world is given by < FILE";
+    "netexplore schedule SEED, outcomes P LIMIT, witness P LIMIT N, losses K P LIMIT or lost K P LIMIT N, and PART/PARTS behind the last four; a world is given by < FILE";
 
 // Whether the first word is a name.
 fn is_named(words: &[String], name: &str) -> bool {
@@ -117,18 +126,38 @@ fn tell_stopped<R: Eprint>(rt: &R, ending: Ending<'_>) {
     let Some(number) = ending.stopped.number else {
         return;
     };
-    match ending.words {
-        [_, preemptions, limit] => {
-            let _ = eprintln!(rt;
-                "netexplore: outcome {number} reaches the end moment before every step is done; netexplore witness {preemptions} {limit} {number} prints its history"
-            );
+    let words = WitnessWords {
+        words: ending.words,
+        number,
+    };
+    let _ = eprintln!(rt;
+        "netexplore: outcome {number} reaches the end moment before every step is done; netexplore {words} prints its history"
+    );
+}
+
+/// The words that print the history of an outcome, by the words that list the outcomes.
+#[derive(Drop)]
+struct WitnessWords<'a> {
+    words: &'a [String],
+    number: u64,
+}
+
+impl fmt::Display for WitnessWords<'_> {
+    fn fmt<W: fmt::Write>(&self, f: &mut fmt::Formatter<W>) -> fmt::Result {
+        let number = self.number;
+        match self.words {
+            [_, preemptions, limit] => write!(f, "witness {preemptions} {limit} {number}"),
+            [name, preemptions, limit, part] if name.as_bytes() == b"outcomes".as_slice() => {
+                write!(f, "witness {preemptions} {limit} {number} {part}")
+            }
+            [_, losses, preemptions, limit] => {
+                write!(f, "lost {losses} {preemptions} {limit} {number}")
+            }
+            [_, losses, preemptions, limit, part] => {
+                write!(f, "lost {losses} {preemptions} {limit} {number} {part}")
+            }
+            _ => Ok(()),
         }
-        [_, preemptions, limit, part] => {
-            let _ = eprintln!(rt;
-                "netexplore: outcome {number} reaches the end moment before every step is done; netexplore witness {preemptions} {limit} {number} {part} prints its history"
-            );
-        }
-        _ => {}
     }
 }
 

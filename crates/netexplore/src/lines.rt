@@ -1,6 +1,7 @@
 //! Outcomes as lines.
-ghost use Rattle.std.specs.Prelude.{◌≡◌, ◌++◌, ℕ, All, IfOk, OnOk};
+ghost use Rattle.std.specs.Prelude.{◌≡◌, ◌++◌, ℕ, All, IfOk, OnOk, Option};
 ghost use Rattle.std.specs.List.{list_all, list_any};
+ghost use Rattle.net_base.specs.declared.world.World.{World as AnyWorld};
 ghost use Rattle.order_search.specs.declared.tellings.Telling.{Telling as AnyTelling};
 ghost use Rattle.order_search.specs.Tellings.{IsSound, IsTelling};
 ghost use Rattle.netexplore.specs.Answers.{IsOutcomesAnswer};
@@ -20,7 +21,8 @@ pub fn outcomes_of(
     found: &Found,
     all: bool,
 ) -> Result<Answer, AllocError>
-    ensures { IfOk result (λ answer. (p : ℕ) → IsSound world.now p found.now → IsOutcomesAnswer world.now p answer) }
+    ensures { IfOk result (λ answer. (w : AnyWorld) (losses : Option ℕ) (p : ℕ)
+        → IsSound w losses p found.now → IsOutcomesAnswer w losses p answer) }
 {
     let told = found.told.as_slice();
     let counts = Counts {
@@ -47,7 +49,8 @@ fn listed(
     counts: Counts,
     all: bool,
 ) -> Result<Answer, AllocError>
-    ensures { IfOk result (λ answer. (p : ℕ) → All (IsTelling world.now p) told.now → IsOutcomesAnswer world.now p answer) }
+    ensures { IfOk result (λ answer. (w : AnyWorld) (losses : Option ℕ) (p : ℕ)
+        → All (IsTelling w losses p) told.now → IsOutcomesAnswer w losses p answer) }
 {
     let steps = step_texts(alloc, world)?;
     let lines = lines_of(alloc, steps.as_slice(), told, all)?;
@@ -80,7 +83,7 @@ fn put_telling(
     ensures { OnOk result (out.new ≡ out.old ++ spec.telling_text number telling.now rest.now) }
 {
     let summary = telling.summary.as_slice();
-    put_head(out, number, telling.preemptions)?;
+    put_head(out, number, telling.losses, telling.preemptions)?;
     out.append(summary)?;
     out.append(rest)
 }
@@ -96,12 +99,28 @@ fn lines_at(lines: &Lines, number: usize) -> &[u8]
 }
 
 // Adds the line in front of an outcome.
-fn put_head(out: &mut Octets, number: u64, preemptions: u64) -> Result<(), AllocError>
-    ensures { OnOk result (out.new ≡ out.old ++ spec.head_line number preemptions) }
+fn put_head(
+    out: &mut Octets,
+    number: u64,
+    losses: Option<u64>,
+    preemptions: u64,
+) -> Result<(), AllocError>
+    ensures { OnOk result (out.new ≡ out.old ++ spec.head_line number losses preemptions) }
 {
     put_labelled(out, b"outcome ", number)?;
+    put_losses(out, losses)?;
     put_labelled(out, b" preemptions ", preemptions)?;
     out.append(b"\n")
+}
+
+// Adds the number of losses, if there is one.
+fn put_losses(out: &mut Octets, losses: Option<u64>) -> Result<(), AllocError>
+    ensures { OnOk result (out.new ≡ out.old ++ spec.losses_words losses) }
+{
+    match losses {
+        Some(count) => put_labelled(out, b" losses ", count),
+        None => Ok(()),
+    }
 }
 
 // Adds a word with a number after it.

@@ -1,4 +1,5 @@
 mod Goers
 mod Turning
 mod Walking
+mod Losing
 mod ToldRuns

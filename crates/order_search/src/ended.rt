@@ -5,17 +5,19 @@ ghost use Rattle.net_base.specs.Summary.{end_word, summary};
 ghost use Rattle.transcript.specs.RunStatus.{run_end_word};
 ghost use Rattle.turn_orders.specs.Turns.{IsEnded};
 ghost use Rattle.order_search.specs.Walks.{IsWalk};
-ghost use Rattle.order_search.specs.Tellings.{IsWitness};
+ghost use Rattle.order_search.specs.Tellings.{IsEndedOf};
 
+use crate::losses::Frame;
 use crate::walk::Walk;
 use net_base::{History, Octets, RunEnd, World};
 use std::alloc::{AllocError, Global};
 use std::mem;
 use transcript::{RunStatus, summary_by};
 
-/// A history in which nobody can continue, with its summary and how it has ended.
+/// A history in which nobody can continue, with its summary and how it has ended, and the frames that were chosen to be lost in it.
 #[derive(Drop)]
 pub struct Ended {
+    pub lost: Vec<Frame>,
     pub history: History,
     pub summary: Octets,
     pub end: Option<RunEnd>,
@@ -40,15 +42,22 @@ pub fn summary_of_walk(alloc: Global, world: &World, walk: &Walk<'_>) -> Result<
 }
 
 /// The history of a run that has ended, which is taken out.
-pub fn ended_of(alloc: Global, world: &World, walk: &mut Walk<'_>) -> Result<Ended, AllocError>
+pub fn ended_of(
+    alloc: Global,
+    world: &World,
+    walk: &mut Walk<'_>,
+    lost: &[Frame],
+) -> Result<Ended, AllocError>
     requires walk { IsWalk world.now walk.old }
     requires ended { IsEnded world.now walk.old.history }
-    ensures { IfOk result (IsWitness world.now walk.old.preemptions) }
+    ensures { IfOk result (IsEndedOf world.now walk.old.preemptions walk.old.history lost.now) }
 {
+    let lost = Vec::from_slice(alloc, lost)?;
     let summary = summary_of_walk(alloc, world, walk)?;
     let end = end_of(world, walk);
     let history = mem::replace(&mut walk.history, History::new(alloc));
     Ok(Ended {
+        lost,
         history,
         summary,
         end,

@@ -1,13 +1,16 @@
 //! The search through the histories of a world that leave a caller early a few times at most, and runs whose order is drawn.
 //!
 //! `explore` goes through the tree of the callers' turns pass by pass, in depth, and keeps the outcomes as they first come.
-//! No state is kept: going back is playing a path anew. Proved: each reported outcome has a legal, timed and ended
-//! history with its summary and its number of preemptions. Not proved: the results of steps, the order, and that none is missing.
+//! No state is kept: going back is playing a path anew. If losses are sought, each run begins in a world that loses the frames of its path.
+//! Proved: each reported outcome has a legal, timed and ended history with its summary and its numbers of losses and preemptions.
+//! Not proved: the results of steps, the order, and that none is missing.
 //! Begin at `explore` in search.rt.
 #![tactic(auto)]
 
 mod ended;
 mod going;
+mod law;
+mod losses;
 mod marks;
 mod path;
 mod ranks;
@@ -19,6 +22,8 @@ mod turn;
 mod walk;
 
 pub use ended::Ended;
+pub use law::{losses_replace_losses, lost_worlds_are_worlds};
+pub use losses::{Frame, lose};
 pub use ranks::drawn;
 pub use search::{Far, Found, Sought, Watch, explore};
 pub use tellings::Telling;

@@ -31,7 +31,7 @@ pub fn drawn(alloc: Global, world: &World, seed: u64) -> Result<Ended, AllocErro
     draw(&mut words, ranks.as_mut_slice());
     for _ in 0..u64::MAX {
         let Some(first) = first_goer(&walk.runner, world) else {
-            return ended_of(alloc, world, &mut walk);
+            return ended_of(alloc, world, &mut walk, &[]);
         };
         if !is_move(&walk, world, first) && words.next_word() % TURNS == 0 {
             draw(&mut words, ranks.as_mut_slice());

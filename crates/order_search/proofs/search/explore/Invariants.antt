@@ -1,5 +1,11 @@
-use Rattle.order_search.specs.Tellings.{IsSound}
+use Rattle.net_base.specs.World.{IsWorld}
+use Rattle.order_search.specs.Tellings.{IsKin, IsPassOf, IsSound}
 use Rattle.order_search.proofs.search.explore.Given as goal
 
-abbrev pub invariant-loop-most : goal.invariant-loop-most
-invariant-loop-most g l = IsSound l.world l.sought.preemptions l.found
+abbrev pub invariant-loop : goal.invariant-loop
+invariant-loop g l = record {
+  world : IsWorld l.world;
+  kin : IsKin l.initial.world l.sought.losses l.world;
+  pass : IsPassOf l.sought l.pass;
+  sound : IsSound l.initial.world l.sought.losses l.sought.preemptions l.found;
+}
