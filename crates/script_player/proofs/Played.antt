@@ -1,16 +1,17 @@
 -- A player goes from reply to reply and from step to step.
-use Rattle.std.proofs.Common.{◌≡◌, ℕ, zero, suc, ◌+◌, ◌-◌, ◌<◌, ◌≤◌, ◌∙◌, ◌&&◌, nat_lt, Bool, true, false, List, [], ◌∷◌, ◌++◌, drop, length, Option, Some, None, slice_get, is_none, refl, sym, ap, subst, arith, if◌then◌else◌}
+use Rattle.std.proofs.Common.{◌≡◌, ℕ, zero, suc, ◌+◌, ◌<◌, ◌≤◌, ◌∙◌, ◌&&◌, nat_lt, Bool, true, false, List, [], ◌∷◌, ◌++◌, drop, take, length, Option, Some, None, slice_get, is_none, refl, sym, ap, subst, arith, length-append, if◌then◌else◌}
 use Rattle.std.proofs.lemmas.Bool.{true≢false, false≢true, lt-ltb}
 use Rattle.std.proofs.lemmas.Bool.Decides.{nat_tests}
 use Rattle.std.proofs.lemmas.Option.{none-some, same_Some}
-use Rattle.std.proofs.lemmas.List.{append-nil}
+use Rattle.std.proofs.lemmas.List.{append-nil, append_assoc, drop-append-le, take-append-drop, take-append-le, take_all}
 use Rattle.net_base.specs.declared.left.Left.{Left}
 use Rattle.net_base.specs.declared.reply.Reply.{Reply}
 use Rattle.net_base.specs.declared.world.Script.{Script}
 use Rattle.net_base.specs.declared.world.Step.{Step}
+use Rattle.net_base.specs.declared.world.Step.TheVariants as steps
 use Rattle.net_base.specs.Next.{finished_by}
 use Rattle.net_base.specs.Remotes.{nothing_left}
-use Rattle.net_base.specs.Scripts.{heard_replies as first_replies, left_after, position, step_play}
+use Rattle.net_base.specs.Scripts.{Kept, at_first, heard_replies as first_replies, left_after, position, step_play}
 use Rattle.net_base.specs.Steps.{Ask, Names, Play, Asks, Ends, Position, no_names, position_by, stands}
 use Rattle.net_base.specs.Versions.{Tuples}
 use Rattle.script_task.specs.Holdings.{Holdings, holdings}
@@ -26,7 +27,7 @@ use Rattle.played_task.specs.declared.step.StepTask.{StepTask}
 use Rattle.played_task.specs.Leaving.{after_one, leaves_so}
 use Rattle.played_task.specs.StepTasks.{StandsFor, asks, after, after_all, begun, leaves, left_by as left_by_task}
 use Rattle.played_task.specs.StepLaws.{asks_alike, asks_so, begun_asks, begun_stands, moves_so}
-use Rattle.script_player.specs.Players.{Playing, playing_kept, position_after, next_after, PlaysLeft, KnowsPlaying, IsInStep, Between, IsAtBy, IsAt, playing_begun_by, begun_in, request_by, request_of, asked_as, asked_at, with_room, prepared_by, prepared, expected_by, expected_in, heard_by, playing_heard, left_by_playing, left}
+use Rattle.script_player.specs.Players.{AreStepsFinished, LeavesSteps, Playing, playing_kept, position_after, next_after, PlaysLeft, KnowsPlaying, IsInStep, Between, IsAtBy, IsAt, playing_begun_by, begun_in, request_by, request_of, asked_as, asked_at, with_room, prepared_by, prepared, expected_by, expected_in, heard_by, playing_heard, left_by_playing, left, position_with, unbegun, with_steps}
 use Rattle.net_base.proofs.Shared.{append_one, none_is}
 
 -- Lists.
@@ -60,6 +61,24 @@ length_drop zero ss le = omega arith
 length_drop (suc k) [] le = absurd (omega (arith, le))
 length_drop (suc k) (x ∷ ss) le = omega (arith, length_drop k ss (omega (arith, le)))
 
+-- one step more of the first ones
+take_one : (k : ℕ) (ss : List Step) (s : Step) (rest : List Step) → drop k ss ≡ s ∷ rest → take (suc k) ss ≡ take k ss ++ s ∷ []
+take_one zero [] s rest is = absurd (omega (arith, ap length is))
+take_one (suc k) [] s rest is = absurd (omega (arith, ap length is))
+take_one zero (x ∷ ss) s rest is = ap (λ (ys : List Step). take 1 ys) is
+take_one (suc k) (x ∷ ss) s rest is = ap (λ (ys : List Step). x ∷ ys) (take_one k ss s rest is)
+
+-- so that others follow them
+take_more : (k : ℕ) (ss : List Step) (s : Step) (rest later : List Step) → drop k ss ≡ s ∷ rest → take (k + 1) ss ++ later ≡ take k ss ++ s ∷ later
+take_more k ss s rest later is =
+    let next : k + 1 ≡ suc k = omega arith in
+    ap (λ (n : ℕ). take n ss ++ later) next ∙ ap (λ (ys : List Step). ys ++ later) (take_one k ss s rest is) ∙ append_assoc (take k ss) (s ∷ []) later
+
+-- the script is its first steps, and those that follow them
+alone : (zone : Tuples) (s : Script) (n : ℕ) (rs : List Reply) → position_after zone s rs ≡ position_with zone s n (drop n s.steps) (rs ++ [])
+alone zone s n rs =
+    ap (λ (ss : List Step). position s.host ss (at_first zone) rs) (sym (take-append-drop n s.steps)) ∙ ap (λ (xs : List Reply). position_with zone s n (drop n s.steps) xs) (sym (append-nil rs))
+
 -- A step begins.
 
 begins : (zone : Tuples) (s : Script) (rs : List Reply) (p : Playing) (at : Step) → slice_get s.steps p.finished ≡ Some at → Between zone s rs p
@@ -70,10 +89,15 @@ begins zone s rs p at is between =
       play = step_play s.host (playing_kept p) at;
       step = at;
       rest = drop (suc p.finished) s.steps;
+      before = rs;
       said = [];
+      replies_are = sym (append-nil rs);
+      names = p.holdings.names;
+      began = between.leaves;
+      unheard = λ none. refl;
       told = refl;
       behind = behind;
-      plays = λ more. subst (λ (ss : List Step). position_after zone s (rs ++ more) ≡ position s.host ss (playing_kept p) more) behind (between.leaves more);
+      plays = λ later more. between.leaves (at ∷ later) more;
       stands_for = begun_stands (begun p.left at) p.left at refl s.host p.holdings.names between.slots;
       goes_on = begun_asks p.left at p.holdings.names;
       knows = tt;
@@ -98,11 +122,14 @@ heads : (zone : Tuples) (s : Script) (rs : List Reply) (p : Playing) (t : StepTa
 heads zone s rs p t q step is = subst (λ (o : Option Request). Heads s.host p.holdings.names o step.play) is (asks_so s.host p.holdings.names t step.play step.stands_for)
 
 -- a play that asks stands at its event, and its step is left
-at_event : (zone : Tuples) (s : Script) (rs said : List Reply) (l : Left) (play : Play) (at : Step) (rest : List Step) (ask : Ask) → head play ≡ Some ask → PlaysLeft zone s rs said l play at rest
-    → position_after zone s rs ≡ record { next = Some ask; left = at ∷ rest }
-at_event zone s rs said l (Asks a e next) at rest ask is plays =
-    ap (λ (xs : List Reply). position_after zone s xs) (sym (append-nil rs)) ∙ plays [] ∙ ap (λ (o : Option Ask). record { next = o; left = at ∷ rest }) is
-at_event zone s rs said l (Ends names) at rest ask is plays = absurd (none-some ask is)
+at_event : (zone : Tuples) (s : Script) (n : ℕ) (rs said : List Reply) (l : Left) (play : Play) (at : Step) (rest : List Step) (ask : Ask) → drop n s.steps ≡ at ∷ rest → head play ≡ Some ask
+    → PlaysLeft zone s n rs said l play at → position_after zone s rs ≡ record { next = Some ask; left = at ∷ rest }
+at_event zone s n rs said l (Asks a e next) at rest ask behind is plays =
+    alone zone s n rs
+    ∙ ap (λ (ss : List Step). position_with zone s n ss (rs ++ [])) behind
+    ∙ plays rest []
+    ∙ ap (λ (o : Option Ask). record { next = o; left = at ∷ rest }) is
+at_event zone s n rs said l (Ends names) at rest ask behind is plays = absurd (none-some ask is)
 
 -- there is a request where it isn't through
 some_request : (o : Option Request) → is_none o ≡ false → (q : Request) × (o ≡ Some q)
@@ -113,12 +140,12 @@ step_next : (zone : Tuples) (s : Script) (rs : List Reply) (p : Playing) (t : St
 step_next zone s rs p t step =
     let found = some_request (asks t p.holdings.names) step.goes_on in
     let heading = heads zone s rs p t found.0 step found.1 in
-    ap (λ (o : Option Request). asked_as s.host p.holdings.names o) found.1 ∙ heading.2 ∙ sym (ap (λ (at : Position). at.next) (at_event zone s rs step.said p.left step.play step.step step.rest heading.0 heading.1 step.plays))
+    ap (λ (o : Option Request). asked_as s.host p.holdings.names o) found.1 ∙ heading.2 ∙ sym (ap (λ (at : Position). at.next) (at_event zone s p.finished rs step.said p.left step.play step.step step.rest heading.0 step.behind heading.1 step.plays))
 
 -- no step is left
 none_left : (zone : Tuples) (s : Script) (rs : List Reply) (p : Playing) → Between zone s rs p → slice_get s.steps p.finished ≡ None → position_after zone s rs ≡ record { next = None; left = [] }
 none_left zone s rs p between is =
-    ap (λ (xs : List Reply). position_after zone s xs) (sym (append-nil rs)) ∙ between.leaves [] ∙ ap (λ (ss : List Step). position s.host ss (playing_kept p) []) (drop_none p.finished s.steps is)
+    alone zone s p.finished rs ∙ ap (λ (ss : List Step). position_with zone s p.finished ss (rs ++ [])) (drop_none p.finished s.steps is) ∙ between.leaves [] []
 
 next_is : (zone : Tuples) (s : Script) (rs : List Reply) (p : Playing) (t : Option StepTask) (o : Option Step) → p.task ≡ t → slice_get s.steps p.finished ≡ o → IsAtBy zone s rs p t → asked_at s.host (playing_begun_by p t o) ≡ next_after zone s rs
 next_is zone s rs p (Some t) o task is at = ap (λ (u : Option StepTask). asked_as s.host p.holdings.names (request_by p.holdings.names u)) task ∙ step_next zone s rs p t at
@@ -146,7 +173,12 @@ step_prepared zone s rs p t q step is names b old new =
       play = step.play;
       step = step.step;
       rest = step.rest;
+      before = step.before;
       said = step.said;
+      replies_are = step.replies_are;
+      names = step.names;
+      began = step.began;
+      unheard = λ none. sym back ∙ step.unheard none;
       told = step.told;
       behind = step.behind;
       plays = step.plays;
@@ -193,14 +225,14 @@ expected_knows zone s rs p ask at is = by p.effect refl
 
 -- A reply.
 
-plays_on : (zone : Tuples) (s : Script) (rs said : List Reply) (l : Left) (play : Play) (at : Step) (rest : List Step) (ask : Ask) (r : Reply) → head play ≡ Some ask → PlaysLeft zone s rs said l play at rest
-    → PlaysLeft zone s (rs ++ r ∷ []) (said ++ r ∷ []) l (follow play r) at rest
-plays_on zone s rs said l (Asks a e next) at rest ask r is plays = λ more.
-    ap (λ (xs : List Reply). position_after zone s xs) (append_one rs r more)
-    ∙ (plays (r ∷ more)
-    ∙ ap (λ (xs : List Reply). position_by (stands (next r) more) (at ∷ rest) (λ (names : Names) (later : List Reply). position s.host rest (record { names = names; left = left_after l at xs }) later))
+plays_on : (zone : Tuples) (s : Script) (n : ℕ) (rs said : List Reply) (l : Left) (play : Play) (at : Step) (ask : Ask) (r : Reply) → head play ≡ Some ask → PlaysLeft zone s n rs said l play at
+    → PlaysLeft zone s n (rs ++ r ∷ []) (said ++ r ∷ []) l (follow play r) at
+plays_on zone s n rs said l (Asks a e next) at ask r is plays = λ later more.
+    ap (λ (xs : List Reply). position_with zone s n (at ∷ later) xs) (append_one rs r more)
+    ∙ (plays later (r ∷ more)
+    ∙ ap (λ (xs : List Reply). position_by (stands (next r) more) (at ∷ later) (λ (names : Names) (replies : List Reply). position s.host later (record { names = names; left = left_after l at xs }) replies))
     (sym (append_one said r (first_replies (next r) more))))
-plays_on zone s rs said l (Ends names) at rest ask r is plays = absurd (none-some ask is)
+plays_on zone s n rs said l (Ends names) at ask r is plays = absurd (none-some ask is)
 
 play_fits : (play : Play) (ask : Ask) (r : Reply) → head play ≡ Some ask → fits ask.event r ≡ true → fits_play play r ≡ true
 play_fits (Asks a e next) ask r is fit = subst (λ (x : Ask). fits x.event r ≡ true) (sym (same_Some (record { actor = a; event = e }) ask is)) fit
@@ -211,14 +243,14 @@ record Moved (zone : Tuples) (s : Script) (rs : List Reply) (p : Playing) (t : S
   stands_for : StandsFor s.host names (after t r) (follow step.play r)
   told : after t r ≡ after_all (begun p.left step.step) (step.said ++ r ∷ [])
   leaving_so : leaves (after t r) p.left ≡ left_after p.left step.step (step.said ++ r ∷ [])
-  plays : PlaysLeft zone s (rs ++ r ∷ []) (step.said ++ r ∷ []) p.left (follow step.play r) step.step step.rest
+  plays : PlaysLeft zone s p.finished (rs ++ r ∷ []) (step.said ++ r ∷ []) p.left (follow step.play r) step.step
 
 moved : (zone : Tuples) (s : Script) (rs : List Reply) (p : Playing) (t : StepTask) (step : IsInStep zone s rs p t) (e : Effect) (ask : Ask) (r : Reply) → KnowsPlaying p.holdings.names t (Some e) → next_after zone s rs ≡ Some ask → fits ask.event r ≡ true
     → Moved zone s rs p t step r (settles_effect e (opened_file e r) p.holdings).names
 moved zone s rs p t step e ask r knows is fit =
     let q : Request = knows.0 in
     let heading = heads zone s rs p t q step knows.1 in
-    let same : heading.0 ≡ ask = same_Some heading.0 ask (sym (ap (λ (at : Position). at.next) (at_event zone s rs step.said p.left step.play step.step step.rest heading.0 heading.1 step.plays)) ∙ is) in
+    let same : heading.0 ≡ ask = same_Some heading.0 ask (sym (ap (λ (at : Position). at.next) (at_event zone s p.finished rs step.said p.left step.play step.step step.rest heading.0 step.behind heading.1 step.plays)) ∙ is) in
     let fits_it : fits_play step.play r ≡ true = play_fits step.play heading.0 r heading.1 (subst (λ (x : Ask). fits x.event r ≡ true) (sym same) fit) in
     let names_are : settled p.holdings.names q r ≡ (settles_effect e (opened_file e r) p.holdings).names =
     sym (ap (λ (x : Effect). (settles_effect x (opened_file x r) p.holdings).names) knows.2 ∙ settles_so p.holdings q r) in
@@ -226,8 +258,11 @@ moved zone s rs p t step e ask r knows is fit =
       stands_for = subst (λ (ns : Names). StandsFor s.host ns (after t r) (follow step.play r)) names_are (moves_so s.host p.holdings.names t step.play q r step.stands_for knows.1 fits_it);
       told = ap (λ (u : StepTask). after u r) step.told ∙ after_one (begun p.left step.step) step.said r;
       leaving_so = leaves_so p.left step.step step.said r t step.told (sym (asks_alike t p.holdings.names (no_names [])) ∙ step.goes_on);
-      plays = plays_on zone s rs step.said p.left step.play step.step step.rest heading.0 r heading.1 step.plays;
+      plays = plays_on zone s p.finished rs step.said p.left step.play step.step heading.0 r heading.1 step.plays;
     }
+
+some_reply : (rs : List Reply) (r : Reply) → rs ++ r ∷ [] ≡ [] → ⊥
+some_reply rs r none = omega (arith, ap length none, length-append rs (r ∷ []))
 
 -- the step goes on, or the next one comes
 goes_on : (zone : Tuples) (s : Script) (rs : List Reply) (p : Playing) (t : StepTask) (step : IsInStep zone s rs p t) (r : Reply) (b : Holdings) → Moved zone s rs p t step r b.names
@@ -242,7 +277,12 @@ goes_on zone s rs p t step r b moves false is l same =
       play = follow step.play r;
       step = step.step;
       rest = step.rest;
+      before = step.before;
       said = step.said ++ r ∷ [];
+      replies_are = ap (λ (xs : List Reply). xs ++ r ∷ []) step.replies_are ∙ append_assoc step.before step.said (r ∷ []);
+      names = step.names;
+      began = step.began;
+      unheard = λ none. absurd (some_reply step.said r none);
       told = moves.told;
       behind = step.behind;
       plays = moves.plays;
@@ -259,12 +299,12 @@ goes_on zone s rs p t step r b moves true is l same =
     let next : Between zone s (rs ++ r ∷ []) (record p { holdings = b; effect = None; left = l; finished = p.finished + 1; task = None }) =
     record {
       slots = moves.stands_for.0;
-      leaves = λ later. moves.plays later
-          ∙ (ap (λ (x : Play). position_by (stands x later) (step.step ∷ step.rest)
-          (λ (names : Names) (rest : List Reply). position s.host step.rest (record { names = names; left = left_after p.left step.step (said ++ first_replies x later) }) rest)) ends
-          ∙ (ap (λ (xs : List Reply). position s.host step.rest (record { names = b.names; left = left_after p.left step.step xs }) later) (append-nil said)
-          ∙ (ap (λ (x : Left). position s.host step.rest (record { names = b.names; left = x }) later) left_is_so
-          ∙ ap (λ (ss : List Step). position s.host ss (record { names = b.names; left = l }) later) (sym more.1))));
+      leaves = λ later rest. ap (λ (ss : List Step). position s.host ss (at_first zone) ((rs ++ r ∷ []) ++ rest)) (take_more p.finished s.steps step.step step.rest later step.behind)
+          ∙ (moves.plays later rest
+          ∙ (ap (λ (x : Play). position_by (stands x rest) (step.step ∷ later)
+          (λ (names : Names) (replies : List Reply). position s.host later (record { names = names; left = left_after p.left step.step (said ++ first_replies x rest) }) replies)) ends
+          ∙ (ap (λ (xs : List Reply). position s.host later (record { names = b.names; left = left_after p.left step.step xs }) rest) (append-nil said)
+          ∙ ap (λ (x : Left). position s.host later (record { names = b.names; left = x }) rest) left_is_so)));
       within = omega (arith, more.0);
       unknown = refl;
     } in
@@ -304,7 +344,7 @@ step_left zone s rs p t step =
     let found = some_request (asks t p.holdings.names) step.goes_on in
     let heading = heads zone s rs p t found.0 step found.1 in
     let left_are : (position_after zone s rs).left ≡ drop p.finished s.steps =
-    ap (λ (at : Position). at.left) (at_event zone s rs step.said p.left step.play step.step step.rest heading.0 heading.1 step.plays) ∙ sym step.behind in
+    ap (λ (at : Position). at.left) (at_event zone s p.finished rs step.said p.left step.play step.step step.rest heading.0 step.behind heading.1 step.plays) ∙ sym step.behind in
     ap (λ (ss : List Step). length ss + p.finished) left_are ∙ length_drop p.finished s.steps (omega (arith, (behind_more p.finished s.steps step.step step.rest step.behind).0))
 
 left_is : (zone : Tuples) (s : Script) (rs : List Reply) (p : Playing) (t : Option StepTask) (o : Option Step) → slice_get s.steps p.finished ≡ o → IsAtBy zone s rs p t → length (position_after zone s rs).left + p.finished ≡ length s.steps
@@ -332,4 +372,108 @@ pub starts : (zone : Tuples) (s : Script) (l : Left) → l ≡ nothing_left → 
 unfolding IsAt
 starts zone s l is =
     subst (λ (x : Left). Between zone s [] (record { holdings = holdings (no_names zone) None; finished = 0; task = None; effect = None; left = x })) (sym is)
-    (record { slots = refl; leaves = λ more. refl; within = omega arith; unknown = refl })
+    (record { slots = refl; leaves = λ later more. refl; within = omega arith; unknown = refl })
+
+-- More steps at the end of the script.
+
+get_more : (k : ℕ) (ss more : List Step) (s : Step) → slice_get ss k ≡ Some s → slice_get (ss ++ more) k ≡ Some s
+get_more k [] more s is = absurd (none-some s is)
+get_more zero (x ∷ ss) more s is = is
+get_more (suc k) (x ∷ ss) more s is = get_more k ss more s is
+
+step_in_longer : (zone : Tuples) (s : Script) (more : List Step) (rs : List Reply) (p : Playing) (t : StepTask) → IsInStep zone s rs p t → IsInStep zone (with_steps s more) rs p t
+step_in_longer zone s more rs p t step =
+    let within : p.finished ≤ length s.steps = omega (arith, (behind_more p.finished s.steps step.step step.rest step.behind).0) in
+    let first : take p.finished (s.steps ++ more) ≡ take p.finished s.steps = take-append-le p.finished s.steps more within in
+    record {
+      play = step.play;
+      step = step.step;
+      rest = step.rest ++ more;
+      before = step.before;
+      said = step.said;
+      replies_are = step.replies_are;
+      names = step.names;
+      began = λ later replies. ap (λ (ss : List Step). position s.host (ss ++ later) (at_first zone) (step.before ++ replies)) first ∙ step.began later replies;
+      unheard = step.unheard;
+      told = step.told;
+      behind = drop-append-le p.finished s.steps more within ∙ ap (λ (ss : List Step). ss ++ more) step.behind;
+      plays = λ later replies. ap (λ (ss : List Step). position s.host (ss ++ step.step ∷ later) (at_first zone) (rs ++ replies)) first ∙ step.plays later replies;
+      stands_for = step.stands_for;
+      goes_on = step.goes_on;
+      knows = step.knows;
+    }
+
+between_in_longer : (zone : Tuples) (s : Script) (more : List Step) (rs : List Reply) (p : Playing) → Between zone s rs p → Between zone (with_steps s more) rs p
+between_in_longer zone s more rs p between =
+    record {
+      slots = between.slots;
+      leaves = λ later replies. ap (λ (ss : List Step). position s.host (ss ++ later) (at_first zone) (rs ++ replies)) (take-append-le p.finished s.steps more between.within) ∙ between.leaves later replies;
+      within = omega (arith, between.within, length-append s.steps more);
+      unknown = between.unknown;
+    }
+
+at_in_longer : (zone : Tuples) (s : Script) (more : List Step) (rs : List Reply) (p : Playing) (t : Option StepTask) → IsAtBy zone s rs p t → IsAtBy zone (with_steps s more) rs p t
+at_in_longer zone s more rs p None between = between_in_longer zone s more rs p between
+at_in_longer zone s more rs p (Some t) step = step_in_longer zone s more rs p t step
+
+pub fits_longer : (zone : Tuples) (s : Script) (more : List Step) (rs : List Reply) (p : Playing) → IsAt zone s rs p → IsAt zone (with_steps s more) rs p
+unfolding IsAt
+fits_longer zone s more rs p at = at_in_longer zone s more rs p p.task at
+
+-- if the script has a next event, the longer script begins the same step
+begins_alike : (h : ℕ) (p : Playing) (t : Option StepTask) (o q : Option Step) (a : Ask) → p.task ≡ t → ((x : Step) → o ≡ Some x → q ≡ Some x) → asked_at h (playing_begun_by p t o) ≡ Some a
+    → playing_begun_by p t q ≡ playing_begun_by p t o
+begins_alike h p (Some t) o q a task keeps is = refl
+begins_alike h p None (Some x) q a task keeps is = ap (playing_begun_by p None) (keeps x refl)
+begins_alike h p None None q a task keeps is = absurd (none-some a (sym (ap (λ (u : Option StepTask). asked_as h p.holdings.names (request_by p.holdings.names u)) task) ∙ is))
+
+pub next_in_longer : (zone : Tuples) (s : Script) (more : List Step) (rs : List Reply) (p : Playing) (a : Ask) → IsAt zone s rs p → next_after zone s rs ≡ Some a
+    → next_after zone (with_steps s more) rs ≡ Some a
+next_in_longer zone s more rs p a at is =
+    let here : asked_at s.host (begun_in s p) ≡ Some a = next_right zone s rs p at ∙ is in
+    sym (next_right zone (with_steps s more) rs p (fits_longer zone s more rs p at))
+    ∙ ap (asked_at s.host) (begins_alike s.host p p.task (slice_get s.steps p.finished) (slice_get (s.steps ++ more) p.finished) a refl (get_more p.finished s.steps more) here)
+    ∙ here
+
+-- The step that it is at is forgotten.
+
+-- after the steps that are finished, a step that waits for a moment is the one that is left, if it has no reply
+waits_alone : (h : ℕ) (k : Kept) (r : Reply) (said : List Reply) → length (position h (steps.Until 1 ∷ []) k (r ∷ said)).left ≡ 0
+waits_alone h k r said = refl
+
+none_said : (zone : Tuples) (s : Script) (later : List Step) (rs before said : List Reply) (n : ℕ) (k : Kept) → n ≡ length s.steps → rs ≡ before ++ said
+    → LeavesSteps zone (with_steps s later) n before k → AreStepsFinished zone s rs → said ≡ []
+none_said zone s later rs before [] n k at is leaves finished = refl
+none_said zone s later rs before (r ∷ said) n k at is leaves finished =
+    let all : take n (s.steps ++ later) ≡ s.steps = ap (λ (m : ℕ). take m (s.steps ++ later)) at ∙ take-append-le (length s.steps) s.steps later (omega arith) ∙ take_all (length s.steps) s.steps (omega arith) in
+    let there : position_after zone (with_steps s (steps.Until 1 ∷ [])) rs ≡ position s.host (steps.Until 1 ∷ []) k (r ∷ said) =
+    ap (λ (xs : List Reply). position_after zone (with_steps s (steps.Until 1 ∷ [])) xs) is
+    ∙ ap (λ (ss : List Step). position s.host (ss ++ steps.Until 1 ∷ []) (at_first zone) (before ++ r ∷ said)) (sym all)
+    ∙ leaves (steps.Until 1 ∷ []) (r ∷ said) in
+    absurd (omega (arith, finished (steps.Until 1 ∷ []), ap (λ (at : Position). length at.left) there ∙ waits_alone s.host k r said, length-append s.steps (steps.Until 1 ∷ [])))
+
+forgotten_by : (zone : Tuples) (s : Script) (later : List Step) (rs : List Reply) (p : Playing) (t : Option StepTask) → p.finished ≡ length s.steps → AreStepsFinished zone s rs → IsAtBy zone (with_steps s later) rs p t
+    → Between zone s rs (unbegun p)
+forgotten_by zone s later rs p None at finished between =
+    record {
+      slots = between.slots;
+      leaves = λ more replies. ap (λ (ss : List Step). position s.host (ss ++ more) (at_first zone) (rs ++ replies)) (sym (take-append-le p.finished s.steps later (omega (arith, at)))) ∙ between.leaves more replies;
+      within = omega (arith, at);
+      unknown = refl;
+    }
+forgotten_by zone s later rs p (Some t) at finished step =
+    let none : step.said ≡ [] = none_said zone s later rs step.before step.said p.finished (record { names = step.names; left = p.left }) at step.replies_are step.began finished in
+    let replies_are : rs ≡ step.before = step.replies_are ∙ ap (λ (xs : List Reply). step.before ++ xs) none ∙ append-nil step.before in
+    record {
+      slots = step.stands_for.0;
+      leaves = λ more replies. ap (λ (ss : List Step). position s.host (ss ++ more) (at_first zone) (rs ++ replies)) (sym (take-append-le p.finished s.steps later (omega (arith, at))))
+          ∙ (ap (λ (xs : List Reply). position_with zone (with_steps s later) p.finished more (xs ++ replies)) replies_are
+          ∙ (step.began more replies
+          ∙ ap (λ (names : Names). position s.host more (record { names = names; left = p.left }) replies) (sym (step.unheard none))));
+      within = omega (arith, at);
+      unknown = refl;
+    }
+
+pub forgotten : (zone : Tuples) (s : Script) (later : List Step) (rs : List Reply) (p : Playing) → IsAt zone (with_steps s later) rs p → AreStepsFinished zone s rs → IsAt zone s rs (unbegun p)
+unfolding IsAt
+forgotten zone s later rs p at finished = forgotten_by zone s later rs p p.task (finished_right zone (with_steps s later) rs p at ∙ finished later) finished at

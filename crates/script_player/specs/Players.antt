@@ -1,11 +1,12 @@
 -- What the player of a script stands for.
-use Rattle.std.specs.Prelude.{◌≡◌, ◌≤◌, ◌++◌, ◌+◌, ◌&&◌, ℕ, false, List, ◌∷◌, drop, length, Option, Some, None, is_none, nat_lt, slice_get, if◌then◌else◌}
+use Rattle.std.specs.Prelude.{◌≡◌, ◌≤◌, ◌++◌, ◌+◌, ◌&&◌, ℕ, false, List, [], ◌∷◌, drop, take, length, Option, Some, None, is_none, nat_lt, slice_get, if◌then◌else◌}
 use Rattle.net_base.specs.declared.actor.ActorName.{ActorName}
 use Rattle.net_base.specs.declared.event.Event.{Event}
 use Rattle.net_base.specs.declared.left.Left.{Left}
 use Rattle.net_base.specs.declared.reply.Reply.{Reply}
 use Rattle.net_base.specs.declared.world.Script.{Script}
 use Rattle.net_base.specs.declared.world.Step.{Step}
+use Rattle.net_base.specs.Next.{finished_by}
 use Rattle.net_base.specs.Scripts.{Kept, at_first, heard_replies as heard_in, left_after, position}
 use Rattle.net_base.specs.Steps.{Ask, Names, Play, Position, position_by, stands}
 use Rattle.net_base.specs.Versions.{Tuples}
@@ -42,15 +43,25 @@ position_after zone s rs = position s.host s.steps (at_first zone) rs
 abbrev pub next_after : Tuples → Script → List Reply → Option Ask
 next_after zone s rs = (position_after zone s rs).next
 
--- After these replies, the last of them to this step's events, this play is left of it, and these steps behind it; this was left before it.
-abbrev pub PlaysLeft : Tuples → Script → List Reply → List Reply → Left → Play → Step → List Step → Type 0
-PlaysLeft zone s rs said left p step rest =
-    (more : List Reply) → position_after zone s (rs ++ more)
-    ≡ position_by (stands p more) (step ∷ rest) (λ (names : Names) (later : List Reply). position s.host rest (record { names = names; left = left_after left step (said ++ heard_in p more) }) later)
+-- the script with these steps added at its end
+abbrev pub with_steps : Script → List Step → Script
+with_steps s extra = record s { steps = s.steps ++ extra }
 
--- after these replies these steps are left, where this is kept
-abbrev pub LeavesSteps : Tuples → Script → List Reply → Kept → List Step → Type 0
-LeavesSteps zone s rs k rest = (more : List Reply) → position_after zone s (rs ++ more) ≡ position s.host rest k more
+-- where a script stands after these replies, if these steps follow its first n steps in place of its own
+abbrev pub position_with : Tuples → Script → ℕ → List Step → List Reply → Position
+position_with zone s n later rs = position s.host (take n s.steps ++ later) (at_first zone) rs
+
+-- After these replies, the last of them to the events of this step, this play is left of the step, whatever steps follow it.
+-- The first n steps are finished, and this was left before the step.
+abbrev pub PlaysLeft : Tuples → Script → ℕ → List Reply → List Reply → Left → Play → Step → Type 0
+PlaysLeft zone s n rs said left p step =
+    (later : List Step) (more : List Reply) → position_with zone s n (step ∷ later) (rs ++ more)
+    ≡ position_by (stands p more) (step ∷ later)
+    (λ (names : Names) (replies : List Reply). position s.host later (record { names = names; left = left_after left step (said ++ heard_in p more) }) replies)
+
+-- after these replies the first n steps are finished, and this is kept, whatever steps follow them
+abbrev pub LeavesSteps : Tuples → Script → ℕ → List Reply → Kept → Type 0
+LeavesSteps zone s n rs k = (later : List Step) (more : List Reply) → position_with zone s n later (rs ++ more) ≡ position s.host later k more
 
 -- what is kept
 abbrev pub playing_kept : Playing → Kept
@@ -66,11 +77,17 @@ pub record IsInStep (zone : Tuples) (s : Script) (rs : List Reply) (p : Playing)
   pub play : Play
   pub step : Step
   pub rest : List Step
-  -- the replies that it was told
+  -- the replies to the steps before it, and those that it was told
+  pub before : List Reply
   pub said : List Reply
+  pub replies_are : rs ≡ before ++ said
+  -- what the steps before it left
+  pub names : Names
+  pub began : LeavesSteps zone s p.finished before (record { names = names; left = p.left })
+  pub unheard : said ≡ [] → p.holdings.names ≡ names
   pub told : t ≡ after_all (begun p.left step) said
   pub behind : drop p.finished s.steps ≡ step ∷ rest
-  pub plays : PlaysLeft zone s rs said p.left play step rest
+  pub plays : PlaysLeft zone s p.finished rs said p.left play step
   pub stands_for : StandsFor s.host p.holdings.names t play
   pub goes_on : is_none (asks t p.holdings.names) ≡ false
   pub knows : KnowsPlaying p.holdings.names t p.effect
@@ -78,7 +95,7 @@ pub record IsInStep (zone : Tuples) (s : Script) (rs : List Reply) (p : Playing)
 -- before a step, or at the end
 pub record Between (zone : Tuples) (s : Script) (rs : List Reply) (p : Playing) : Type 0 where
   pub slots : HaveSlots p.holdings.names
-  pub leaves : LeavesSteps zone s rs (playing_kept p) (drop p.finished s.steps)
+  pub leaves : LeavesSteps zone s p.finished rs (playing_kept p)
   pub within : p.finished ≤ length s.steps
   pub unknown : p.effect ≡ None
 
@@ -90,7 +107,15 @@ IsAtBy zone s rs p (Some t) = IsInStep zone s rs p t
 unfoldable pub IsAt : Tuples → Script → List Reply → Playing → Type 0
 IsAt zone s rs p = IsAtBy zone s rs p p.task
 
+-- after these replies each step of the script is finished, and no step that follows them has a reply
+abbrev pub AreStepsFinished : Tuples → Script → List Reply → Type 0
+AreStepsFinished zone s rs = (later : List Step) → finished_by zone rs (with_steps s later) ≡ length s.steps
+
 -- Moves.
+
+-- the step that it is at has not begun
+abbrev pub unbegun : Playing → Playing
+unbegun p = record p { task = None; effect = None }
 
 abbrev pub playing_begun_by : Playing → Option StepTask → Option Step → Playing
 playing_begun_by p (Some t) o = p

@@ -3,6 +3,7 @@ ghost use Rattle.std.specs.Prelude.{◌≡◌, ◌<◌, ◌⊎◌, ◌++◌, ◌
 ghost use Rattle.std.specs.Arc.{arc_value};
 ghost use Rattle.net_base.specs.declared.reply.Reply.{Reply};
 ghost use Rattle.net_base.specs.declared.world.Script.{Script};
+ghost use Rattle.net_base.specs.declared.world.Step.{Step};
 ghost use Rattle.net_base.specs.Next.{finished_by};
 ghost use Rattle.net_base.specs.Steps.{Ask};
 ghost use Rattle.net_base.specs.Versions.{Tuples, database_of};
@@ -118,6 +119,19 @@ impl Player {
             → result ≡ nat_lt 0 (length (spec.position_after zone script.now rs).left) }
     {
         self.finished < script.steps.len()
+    }
+
+    /// Forgets the step that it is at, of which no event has a reply.
+    ///
+    /// It is then the player of the script without this step and those that follow it.
+    #[tactic(auto, using(crate::proofs::Played::forgotten))]
+    pub fn forget(&mut self)
+        ensures { (zone : Tuples) (s : Script) (later : List Step) (rs : List Reply)
+            → spec.IsAt zone (spec.with_steps s later) rs self.old → spec.AreStepsFinished zone s rs
+            → spec.IsAt zone s rs self.new }
+    {
+        self.task = None;
+        self.effect = None;
     }
 
     // Begins the next step, where none has begun and one is left.
