@@ -1,14 +1,15 @@
 -- Whether callers could record, as a run tells it.
-use Rattle.std.proofs.Common.{◌≡◌, ℕ, ◌+◌, ◌<◌, ◌≤◌, ◌==◌, ◌&&◌, ◌||◌, Bool, true, false, List, [], ◌∷◌, length, Some, codes, slice_get, Bor, nat_lt, refl, sym, ap, subst, ◌∙◌, arith}
+use Rattle.std.proofs.Common.{◌≡◌, ℕ, zero, suc, ◌+◌, ◌<◌, ◌≤◌, ◌==◌, ◌&&◌, ◌||◌, Bool, true, false, not, List, [], ◌∷◌, length, Some, codes, slice_get, Bor, nat_lt, refl, sym, ap, subst, ◌∙◌, arith}
 use Rattle.std.specs.List.{list_any}
 use Rattle.std.proofs.lemmas.Bool.{true≢false, eqb-true, lt-ltb, and_left, and_right}
+use Rattle.std.proofs.lemmas.Bool.Decides.{nat_tests}
 use Rattle.std.proofs.lemmas.Option.{same_Some}
 use Rattle.net_base.specs.declared.history.Entry.{Entry}
 use Rattle.net_base.specs.declared.reply.Reply.{Reply}
 use Rattle.net_base.specs.declared.world.Script.{Script}
 use Rattle.net_base.specs.declared.world.World.{World}
 use Rattle.net_base.specs.Callers.{caller_count, clock_number}
-use Rattle.net_base.specs.Calm.{calm, callers, most_entries, movable, unfinished}
+use Rattle.net_base.specs.Calm.{calm, callers, most_entries, movable, owes, unfinished}
 use Rattle.net_base.specs.Duties.{Duty}
 use Rattle.net_base.specs.Net.{after, opening_net}
 use Rattle.net_base.specs.Next.{by, finished_by, is_unfinished, own_replies, zone_of}
@@ -42,6 +43,16 @@ could_owing w r c k b s at empty some = by_owed k.owed.list refl (s.callers_are.
     by_owed : (ds : List Duty) → k.owed.list ≡ ds → k.owed.list ≡ (after w r.history.entries).owed c → (length k.owed.list == 0) ≡ false → true ≡ could_go w r.history.entries c
     by_owed [] same owed some = let e : true ≡ false = sym (ap (λ (ds : List Duty). length ds == 0) same) ∙ some in absurd (true≢false e)
     by_owed (d ∷ ds) same owed some = rw (sym owed ∙ same, lt-ltb 0 (length (d ∷ ds)) (omega arith)) refl
+
+-- whether it has a follow-up event
+pub owes_told : (w : World) (r : Runner) (c : ℕ) (k : Caller) (b : Bool) → Tracks w r → slice_get r.callers.items c ≡ Some k → b ≡ (length k.owed.list == 0)
+    → not b ≡ owes (after w r.history.entries) c
+owes_told w r c k b s at empty =
+    ap not empty ∙ some (length k.owed.list) ∙ ap (λ (ds : List Duty). nat_lt 0 (length ds)) (s.callers_are.each c k at).owes
+  where
+    some : (n : ℕ) → not (n == 0) ≡ nat_lt 0 n
+    some zero = refl
+    some (suc n) = grind (arith, nat_tests)
 
 pub could_free : (w : World) (r : Runner) (c : ℕ) (k : Caller) (b may : Bool) → Tracks w r → slice_get r.callers.items c ≡ Some k
     → b ≡ (length k.owed.list == 0) → b ≡ true

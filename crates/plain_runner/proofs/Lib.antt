@@ -10,6 +10,9 @@ pub mod Advancing
 pub mod Following
 pub mod Bounds
 mod CallerLaws
+mod Rested
+mod Longer
+mod Forgotten
 pub mod Growing
 mod NoBytes
 mod Replies

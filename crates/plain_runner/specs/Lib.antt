@@ -4,5 +4,6 @@ pub mod Recording
 pub mod Tracks
 pub mod Waiting
 pub mod Followed
+pub mod Resting
 pub use Rattle.net_base.specs.Net
 pub use Rattle.net_base.specs.Next

@@ -142,8 +142,8 @@ impl<'a> Caller<'a> {
     }
 }
 
-// What a script asks for, as a turn.
-fn asked(event: Option<(ActorName, Event)>) -> Option<Turn>
+/// Returns the next event of a script as a turn.
+pub fn asked(event: Option<(ActorName, Event)>) -> Option<Turn>
     ensures asks { asks_of result ≡ option_map ask event }
     ensures own { AreOwn result }
 {

@@ -101,8 +101,8 @@ impl<'a> Runner<'a> {
         false
     }
 
-    // Whether a step of a script isn't finished.
-    fn has_left(&self, caller: usize) -> bool
+    /// Returns whether a step of a script is unfinished.
+    pub fn has_left(&self, caller: usize) -> bool
         requires { caller < length self.now.callers.items }
         ensures { (w : AnyWorld) (s : AnyScript) → Tracks w self.now → slice_get w.scripts caller ≡ Some s
             → result ≡ is_unfinished w self.now.history.entries caller s }
@@ -127,8 +127,8 @@ impl<'a> Runner<'a> {
         }
     }
 
-    // How many steps of a script are answered: what it owes belongs to the step of its last own event.
-    fn answered_of(&self, caller: usize) -> usize
+    /// Returns how many steps of a script are answered. Its follow-up events belong to the step of its last own event.
+    pub fn answered_by(&self, caller: usize) -> usize
         requires { caller < length self.now.callers.items }
         ensures { (w : AnyWorld) (s : AnyScript) → Tracks w self.now → slice_get w.scripts caller ≡ Some s
             → result ≡ answered_by w self.now.history.entries (caller, s) }
@@ -140,6 +140,15 @@ impl<'a> Runner<'a> {
         kept.before
     }
 
+    /// Returns whether a caller has a follow-up event.
+    pub fn owes(&self, caller: usize) -> bool
+        requires { caller < length self.now.callers.items }
+        ensures { (w : AnyWorld) → Tracks w self.now
+            → result ≡ calm.owes (after w self.now.history.entries) caller }
+    {
+        !self.callers[caller].owed.is_empty()
+    }
+
     /// How many steps of all scripts are answered.
     pub fn answered(&self, world: &World) -> u128
         requires { Tracks world.now self.now }
@@ -147,7 +156,7 @@ impl<'a> Runner<'a> {
     {
         let mut answered: u128 = 0;
         for caller in 0..world.scripts.len() {
-            answered += self.answered_of(caller) as u128;
+            answered += self.answered_by(caller) as u128;
         }
         answered
     }

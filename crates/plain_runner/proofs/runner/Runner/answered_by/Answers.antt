@@ -1,6 +1,6 @@
 use Rattle.plain_runner.proofs.Recorded.{got}
 use Rattle.plain_runner.proofs.Standing.{answered_free, answered_owing}
-use Rattle.plain_runner.proofs.runner.Runner.answered_of.Goals as goal
+use Rattle.plain_runner.proofs.runner.Runner.answered_by.Goals as goal
 
 pub returns-then-is_empty : goal.returns-then-is_empty
 returns-then-is_empty c = λ w s st is.
