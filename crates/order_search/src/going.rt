@@ -9,7 +9,7 @@ use net_base::World;
 use plain_runner::Runner;
 use turn_orders::turns_are_ready;
 
-/// Whether a caller can continue: it has room, and its turn is ready.
+/// Returns whether a caller can continue: it has room, and its turn is ready.
 pub fn can_go(runner: &Runner<'_>, world: &World, caller: usize) -> bool
     requires tracks { Tracks world.now runner.now }
     requires caller { caller < length runner.now.callers.items }

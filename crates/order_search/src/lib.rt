@@ -22,9 +22,11 @@ mod turn;
 mod walk;
 
 pub use ended::Ended;
+pub use going::can_go;
 pub use law::{losses_replace_losses, lost_worlds_are_worlds};
 pub use losses::{Frame, lose};
-pub use ranks::drawn;
+pub use ranks::{Ranks, drawn};
 pub use search::{Far, Found, Sought, Watch, explore};
 pub use tellings::Telling;
 pub use trail::Part;
+pub use turn::take_turn;

@@ -19,6 +19,35 @@ const STREAM: u64 = 1000;
 /// One turn in this number draws new ranks.
 const TURNS: u32 = 8;
 
+/// The ranks of callers, drawn from a seed.
+#[derive(Drop)]
+pub struct Ranks {
+    words: Lcg64Xsh32,
+    ranks: Vec<u32>,
+}
+
+impl Ranks {
+    /// Draws a rank for each of this number of callers.
+    pub fn new(alloc: Global, seed: u64, callers: usize) -> Result<Ranks, AllocError> {
+        let mut words = Lcg64Xsh32::new(seed, STREAM);
+        let mut ranks = vec![in alloc; 0u32; callers]?;
+        draw(&mut words, ranks.as_mut_slice());
+        Ok(Ranks { words, ranks })
+    }
+
+    /// Draws new ranks for all callers, at about one turn in eight.
+    pub fn begin_turn(&mut self) {
+        if self.words.next_word() % TURNS == 0 {
+            draw(&mut self.words, self.ranks.as_mut_slice());
+        }
+    }
+
+    /// Returns the rank of a caller.
+    pub fn of(&self, caller: usize) -> u32 {
+        self.ranks.get(caller).copied().unwrap_or(0)
+    }
+}
+
 /// Runs a world in an order of turns that is drawn from a seed: of the callers that can continue, the one of the greatest rank has the turn,
 /// and one turn in eight draws new ranks.
 pub fn drawn(alloc: Global, world: &World, seed: u64) -> Result<Ended, AllocError>
@@ -26,17 +55,15 @@ pub fn drawn(alloc: Global, world: &World, seed: u64) -> Result<Ended, AllocErro
     ensures { IfOk result (IsEndedRun world.now) }
 {
     let mut walk = Walk::new(alloc, world)?;
-    let mut words = Lcg64Xsh32::new(seed, STREAM);
-    let mut ranks = vec![in alloc; 0u32; walk.runner.callers.len()]?;
-    draw(&mut words, ranks.as_mut_slice());
+    let mut ranks = Ranks::new(alloc, seed, walk.runner.callers.len())?;
     for _ in 0..u64::MAX {
         let Some(first) = first_goer(&walk.runner, world) else {
             return ended_of(alloc, world, &mut walk, &[]);
         };
-        if !is_move(&walk, world, first) && words.next_word() % TURNS == 0 {
-            draw(&mut words, ranks.as_mut_slice());
+        if !is_move(&walk, world, first) {
+            ranks.begin_turn();
         }
-        let caller = greatest(&walk, world, first, ranks.as_slice());
+        let caller = greatest(&walk, world, first, &ranks);
         advance(world, &mut walk, caller)?;
     }
     Err(AllocError)
@@ -57,20 +84,16 @@ fn draw(words: &mut Lcg64Xsh32, ranks: &mut [u32]) {
 }
 
 // The caller of the greatest rank that can continue, the lowest number among equal ranks.
-fn greatest(walk: &Walk<'_>, world: &World, first: usize, ranks: &[u32]) -> usize
+fn greatest(walk: &Walk<'_>, world: &World, first: usize, ranks: &Ranks) -> usize
     requires walk { IsWalk world.now walk.now }
     requires first { IsGoer world.now walk.now.runner.history.entries (length walk.now.runner.callers.items) first }
     ensures { IsGoer world.now walk.now.runner.history.entries (length walk.now.runner.callers.items) result }
 {
     let mut best = first;
     for caller in 0..walk.runner.callers.len() {
-        if rank_of(ranks, best) < rank_of(ranks, caller) && can_go(&walk.runner, world, caller) {
+        if ranks.of(best) < ranks.of(caller) && can_go(&walk.runner, world, caller) {
             best = caller;
         }
     }
     best
-}
-
-fn rank_of(ranks: &[u32], caller: usize) -> u32 {
-    ranks.get(caller).copied().unwrap_or(0)
 }

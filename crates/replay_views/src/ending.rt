@@ -8,7 +8,7 @@ use net_import::is_open;
 use script_task::{bytes_in, is_accepted};
 use std::alloc::{AllocError, Global};
 
-/// Whether a step was refused, the moment of its last entry in ms, and the stamp of the entry whose reply says so.
+/// The end of a step: whether it was refused, the moment of its last entry in ms, and the stamp of the entry whose reply says so.
 #[derive(Clone, Copy)]
 pub struct Ending {
     pub refused: bool,
@@ -16,7 +16,7 @@ pub struct Ending {
     pub reply: usize,
 }
 
-/// By what a step is answered.
+/// The kind of a step: by what it is answered.
 #[derive(Clone, Copy)]
 pub enum StepKind {
     /// Each step of the host's own files.
@@ -27,7 +27,7 @@ pub enum StepKind {
     Ropen,
 }
 
-/// The kind of a step of a script.
+/// Returns the kind of a step of a script.
 pub fn kind_of(steps: &[Step], step: usize) -> StepKind
     ensures { result ≡ spec.kind_of (slice_get steps.now step) }
 {
@@ -167,7 +167,7 @@ fn ending_by(
     }
 }
 
-/// How a step of this kind ended, by the entries that it recorded.
+/// Returns how a step of this kind ended, by the entries that it recorded.
 pub fn ending_of(
     alloc: Global,
     kind: StepKind,

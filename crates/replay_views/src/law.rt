@@ -13,7 +13,7 @@ ghost use Rattle.replay_views.specs.Steps.{state_text};
 ghost use Rattle.replay_views.specs.WorldSteps.{step_lines};
 ghost use Rattle.world_text.specs.WorldSpelling.{IsWorldText};
 
-/// The frames of a legal history are those that its entries laid, none left out, in the order of stamps.
+/// States that the frames of a legal history are those that its entries laid, none left out, in the order of stamps.
 pub fn frames_are_laid()
     ensures { (w : World) (h : List Entry) → IsWorld w → IsLegal w h
         → map frame_place (frames w h) ≡ filter_map laid_at h }

@@ -85,7 +85,8 @@ fn note_entry(
     }
 }
 
-fn is_close(event: &Event) -> bool
+/// Returns whether an event closes a file.
+pub fn is_close(event: &Event) -> bool
     ensures { result ≡ spec.is_close event.now }
 {
     match event {
@@ -116,7 +117,8 @@ fn latest_of(latest: &LatestSteps, key: StepKey) -> Option<Latest>
     latest.get(&key).copied()
 }
 
-fn noted_by(before: Option<Latest>, stamp: usize, closes: bool) -> Latest
+/// Returns the entries of a step with one more, which closes a file or doesn't.
+pub fn noted_by(before: Option<Latest>, stamp: usize, closes: bool) -> Latest
     ensures { Some result ≡ latest_noted closes stamp before }
 {
     match before {
