@@ -1,0 +1,6 @@
+use Rattle.live_run.specs.LiveRuns.{IsRunning}
+use Rattle.live_run.specs.LiveWorlds.{Narrows}
+use Rattle.live_run.proofs.playing.play_rounds.Given as goal
+
+abbrev pub invariant-loop : goal.invariant-loop
+invariant-loop g l = IsRunning l.world l.round × Narrows l.initial.round.places.grows.items l.round.places.grows.items
