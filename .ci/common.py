@@ -7,12 +7,12 @@ import subprocess
 import sys
 
 TOP = os.path.abspath(os.path.join(os.path.dirname(os.path.abspath(__file__)), ".."))
-PROGRAMS = {name: os.path.join("crates", name, "out", name) for name in ("netsh", "netview", "netexplore")}
+PROGRAMS = {name: os.path.join("crates", name, "out", name) for name in ("netsh", "netview", "netexplore", "netlive")}
 # Pages for maintainers, beside those of docs/dev. All other pages are for users.
 MAINTAINERS = {f"docs/{name}.md" for name in ("DECISIONS", "MAP", "ADDING", "PROVING")} | {"CONTRIBUTING.md"}
 # The files at the top and the folders that the scripts, the pages and a release need.
 PARTS = ["README.md", "VERSION", "LICENSE", "NOTICE", "CHANGELOG.md", "CONTRIBUTING.md", "SECURITY.md"]
-PARTS += ["netsh", "netview", "netexplore", "docs", "examples", "release"]
+PARTS += ["netsh", "netview", "netexplore", "netlive", "docs", "examples", "release"]
 
 
 def path_of(name):

@@ -30,6 +30,7 @@ CHECKS = {
     "manuals": [".ci/manuals"],
     "page_text": [".ci/page_text"],
     "statuses": [".ci/statuses"],
+    "live": [".ci/live"],
     "pages": [".ci/pages"],
     "captures": [".ci/captures"],
     "dissector": [".ci/dissector"],
