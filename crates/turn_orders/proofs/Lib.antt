@@ -12,3 +12,4 @@ pub mod Numbering
 pub mod Refusing
 pub mod RefusedPaths
 pub mod RunEnds
+pub mod Shared
