@@ -3,3 +3,11 @@ mod Turning
 mod Walking
 mod Losing
 mod ToldRuns
+mod Forking
+mod StepReplies
+mod Marking
+mod Resulting
+mod CleanResults
+mod Lines
+mod Choosing
+mod Searched

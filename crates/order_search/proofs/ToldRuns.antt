@@ -15,8 +15,10 @@ use Rattle.plain_runner.specs.declared.runner.Runner.{Runner}
 use Rattle.transcript.specs.RunStatus.{IsRunStatusOf, run_end_word}
 use Rattle.transcript.specs.declared.summary.RunStatus.{RunStatus}
 use Rattle.turn_orders.specs.Preemptions.{IsWithin, preemptions}
+use Rattle.turn_orders.specs.Results.{outcome_of}
 use Rattle.turn_orders.specs.Turns.{IsEnded}
 use Rattle.order_search.specs.Losses.{AreFrames, is_laid, without}
+use Rattle.order_search.specs.Marks.{results_text}
 use Rattle.order_search.specs.Tellings.{IsEndedOf, IsEndedRun, IsKin, IsPassOf, IsSearched, IsSound, IsTelling, IsTellingOf, IsWitness, IsWorldOf, most_losses, told_losses}
 use Rattle.order_search.specs.Walks.{IsWalk}
 use Rattle.order_search.specs.declared.ended.Ended.{Ended}
@@ -57,8 +59,9 @@ pub at_end : (w : World) (walk : Walk) → IsWalk w walk → IsEnded w walk.runn
 at_end w walk is ended = subst (IsEnded w) (sym is.history_is) ended
 
 pub telling_is : (w : World) (walk : Walk) (t : Telling) → IsWalk w walk → IsEnded w walk.history → t.preemptions ≡ walk.preemptions
-    → t.summary ≡ summary w walk.history → run_end_word t.end ≡ end_word w (after w walk.history) → IsTellingOf w walk.preemptions walk.history t
-telling_is w walk t is ended count text end = record {
+    → t.summary ≡ summary w walk.history → t.results ≡ results_text (outcome_of w walk.history) → run_end_word t.end ≡ end_word w (after w walk.history)
+    → IsTellingOf w walk.preemptions walk.history t
+telling_is w walk t is ended count text results end = record {
   within = record {
     legal = subst (IsLegal w) (sym is.history_is) is.tracks.history.legal;
     timed = subst (IsTimed w) (sym is.history_is) is.tracks.history.timed;
@@ -67,6 +70,7 @@ telling_is w walk t is ended count text end = record {
   };
   preemptions_are = count ∙ sym count_of;
   summary_is = text;
+  results_are = results;
   end_is = end;
 }
   where
@@ -121,6 +125,7 @@ telling_within w p q h t le is = record {
   };
   preemptions_are = is.preemptions_are;
   summary_is = is.summary_is;
+  results_are = is.results_are;
   end_is = is.end_is;
 }
 

@@ -1,6 +1,6 @@
 -- What the program reports of the histories of a world. With a number k of losses, these are the histories of the worlds that lose
 -- at most k frames, and no other; without one, those of the world itself.
-use Rattle.std.specs.Prelude.{◌≡◌, ℕ, ◌≤◌, true, List, length, All, IfSome, Option, Some, None, unwrap_or}
+use Rattle.std.specs.Prelude.{◌≡◌, ℕ, ◌+◌, ◌≤◌, ◌⊎◌, Bool, true, false, List, length, All, IfSome, Option, Some, None, unwrap_or}
 use Rattle.std.specs.List.{list_all}
 use Rattle.net_base.specs.declared.history.Entry.{Entry}
 use Rattle.net_base.specs.declared.world.World.{World}
@@ -9,6 +9,7 @@ use Rattle.net_base.specs.Net.{after}
 use Rattle.net_base.specs.Summary.{end_word, summary}
 use Rattle.transcript.specs.RunStatus.{run_end_word}
 use Rattle.turn_orders.specs.Preemptions.{IsWithin, preemptions}
+use Rattle.turn_orders.specs.Results.{outcome_of}
 use Rattle.turn_orders.specs.Turns.{IsEnded}
 use Rattle.order_search.specs.declared.ended.Ended.{Ended}
 use Rattle.order_search.specs.declared.losses.Frame.{Frame}
@@ -17,6 +18,7 @@ use Rattle.order_search.specs.declared.search.Pass.{Pass}
 use Rattle.order_search.specs.declared.search.Sought.{Sought}
 use Rattle.order_search.specs.declared.tellings.Telling.{Telling}
 use Rattle.order_search.specs.Losses.{AreFrames, is_laid, without}
+use Rattle.order_search.specs.Marks.{results_text}
 
 -- Worlds of a search.
 
@@ -44,13 +46,24 @@ pub record IsPassOf (s : Sought) (pass : Pass) : Type 0 where
   pub losses_are : pass.losses ≤ most_losses s.losses
   pub preemptions_are : pass.preemptions ≤ s.preemptions
 
+-- with one preemption more
+pub record NextPass (s : Sought) (pass next : Pass) : Type 0 where
+  pub same_losses : next.losses ≡ pass.losses
+  pub one_more : next.preemptions ≡ pass.preemptions + 1
+  pub within : next.preemptions ≤ s.preemptions
+
+-- no history has more preemptions, or none with more is sought
+abbrev pub IsLastPass : Sought → Pass → Bool → Type 0
+IsLastPass s pass refused = (refused ≡ false) ⊎ (s.preemptions ≤ pass.preemptions)
+
 -- Histories.
 
--- a history with at most p preemptions, which has ended, has this summary and this end, and these preemptions
+-- a history with at most p preemptions, which has ended, has this summary, these results of steps, this end, and these preemptions
 pub record IsTellingOf (w : World) (p : ℕ) (h : List Entry) (t : Telling) : Type 0 where
   pub within : IsWithin w p h
   pub preemptions_are : t.preemptions ≡ preemptions w h
   pub summary_is : t.summary ≡ summary w h
+  pub results_are : t.results ≡ results_text (outcome_of w h)
   pub end_is : run_end_word t.end ≡ end_word w (after w h)
 
 -- the number of losses, if losses are sought

@@ -1,5 +1,5 @@
 //! Which callers can continue.
-ghost use Rattle.std.specs.Prelude.{◌≡◌, ◌<◌, ◌+◌, ◌==◌, length, IfSome, IfNone};
+ghost use Rattle.std.specs.Prelude.{◌≡◌, ◌<◌, ◌≤◌, ◌+◌, ◌==◌, length, IfSome, IfNone};
 ghost use Rattle.net_base.specs.Net.{after};
 ghost use Rattle.plain_runner.specs.Tracks.{Tracks};
 ghost use Rattle.turn_orders.specs.Turns.{IsEnded, goes};
@@ -40,6 +40,8 @@ fn is_last(runner: &Runner<'_>, caller: usize) -> bool
 pub fn next_goer(runner: &Runner<'_>, world: &World, from: usize) -> Option<usize>
     requires { Tracks world.now runner.now }
     ensures some { IfSome result (IsGoer world.now runner.now.history.entries (length runner.now.callers.items)) }
+    ensures from { IfSome result (λ c. from ≤ c) }
+    ensures lowest { IfSome result (NobodyGoes world.now runner.now.history.entries from) }
     ensures none { IfNone result (NobodyGoes world.now runner.now.history.entries from (length runner.now.callers.items)) }
 {
     for caller in from..runner.callers.len() {
@@ -54,6 +56,7 @@ pub fn next_goer(runner: &Runner<'_>, world: &World, from: usize) -> Option<usiz
 pub fn first_goer(runner: &Runner<'_>, world: &World) -> Option<usize>
     requires { Tracks world.now runner.now }
     ensures some { IfSome result (IsGoer world.now runner.now.history.entries (length runner.now.callers.items)) }
+    ensures lowest { IfSome result (NobodyGoes world.now runner.now.history.entries 0) }
     ensures none { IfNone result (IsEnded world.now runner.now.history.entries) }
 {
     next_goer(runner, world, 0)

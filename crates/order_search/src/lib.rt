@@ -2,8 +2,9 @@
 //!
 //! `explore` goes through the tree of the callers' turns pass by pass, in depth, and keeps the outcomes as they first come.
 //! No state is kept: going back is playing a path anew. If losses are sought, each run begins in a world that loses the frames of its path.
-//! Proved: each reported outcome has a legal, timed and ended history with its summary and its numbers of losses and preemptions.
-//! Not proved: the results of steps, the order, and that none is missing.
+//! Proved: each reported outcome has a legal, timed and ended history with its summary, its results of steps and its numbers of losses and preemptions.
+//! Without losses and parts, the outcomes, their order and the counts are exactly those of the first histories of the list (`IsExact`).
+//! Not proved: the order and the counts with losses or parts, and that no outcome is missing then.
 //! Begin at `explore` in search.rt.
 #![tactic(auto)]
 
@@ -22,7 +23,7 @@ mod turn;
 mod walk;
 
 pub use ended::Ended;
-pub use going::can_go;
+pub use going::{can_go, first_goer};
 pub use law::{losses_replace_losses, lost_worlds_are_worlds};
 pub use losses::{Frame, lose};
 pub use ranks::{Ranks, drawn};

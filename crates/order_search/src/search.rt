@@ -1,19 +1,25 @@
 //! The search, pass by pass: the histories with a number of losses and of preemptions, in the order of their choices.
-ghost use Rattle.std.specs.Prelude.{◌≡◌, ◌≤◌, ◌∷◌, ◌++◌, [], None, Some, true, length, IfOk, IfSome, IfNone, OnOk};
+ghost use Rattle.std.specs.Prelude.{◌≡◌, ◌≤◌, ◌<◌, ◌+◌, ◌-◌, ◌∷◌, ◌++◌, ◌^◌, [], List, None, Some, ℕ};
+ghost use Rattle.std.specs.Prelude.{false, not, slice_get, true, length, IfOk, IfSome, IfNone, OnOk};
 ghost use Rattle.std.specs.List.{list_all};
+ghost use Rattle.net_base.specs.declared.history.Entry.{Entry as AnyEntry};
 ghost use Rattle.net_base.specs.declared.world.World.{World as AnyWorld};
 ghost use Rattle.net_base.specs.World.{IsWorld};
-ghost use Rattle.turn_orders.specs.Turns.{IsEnded};
+ghost use Rattle.net_base.specs.Net.{after};
+ghost use Rattle.turn_orders.specs.Turns.{IsEnded, goes as is_going};
+ghost use Rattle.order_search.specs.Choices.{IsForkAt, IsFree, IsPath, NoForkGoes};
+ghost use Rattle.order_search.specs.Exact.{ChosenBy, EndsPath, HasFound, IsAtPlace, IsExact, IsPlain, IsWhole, Looks, Takes};
+ghost use Rattle.order_search.specs.Known.{is_among, texts_in, with_text};
 ghost use Rattle.order_search.specs.Losses.{AreFrames, is_laid};
-ghost use Rattle.order_search.specs.Walks.{IsGoer, IsPlayed, IsWalk};
-ghost use Rattle.order_search.specs.Tellings.{IsKin, IsPassOf, IsSound, IsWorldOf, most_losses as spec_most_losses, told_losses};
+ghost use Rattle.order_search.specs.Walks.{GoesAlone, IsBound, IsGoer, IsPlayed, IsWalk, NextGoes, NoneGoes};
+ghost use Rattle.order_search.specs.Tellings.{IsKin, IsLastPass, IsPassOf, IsSound, IsWorldOf, NextPass, most_losses as spec_most_losses, told_losses};
 
 use crate::ended::{Ended, ended_of};
 use crate::going::{can_go, first_goer, next_goer};
 use crate::losses::{Frame, are_laid, frame_of, lose};
-use crate::path::Next;
+use crate::path::Path;
 use crate::tellings::{Telling, telling_of};
-use crate::trail::{Part, Trail};
+use crate::trail::{Losing, Part, Trail};
 use crate::walk::{Walk, advance};
 use indexmap::IndexSet;
 use net_base::World;
@@ -61,7 +67,7 @@ pub struct Found {
     pub entries: u128,
     pub whole: bool,
     pub witness: Option<Ended>,
-    known: IndexSet<Vec<u8>>,
+    pub known: IndexSet<Vec<u8>>,
     played: u64,
     sight: u64,
 }
@@ -73,6 +79,10 @@ impl Found {
     fn new(alloc: Global) -> Found
         ensures empty { result.told.items ≡ [] }
         ensures none { result.witness ≡ None }
+        ensures known { texts_in result.known.keys ≡ [] }
+        ensures histories { result.histories ≡ 0 }
+        ensures entries { result.entries ≡ 0 }
+        ensures whole { result.whole ≡ true }
     {
         Found {
             told: Vec::new(alloc),
@@ -88,6 +98,8 @@ impl Found {
 }
 
 /// Looks at the histories of a world. If losses are sought, the world then loses other frames than before.
+///
+/// Without losses, parts and a sought outcome, the result is exactly that of the first histories of the list.
 pub fn explore<W: Watch>(
     alloc: Global,
     world: &mut World,
@@ -96,6 +108,7 @@ pub fn explore<W: Watch>(
 ) -> Result<Found, AllocError>
     requires { IsWorld world.old }
     ensures sound { IfOk result (IsSound world.old sought.losses sought.preemptions) }
+    ensures exact { IsPlain sought → IfOk result (IsExact world.old sought.preemptions sought.limit) }
     ensures kin { OnOk result (IsKin world.old sought.losses world.new) }
 {
     let mut found = Found::new(alloc);
@@ -109,7 +122,7 @@ pub fn explore<W: Watch>(
         if !look(alloc, world, sought, pass, &mut trail, &mut found)? {
             return Ok(found);
         }
-        tell(watch, sought, pass, &mut found);
+        found.sight = sight_after(watch, sought, pass, &found);
         if trail.path.go_back()? {
             continue;
         }
@@ -120,23 +133,24 @@ pub fn explore<W: Watch>(
         trail.begin();
         see(watch, sought, pass, &found);
     }
-    cut_short(&mut found);
-    Ok(found)
+    Err(AllocError)
 }
 
 // The next pass, if it can have a history: with one preemption more, or with one loss more and no preemption.
 fn pass_after(sought: Sought, pass: Pass, trail: &Trail) -> Option<Pass>
     requires { IsPassOf sought pass }
-    ensures { IfSome result (IsPassOf sought) }
+    ensures some { IfSome result (IsPassOf sought) }
+    ensures next { sought.losses ≡ None → IfSome result (NextPass sought pass) }
+    ensures none { IfNone result (IsLastPass sought pass trail.now.refused) }
 {
-    let more = trail.refused || trail.cut;
+    let more = trail.refused || trail.deal.cut;
     if more && pass.preemptions < u64::from(sought.preemptions) {
         return Some(Pass {
             losses: pass.losses,
             preemptions: pass.preemptions.saturating_add(1),
         });
     }
-    let more = trail.refused_loss || trail.cut;
+    let more = trail.losing.refused || trail.deal.cut;
     if more && pass.losses < most_losses(sought.losses) {
         return Some(Pass {
             losses: pass.losses.saturating_add(1),
@@ -167,59 +181,36 @@ fn see<W: Watch>(watch: &W, sought: Sought, pass: Pass, found: &Found) {
     });
 }
 
-// Reports how far the search is, if it is time.
-fn tell<W: Watch>(watch: &W, sought: Sought, pass: Pass, found: &mut Found)
-    ensures told { found.new.told.items ≡ found.old.told.items }
-    ensures witness { found.new.witness ≡ found.old.witness }
-{
+// Reports how far the search is, if it is time. Returns when it is time next.
+fn sight_after<W: Watch>(watch: &W, sought: Sought, pass: Pass, found: &Found) -> u64 {
     if found.played < found.sight {
-        return;
+        return found.sight;
     }
     see(watch, sought, pass, found);
-    found.sight = found.played.saturating_add(SIGHT);
+    found.played.saturating_add(SIGHT)
 }
 
-// There are other histories.
-fn cut_short(found: &mut Found)
-    ensures told { found.new.told.items ≡ found.old.told.items }
-    ensures witness { found.new.witness ≡ found.old.witness }
+// Counts the entries of a history.
+fn count_entries(all: &mut u128, entries: u64)
+    ensures { all.old + entries < 2 ^ 128 → all.new ≡ all.old + entries }
 {
-    found.whole = false;
-}
-
-// Counts the entries that were played.
-fn play_more(found: &mut Found, entries: u64)
-    ensures told { found.new.told.items ≡ found.old.told.items }
-    ensures witness { found.new.witness ≡ found.old.witness }
-{
-    found.played = found.played.saturating_add(entries);
-}
-
-// Counts a history and its entries.
-fn count(found: &mut Found, entries: u64)
-    ensures told { found.new.told.items ≡ found.old.told.items }
-    ensures witness { found.new.witness ≡ found.old.witness }
-{
-    found.histories = found.histories.saturating_add(1);
-    found.entries = found.entries.saturating_add(entries as u128);
+    *all = all.saturating_add(entries as u128);
 }
 
 // Keeps an outcome, and gives its number.
-fn keep(found: &mut Found, telling: Telling) -> Result<usize, AllocError>
-    ensures told { OnOk result (found.new.told.items ≡ found.old.told.items ++ telling ∷ []) }
-    ensures witness { found.new.witness ≡ found.old.witness }
+fn keep(told: &mut Vec<Telling>, telling: Telling) -> Result<usize, AllocError>
+    ensures { OnOk result (told.new.items ≡ told.old.items ++ telling ∷ []) }
 {
-    let number = found.told.len();
-    found.told.push(telling)?;
+    let number = told.len();
+    told.push(telling)?;
     Ok(number)
 }
 
 // Keeps the history that was sought.
-fn keep_witness(found: &mut Found, ended: Ended)
-    ensures told { found.new.told.items ≡ found.old.told.items }
-    ensures witness { found.new.witness ≡ Some ended }
+fn keep_witness(witness: &mut Option<Ended>, ended: Ended)
+    ensures { witness.new ≡ Some ended }
 {
-    found.witness = Some(ended);
+    *witness = Some(ended);
 }
 
 // Plays the path to the end of its run, in the world that loses the frames of the path, and looks at the history.
@@ -237,6 +228,11 @@ fn look(
     ensures kin { OnOk result ((w : AnyWorld) → IsKin w sought.losses world.old → IsKin w sought.losses world.new) }
     ensures sound { OnOk result ((w : AnyWorld) → IsKin w sought.losses world.old
         → IsSound w sought.losses sought.preemptions found.old → IsSound w sought.losses sought.preemptions found.new) }
+    ensures part { OnOk result (trail.new.deal.part ≡ trail.old.deal.part) }
+    ensures exact { IfOk result (λ more. IsPlain sought → pass.losses ≡ 0 → IsWhole trail.old.deal.part
+        → IsPath world.old pass.preemptions trail.old.refused trail.old.path → (seen : List (List AnyEntry))
+        → HasFound world.old sought.limit seen found.old
+        → Looks world.old pass.preemptions sought.limit seen trail.old trail.new found.new more) }
 {
     let lost = trail.path.lost(alloc)?;
     lose_sought(alloc, world, sought.losses, lost.as_slice())?;
@@ -275,12 +271,17 @@ fn look_in(
     requires world { IsWorld world.now }
     requires pass { IsPassOf sought pass }
     requires frames { AreFrames lost.now }
-    ensures { OnOk result ((w : AnyWorld) → IsWorldOf w sought.losses lost.now world.now
+    ensures sound { OnOk result ((w : AnyWorld) → IsWorldOf w sought.losses lost.now world.now
         → IsSound w sought.losses sought.preemptions found.old → IsSound w sought.losses sought.preemptions found.new) }
+    ensures part { OnOk result (trail.new.deal.part ≡ trail.old.deal.part) }
+    ensures exact { IfOk result (λ more. sought.until ≡ None → pass.losses ≡ 0 → lost.now ≡ [] → IsWhole trail.old.deal.part
+        → IsPath world.now pass.preemptions trail.old.refused trail.old.path → (seen : List (List AnyEntry))
+        → HasFound world.now sought.limit seen found.old
+        → Looks world.now pass.preemptions sought.limit seen trail.old trail.new found.new more) }
 {
     let mut walk = Walk::new(alloc, world)?;
     let ended = play(world, &mut walk, trail, pass)?;
-    play_more(found, walk.runner.count);
+    found.played = found.played.saturating_add(walk.runner.count);
     if !ended {
         return Ok(true);
     }
@@ -304,22 +305,43 @@ fn play(
     pass: Pass,
 ) -> Result<bool, AllocError>
     requires { IsWalk world.now walk.old }
-    ensures { IfOk result (IsPlayed world.now walk.new) }
+    ensures played { IfOk result (IsPlayed world.now walk.new) }
+    ensures part { OnOk result (trail.new.deal.part ≡ trail.old.deal.part) }
+    ensures whole { IsWhole trail.old.deal.part → IfOk result (λ ended. ended ≡ true) }
+    ensures exact { OnOk result (walk.old.runner.history.entries ≡ [] → pass.losses ≡ 0
+        → IsPath world.now pass.preemptions trail.old.refused trail.old.path → IsWhole trail.old.deal.part
+        → EndsPath world.now pass.preemptions trail.old.refused trail.old.path trail.new.refused trail.new.path walk.new.runner.history.entries) }
 {
-    trail.begin_run();
+    trail.losing.begin_run();
     for place in 0..usize::MAX {
-        if trail.leaves(place) {
+        if trail.deal.leaves(place, trail.path.same) {
             return Ok(false);
         }
-        let Some(caller) = choose(world, walk, trail, place, pass.preemptions)? else {
-            return Ok(trail.keeps(place));
+        let chosen = choose(
+            world,
+            walk,
+            &mut trail.path,
+            &mut trail.refused,
+            place,
+            pass.preemptions,
+        )?;
+        let Some(caller) = chosen else {
+            return Ok(trail.deal.keeps(place));
         };
         advance(world, walk, caller)?;
-        if let Some(frame) = newest_frame(walk) {
-            trail.lay(place, frame, pass.losses);
-        }
+        lay_newest(walk, &mut trail.losing, &mut trail.path, place, pass.losses);
     }
     Err(AllocError)
+}
+
+// The last entry, at a place of the path, lays a frame or none, in a pass with so many losses.
+fn lay_newest(walk: &Walk<'_>, losing: &mut Losing, path: &mut Path, place: usize, losses: u64)
+    ensures { losses ≡ 0 → path.new ≡ path.old }
+{
+    match newest_frame(walk) {
+        Some(frame) => losing.lay(path, place, frame, losses),
+        None => {}
+    }
 }
 
 // The frame of the last entry, if that lays one.
@@ -331,52 +353,90 @@ fn newest_frame(walk: &Walk<'_>) -> Option<Frame> {
 fn choose(
     world: &World,
     walk: &Walk<'_>,
-    trail: &mut Trail,
+    path: &mut Path,
+    refused: &mut bool,
     place: usize,
     most: u64,
 ) -> Result<Option<usize>, AllocError>
     requires { IsWalk world.now walk.now }
     ensures some { IfOk result (λ o. IfSome o (IsGoer world.now walk.now.runner.history.entries (length walk.now.runner.callers.items))) }
     ensures none { IfOk result (λ o. IfNone o (IsEnded world.now walk.now.runner.history.entries)) }
+    ensures exact { IfOk result (λ o. IsPath world.now most refused.old path.old
+        → IsAtPlace world.now most path.old place walk.now.runner.history.entries
+        → ChosenBy world.now most refused.old path.old refused.new path.new place walk.now.runner.history.entries o) }
 {
-    if let Some(caller) = chosen(world, walk, trail, place) {
+    if let Some(caller) = played(world, walk, path, place) {
+        return Ok(Some(caller));
+    }
+    if let Some(caller) = pending(world, walk, path, place) {
+        let next = behind(world, walk, caller);
+        path.set(place, caller, next)?;
         return Ok(Some(caller));
     }
     if let Some(last) = bound_to(world, walk, most) {
-        refuse(world, walk, trail, last);
-        trail.path.set(place, last, Next::Nobody)?;
+        refuse(world, walk, refused, last);
+        path.set(place, last, None)?;
         return Ok(Some(last));
     }
     let Some(caller) = first_goer(&walk.runner, world) else {
         return Ok(None);
     };
     let next = behind(world, walk, caller);
-    trail.path.set(place, caller, next)?;
+    path.set(place, caller, next)?;
     Ok(Some(caller))
 }
 
 // The choice of the path, if it has one here.
-fn chosen(world: &World, walk: &Walk<'_>, trail: &mut Trail, place: usize) -> Option<usize>
+fn played(world: &World, walk: &Walk<'_>, path: &Path, place: usize) -> Option<usize>
     requires { IsWalk world.now walk.now }
-    ensures { IfSome result (IsGoer world.now walk.now.runner.history.entries (length walk.now.runner.callers.items)) }
+    ensures some { IfSome result (IsGoer world.now walk.now.runner.history.entries (length walk.now.runner.callers.items)) }
+    ensures found { IfSome result (IsForkAt path.now.forks.items place) }
+    ensures none { IfNone result (NoForkGoes world.now walk.now.runner.history.entries (length walk.now.runner.callers.items)
+        (slice_get path.now.forks.items place)) }
 {
-    let fork = trail.path.at(place)?;
-    if walk.runner.callers.len() <= fork.caller {
+    let fork = path.at(place)?;
+    if !goes(world, walk, fork.caller) {
         return None;
-    }
-    if !can_go(&walk.runner, world, fork.caller) {
-        return None;
-    }
-    if fork.next == Next::Unknown {
-        trail.path.set_next(place, behind(world, walk, fork.caller));
     }
     Some(fork.caller)
+}
+
+// The caller that is chosen for the place after the path.
+fn pending(world: &World, walk: &Walk<'_>, path: &Path, place: usize) -> Option<usize>
+    requires { IsWalk world.now walk.now }
+    ensures some { IfSome result (IsGoer world.now walk.now.runner.history.entries (length walk.now.runner.callers.items)) }
+    ensures found { IfSome result (λ c. path.now.pending ≡ Some c) }
+    ensures none { IfNone result (length path.now.forks.items ≡ place → NoneGoes world.now walk.now.runner.history.entries
+        (length walk.now.runner.callers.items) path.now.pending) }
+{
+    if path.forks.len() != place {
+        return None;
+    }
+    let caller = path.pending?;
+    if !goes(world, walk, caller) {
+        return None;
+    }
+    Some(caller)
+}
+
+// Whether a number is that of a caller that can continue.
+fn goes(world: &World, walk: &Walk<'_>, caller: usize) -> bool
+    requires { IsWalk world.now walk.now }
+    ensures yes { result ≡ true → IsGoer world.now walk.now.runner.history.entries (length walk.now.runner.callers.items) caller }
+    ensures no { result ≡ false → IsGoer world.now walk.now.runner.history.entries (length walk.now.runner.callers.items) caller → ⊥ }
+{
+    if walk.runner.callers.len() <= caller {
+        return false;
+    }
+    can_go(&walk.runner, world, caller)
 }
 
 // The last caller, where it can continue and no preemption is left.
 fn bound_to(world: &World, walk: &Walk<'_>, most: u64) -> Option<usize>
     requires { IsWalk world.now walk.now }
-    ensures { IfSome result (IsGoer world.now walk.now.runner.history.entries (length walk.now.runner.callers.items)) }
+    ensures some { IfSome result (IsGoer world.now walk.now.runner.history.entries (length walk.now.runner.callers.items)) }
+    ensures bound { IfSome result (IsBound world.now walk.now.runner.history.entries most) }
+    ensures none { IfNone result (IsFree world.now walk.now.runner.history.entries (most - walk.now.preemptions)) }
 {
     let last = walk.last?;
     if walk.preemptions < most {
@@ -389,35 +449,48 @@ fn bound_to(world: &World, walk: &Walk<'_>, most: u64) -> Option<usize>
 }
 
 // Notes that a choice is refused, if another caller can continue.
-fn refuse(world: &World, walk: &Walk<'_>, trail: &mut Trail, last: usize)
+fn refuse(world: &World, walk: &Walk<'_>, refused: &mut bool, last: usize)
     requires { IsWalk world.now walk.now }
+    ensures before { refused.new ≡ false → refused.old ≡ false }
+    ensures alone { refused.new ≡ false → GoesAlone world.now walk.now.runner.history.entries (length walk.now.runner.callers.items) last }
 {
-    if trail.refused {
+    if *refused {
         return;
     }
-    trail.refused = has_other(world, walk, last);
+    *refused = has_other(world, walk, last);
 }
 
 // Whether another caller can continue.
 fn has_other(world: &World, walk: &Walk<'_>, last: usize) -> bool
     requires { IsWalk world.now walk.now }
+    ensures { result ≡ false → GoesAlone world.now walk.now.runner.history.entries (length walk.now.runner.callers.items) last }
 {
     for caller in 0..walk.runner.callers.len() {
-        if caller != last && can_go(&walk.runner, world, caller) {
+        if is_other(world, walk, last, caller) {
             return true;
         }
     }
     false
 }
 
-// The lowest caller after this one that can continue.
-fn behind(world: &World, walk: &Walk<'_>, caller: usize) -> Next
-    requires { IsWalk world.now walk.now }
+fn is_other(world: &World, walk: &Walk<'_>, last: usize, caller: usize) -> bool
+    requires walk { IsWalk world.now walk.now }
+    requires caller { caller < length walk.now.runner.callers.items }
+    ensures { result ≡ false → is_going world.now (after world.now walk.now.runner.history.entries) caller ≡ true → caller ≡ last }
 {
-    match next_goer(&walk.runner, world, caller.saturating_add(1)) {
-        Some(next) => Next::Caller(next),
-        None => Next::Nobody,
+    if caller == last {
+        return false;
     }
+    can_go(&walk.runner, world, caller)
+}
+
+// The lowest caller after this one that can continue.
+fn behind(world: &World, walk: &Walk<'_>, caller: usize) -> Option<usize>
+    requires { IsWalk world.now walk.now }
+    ensures { caller < length walk.now.runner.callers.items
+        → NextGoes world.now walk.now.runner.history.entries (length walk.now.runner.callers.items) (caller + 1) result }
+{
+    next_goer(&walk.runner, world, caller.saturating_add(1))
 }
 
 // Looks at a history, and returns whether the search continues.
@@ -435,36 +508,43 @@ fn take(
     requires frames { AreFrames lost.now }
     requires few { length lost.now ≤ spec_most_losses sought.losses }
     requires laid { list_all (is_laid walk.old.history) lost.now ≡ true }
-    ensures { OnOk result ((w : AnyWorld) → IsWorldOf w sought.losses lost.now world.now
+    ensures sound { OnOk result ((w : AnyWorld) → IsWorldOf w sought.losses lost.now world.now
         → IsSound w sought.losses sought.preemptions found.old → IsSound w sought.losses sought.preemptions found.new) }
+    ensures exact { IfOk result (λ more. sought.until ≡ None → (seen : List (List AnyEntry)) → HasFound world.now sought.limit seen found.old
+        → Takes world.now sought.limit seen walk.old.history found.new more) }
 {
     if sought.limit <= found.histories {
-        cut_short(found);
+        found.whole = false;
         return Ok(false);
     }
     let telling = telling_of(alloc, world, walk, losses_in(sought.losses, lost))?;
-    count(found, walk.runner.count);
-    let fresh = is_new(alloc, found, &telling)?;
+    found.histories += 1;
+    count_entries(&mut found.entries, walk.runner.count);
+    let fresh = is_new(alloc, &mut found.known, &telling)?;
     if !fresh {
         return Ok(true);
     }
-    let number = keep(found, telling)?;
+    let number = keep(&mut found.told, telling)?;
     if sought.until != Some(number) {
         return Ok(true);
     }
     let ended = ended_of(alloc, world, walk, lost)?;
-    keep_witness(found, ended);
+    keep_witness(&mut found.witness, ended);
     Ok(false)
 }
 
 // Whether an outcome comes for the first time. It is known from then on.
-fn is_new(alloc: Global, found: &mut Found, telling: &Telling) -> Result<bool, AllocError>
-    ensures told { found.new.told.items ≡ found.old.told.items }
-    ensures witness { found.new.witness ≡ found.old.witness }
+fn is_new(
+    alloc: Global,
+    known: &mut IndexSet<Vec<u8>>,
+    telling: &Telling,
+) -> Result<bool, AllocError>
+    ensures texts { OnOk result (texts_in known.new.keys ≡ with_text (texts_in known.old.keys) (telling.now.results ++ telling.now.summary)) }
+    ensures fresh { IfOk result (λ fresh. fresh ≡ not (is_among (texts_in known.old.keys) (telling.now.results ++ telling.now.summary))) }
 {
-    let mut key = Vec::from_slice(alloc, telling.summary.as_slice())?;
-    key.extend_from_slice(telling.results.as_slice())?;
-    Ok(found.known.insert(key)?)
+    let mut key = Vec::from_slice(alloc, telling.results.as_slice())?;
+    key.extend_from_slice(telling.summary.as_slice())?;
+    Ok(known.insert(key)?)
 }
 
 // How many frames a history loses, if losses are sought.

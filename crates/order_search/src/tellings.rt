@@ -10,8 +10,8 @@ use crate::walk::Walk;
 use net_base::{Octets, RunEnd, World};
 use std::alloc::{AllocError, Global};
 
-/// An outcome: the losses, if these are sought, and the preemptions of the history that has it first, the four lines of the summary, the results of all steps, a
-/// line each, and how the history has ended.
+/// An outcome: the losses, if these are sought, and the preemptions of the history that has it first, the four lines of the summary, the results of all
+/// steps, a line each, and how the history has ended.
 #[derive(Drop)]
 pub struct Telling {
     pub losses: Option<u64>,
