@@ -1,15 +1,18 @@
 -- The text of outcomes, one after another.
-use Rattle.std.proofs.Common.{◌≡◌, ℕ, zero, suc, ◌+◌, ◌<◌, ◌≤◌, Bool, List, [], ◌∷◌, ◌++◌, drop, length, Option, Some, slice_get, refl, sym, ap, subst, ◌∙◌, arith}
-use Rattle.std.specs.Prelude.{All, Err, IfOk, Ok, Result, codes}
+use Rattle.std.proofs.Common.{◌≡◌, ℕ, zero, suc, ◌+◌, ◌<◌, ◌≤◌, List, [], ◌∷◌, ◌++◌, drop, length, Option, Some, slice_get, refl, sym, ap, subst, ◌∙◌, arith}
+use Rattle.std.specs.Prelude.{Err, IfOk, None, Ok, Result, codes}
 use Rattle.std.proofs.lemmas.List.{append-nil, append_assoc, drop_all}
 use Rattle.std.proofs.lemmas.Option.{none-some, same_Some}
 use Rattle.net_base.specs.declared.world.World.{World}
 use Rattle.net_model.specs.Answers.{Answer}
-use Rattle.order_search.specs.Tellings.{IsSound, IsTelling}
+use Rattle.order_search.specs.Exact.{IsExact, IsPlain}
+use Rattle.order_search.specs.Tellings.{IsSound}
 use Rattle.order_search.specs.declared.search.Found.{Found}
+use Rattle.order_search.specs.declared.search.Sought.{Sought}
 use Rattle.order_search.specs.declared.tellings.Telling.{Telling}
 use Rattle.netexplore.specs.Answers.{IsOutcomesAnswer}
 use Rattle.netexplore.specs.Lines.{head_line, labelled, last_line, lines_at, losses_words, telling_text, tellings_text, told_status}
+use Rattle.netexplore.specs.Words.{Span, parts_in}
 
 -- three texts, one after another
 joined : (out a b e one two three : List ℕ) → one ≡ out ++ a → two ≡ one ++ b → three ≡ two ++ e → three ≡ out ++ (a ++ (b ++ e))
@@ -61,23 +64,30 @@ told_done lines n ts out was le all =
     sym (append-nil out) ∙ (ap (λ (xs : List Telling). out ++ tellings_text lines n xs) (sym (drop_all n ts le)) ∙ all)
 
 -- the answer
-pub outcomes_are : (w : World) (losses : Option ℕ) (p : ℕ) (ts : List Telling) (lines : List (List ℕ)) (histories entries : ℕ) (whole : Bool) (text first middle : List ℕ) (status : ℕ)
-    (answer : Answer) → All (IsTelling w losses p) ts → first ≡ [] → middle ≡ first ++ tellings_text lines 0 ts → text ≡ middle ++ last_line histories entries whole
-    → status ≡ told_status whole ts → answer ≡ record { status = status; text = text } → IsOutcomesAnswer w losses p answer
-outcomes_are w losses p ts lines histories entries whole text first middle status answer sound none one two status_is is = record {
-  tellings = ts;
-  sound = sound;
+pub outcomes_are : (w : World) (losses : Option ℕ) (span : Span) (found : Found) (ts : List Telling) (lines : List (List ℕ)) (text first middle : List ℕ) (status : ℕ)
+    (answer : Answer) → IsSound w losses span.preemptions found → (losses ≡ None → parts_in span.part ≤ 1 → IsExact w span.preemptions span.limit found)
+    → ts ≡ found.told.items → first ≡ [] → middle ≡ first ++ tellings_text lines 0 ts → text ≡ middle ++ last_line found.histories found.entries found.whole
+    → status ≡ told_status found.whole ts → answer ≡ record { status = status; text = text } → IsOutcomesAnswer w losses span answer
+outcomes_are w losses span found ts lines text first middle status answer sound exact same none one two status_is is = record {
+  found = found;
+  sound = sound.told;
+  exact = exact;
   lines = lines;
-  histories = histories;
-  entries = entries;
-  whole = whole;
   text = ap (λ (a : Answer). a.text) is
-      ∙ (two ∙ ap (λ (l : List ℕ). l ++ last_line histories entries whole) (one ∙ ap (λ (l : List ℕ). l ++ tellings_text lines 0 ts) none));
-  status = ap (λ (a : Answer). a.status) is ∙ status_is;
+      ∙ (two ∙ ap (λ (l : List ℕ). l ++ last_line found.histories found.entries found.whole)
+      (one ∙ (ap (λ (l : List ℕ). l ++ tellings_text lines 0 ts) none ∙ ap (tellings_text lines 0) same)));
+  status = ap (λ (a : Answer). a.status) is ∙ (status_is ∙ ap (told_status found.whole) same);
 }
 
-pub outcomes_given : {E : Type 0} (found : Found) (ts : List Telling) (given : Result Answer E) → ts ≡ found.told.items
-    → IfOk given (λ (a : Answer). (w : World) (losses : Option ℕ) (p : ℕ) → All (IsTelling w losses p) ts → IsOutcomesAnswer w losses p a)
-    → IfOk given (λ (a : Answer). (w : World) (losses : Option ℕ) (p : ℕ) → IsSound w losses p found → IsOutcomesAnswer w losses p a)
-outcomes_given found ts (Ok a) same so = λ w losses p s. so w losses p (subst (All (IsTelling w losses p)) (sym same) s.told)
-outcomes_given found ts (Err e) same so = so
+-- the answer to what was found
+pub found_answer : {E : Type 0} (given : Result Answer E) (w : World) (losses : Option ℕ) (span : Span) (s : Sought) (found : Found) → s.losses ≡ losses
+    → s.preemptions ≡ span.preemptions → s.limit ≡ span.limit → (losses ≡ None → parts_in span.part ≤ 1 → IsPlain s) → IsSound w s.losses s.preemptions found
+    → (IsPlain s → IsExact w s.preemptions s.limit found)
+    → IfOk given (λ (a : Answer). (v : World) (l : Option ℕ) (sp : Span) → IsSound v l sp.preemptions found
+    → (l ≡ None → parts_in sp.part ≤ 1 → IsExact v sp.preemptions sp.limit found) → IsOutcomesAnswer v l sp a)
+    → IfOk given (λ (a : Answer). IsOutcomesAnswer w losses span a)
+found_answer (Ok a) w losses span s found losses_are bound limit plain sound exact so =
+    so w losses span
+    (subst (λ (p : ℕ). IsSound w losses p found) bound (subst (λ (l : Option ℕ). IsSound w l s.preemptions found) losses_are sound))
+    (λ none le. subst (λ (n : ℕ). IsExact w span.preemptions n found) limit (subst (λ (p : ℕ). IsExact w p s.limit found) bound (exact (plain none le))))
+found_answer (Err e) w losses span s found losses_are bound limit plain sound exact so = so

@@ -42,10 +42,10 @@ good_from n m is good = subst IsGood (sym is) good
 
 good_of : (asked : Command) (w : World) (answer : Answer) → IsAnswerOf asked w answer → IsGood answer.status
 good_of (Schedule seed) w answer is = good_from answer.status (word_status (end_word w (after w is.history))) is.status (word_good (end_word w (after w is.history)))
-good_of (Outcomes span) w answer is = good_from answer.status (told_status is.whole is.tellings) is.status (told_good is.whole is.tellings)
+good_of (Outcomes span) w answer is = good_from answer.status (told_status is.found.whole is.found.told.items) is.status (told_good is.found.whole is.found.told.items)
 good_of (Witness span number) w answer (inl is) = good_from answer.status (word_status (end_word w (after w is.history))) is.status (word_good (end_word w (after w is.history)))
 good_of (Witness span number) w answer (inr none) = inr (inr (inr (ap (λ (a : Answer). a.status) none)))
-good_of (Losses k span) w answer is = good_from answer.status (told_status is.whole is.tellings) is.status (told_good is.whole is.tellings)
+good_of (Losses k span) w answer is = good_from answer.status (told_status is.found.whole is.found.told.items) is.status (told_good is.found.whole is.found.told.items)
 good_of (Lost k span number) w answer (inl is) =
     let v = without w is.lost in
     good_from answer.status (word_status (end_word v (after v is.history))) is.status (word_good (end_word v (after v is.history)))

@@ -1,7 +1,7 @@
 -- What a command answers to its input.
 --     IsEndedAnswer       the text of a whole history, with its summary and its status
 --     IsWithinAnswer      that of one with at most p preemptions
---     IsOutcomesAnswer    the lines of outcomes, each of which has a history
+--     IsOutcomesAnswer    the lines of outcomes, each of which has a history; without losses and parts exactly those of the list
 --     IsLostAnswer        a world that loses at most k frames, and the text of one of its histories
 --     asking              what is asked of the program
 use Rattle.std.specs.Prelude.{◌≡◌, ◌≤◌, ℕ, ◌⊎◌, Bool, true, List, [], ◌++◌, All, Option, Some, None, Result, Ok, Err, codes, length}
@@ -18,13 +18,14 @@ use Rattle.net_model.specs.Asking.{Asking}
 use Rattle.turn_orders.specs.Preemptions.{IsWithin, preemptions}
 use Rattle.turn_orders.specs.Turns.{IsEnded}
 use Rattle.order_search.specs.declared.losses.Frame.{Frame}
-use Rattle.order_search.specs.declared.tellings.Telling.{Telling}
+use Rattle.order_search.specs.declared.search.Found.{Found}
+use Rattle.order_search.specs.Exact.{IsExact}
 use Rattle.order_search.specs.Losses.{AreFrames, is_laid, without}
 use Rattle.order_search.specs.Tellings.{IsTelling}
 use Rattle.world_text.specs.WorldText.{world_reading}
 use Rattle.netexplore.specs.Lines.{last_line, tellings_text, told_status, word_status}
 use Rattle.world_writer.specs.Written.{world_file_text}
-use Rattle.netexplore.specs.Words.{Command, Losses, Lost, Outcomes, Schedule, Span, Witness}
+use Rattle.netexplore.specs.Words.{Command, Losses, Lost, Outcomes, Schedule, Span, Witness, parts_in}
 
 -- the text of a legal, timed and ended history of the world with its summary, and the status by how it ends
 pub record IsEndedAnswer (w : World) (answer : Answer) : Type 0 where
@@ -45,17 +46,16 @@ pub record IsWithinAnswer (w : World) (p : ℕ) (answer : Answer) : Type 0 where
   pub text : answer.text ≡ history_text history ++ summary w history
   pub status : answer.status ≡ word_status (end_word w (after w history))
 
--- outcomes, each of which has a legal, timed and ended history with its summary and its preemptions; after each summary come the
--- results of steps. With a number k of losses, the histories are those of the worlds that lose at most k frames
-pub record IsOutcomesAnswer (w : World) (losses : Option ℕ) (p : ℕ) (answer : Answer) : Type 0 where
-  pub tellings : List Telling
-  pub sound : All (IsTelling w losses p) tellings
+-- outcomes, each of which has a legal, timed and ended history with its summary, its results of steps and its preemptions. With a
+-- number k of losses, the histories are those of the worlds that lose at most k frames. Without losses and parts, the outcomes and the
+-- numbers of the last line are exactly those of the first histories of the list. Lines of steps come after each summary
+pub record IsOutcomesAnswer (w : World) (losses : Option ℕ) (span : Span) (answer : Answer) : Type 0 where
+  pub found : Found
+  pub sound : All (IsTelling w losses span.preemptions) found.told.items
+  pub exact : losses ≡ None → parts_in span.part ≤ 1 → IsExact w span.preemptions span.limit found
   pub lines : List (List ℕ)
-  pub histories : ℕ
-  pub entries : ℕ
-  pub whole : Bool
-  pub text : answer.text ≡ tellings_text lines 0 tellings ++ last_line histories entries whole
-  pub status : answer.status ≡ told_status whole tellings
+  pub text : answer.text ≡ tellings_text lines 0 found.told.items ++ last_line found.histories found.entries found.whole
+  pub status : answer.status ≡ told_status found.whole found.told.items
 
 -- the world without at most k frames, `%history`, and the text of a history of that world that lays each of these frames
 pub record IsLostAnswer (w : World) (k p : ℕ) (answer : Answer) : Type 0 where
@@ -84,9 +84,9 @@ IsBadLine asked input found = found ≡ bad_world (world_reading input)
 -- what is found in a world
 abbrev pub IsAnswerOf : Command → World → Answer → Type 0
 IsAnswerOf (Schedule seed) w answer = IsEndedAnswer w answer
-IsAnswerOf (Outcomes span) w answer = IsOutcomesAnswer w None span.preemptions answer
+IsAnswerOf (Outcomes span) w answer = IsOutcomesAnswer w None span answer
 IsAnswerOf (Witness span number) w answer = IsWithinAnswer w span.preemptions answer ⊎ (answer ≡ lines_answer [])
-IsAnswerOf (Losses k span) w answer = IsOutcomesAnswer w (Some k) span.preemptions answer
+IsAnswerOf (Losses k span) w answer = IsOutcomesAnswer w (Some k) span answer
 IsAnswerOf (Lost k span number) w answer = IsLostAnswer w k span.preemptions answer ⊎ (answer ≡ lines_answer [])
 
 -- an answer to an input without a bad line

@@ -1,4 +1,5 @@
 -- The commands as the program reads them.
+use Rattle.std.specs.Option.{option_map}
 use Rattle.netexplore.specs.Words as words
 use Rattle.netexplore.specs.declared.command.Command.{Command}
 use Rattle.netexplore.specs.declared.command.Command.TheVariants as command
@@ -9,7 +10,7 @@ abbrev pub part_read : PartWord → words.Part
 part_read p = record { number = p.number; count = p.count }
 
 abbrev pub span_read : Span → words.Span
-span_read s = record { preemptions = s.preemptions; limit = s.limit; part = part_read s.part }
+span_read s = record { preemptions = s.preemptions; limit = s.limit; part = option_map part_read s.part }
 
 -- the command that was read
 abbrev pub command_read : Command → words.Command

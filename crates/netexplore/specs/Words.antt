@@ -8,11 +8,11 @@ pub record Part : Type 0 where
   pub number : ℕ
   pub count : ℕ
 
--- which histories are looked at: with at most p preemptions, the first ones up to a limit, of one part
+-- which histories are looked at: with at most p preemptions, the first ones up to a limit, of one part or all
 pub record Span : Type 0 where
   pub preemptions : ℕ
   pub limit : ℕ
-  pub part : Part
+  pub part : Option Part
 
 pub data Command : Type 0 where
   -- `schedule SEED`: a run whose order of turns is drawn
@@ -62,15 +62,20 @@ part_in _ = None
 unfoldable pub part_word : List ℕ → Option Part
 part_word word = part_in (parts_at 47 word)
 
--- or no word
-abbrev pub part_words : List (List ℕ) → Option Part
-part_words [] = Some (part_of 1 1)
-part_words (word ∷ []) = part_word word
+-- how many parts there are
+abbrev pub parts_in : Option Part → ℕ
+parts_in None = 1
+parts_in (Some part) = part.count
+
+-- or no word, which is no part
+abbrev pub part_words : List (List ℕ) → Option (Option Part)
+part_words [] = Some None
+part_words (word ∷ []) = option_map Some (part_word word)
 part_words _ = None
 
 -- Commands.
 
-abbrev pub span_of : Option ℕ → Option ℕ → Option Part → Option Span
+abbrev pub span_of : Option ℕ → Option ℕ → Option (Option Part) → Option Span
 span_of None limit part = None
 span_of (Some p) None part = None
 span_of (Some p) (Some limit) None = None

@@ -1,18 +1,20 @@
 //! The answers of the commands.
-ghost use Rattle.std.specs.Prelude.{◌≡◌, ◌≤◌, ◌⊎◌, ◌++◌, ℕ, [], Err, None, Some, codes, length, IfOk};
+ghost use Rattle.std.specs.Prelude.{◌≡◌, ◌≤◌, ◌⊎◌, ◌++◌, ℕ, [], Err, None, Some, codes, length, option_map, IfOk};
 ghost use Rattle.net_base.specs.declared.world.World.{World as AnyWorld};
 ghost use Rattle.net_base.specs.Transcript.{history_text};
 ghost use Rattle.net_base.specs.World.{IsWorld};
 ghost use Rattle.net_model.specs.Answers.{lines_answer};
+ghost use Rattle.order_search.specs.Exact.{IsPlain};
 ghost use Rattle.order_search.specs.Tellings.{IsEndedRun, IsKin, IsWitness};
 ghost use Rattle.netexplore.specs.Answers.{IsAnswer, IsAnswerOf, IsEndedAnswer, IsLostAnswer, IsOutcomesAnswer, IsWithinAnswer};
-ghost use Rattle.netexplore.specs.Commands.{command_read};
+ghost use Rattle.netexplore.specs.Commands.{command_read, part_read, span_read};
 ghost use Rattle.netexplore.specs.Lines.{word_status};
+ghost use Rattle.netexplore.specs.Words.{parts_in};
 ghost use Rattle.transcript.specs.RunStatus.{run_end_word};
 ghost use Rattle.world_text.specs.WorldText.{world_reading};
 ghost use Rattle.world_writer.specs.Written.{world_file_text};
 
-use crate::command::{Command, Span};
+use crate::command::{Command, PartWord, Span};
 use crate::lines::outcomes_of;
 use net_base::{Octets, RunEnd, World};
 use net_model::Answer;
@@ -100,10 +102,10 @@ fn outcomes<W: Watch>(
     watch: &W,
 ) -> Result<Answer, AllocError>
     requires { IsWorld world.old }
-    ensures { IfOk result (λ answer. IsOutcomesAnswer world.old losses span.preemptions answer) }
+    ensures { IfOk result (λ answer. IsOutcomesAnswer world.old losses (span_read span) answer) }
 {
     let found = explore(alloc, world, sought_in(losses, span, None), watch)?;
-    outcomes_of(alloc, world, &found, 1 < span.part.count)
+    outcomes_of(alloc, world, &found, span.part.is_some())
 }
 
 // A history with one outcome, or that there is none.
@@ -148,19 +150,31 @@ fn lost<W: Watch>(
 fn sought_in(losses: Option<u32>, span: Span, number: Option<u32>) -> Sought
     ensures losses { result.losses ≡ losses }
     ensures preemptions { result.preemptions ≡ span.preemptions }
+    ensures limit { result.limit ≡ span.limit }
+    ensures plain { losses ≡ None → number ≡ None → parts_in (option_map part_read span.part) ≤ 1 → IsPlain result }
 {
     Sought {
         losses,
         preemptions: span.preemptions,
         limit: span.limit,
-        part: Part {
-            rest: span.part.number.saturating_sub(1),
-            parts: span.part.count,
-        },
+        part: part_of(span.part),
         until: match number {
             Some(number) => Some(number as usize),
             None => None,
         },
+    }
+}
+
+// A part of the histories, or all of them.
+fn part_of(word: Option<PartWord>) -> Part
+    ensures { result.parts ≡ parts_in (option_map part_read word) }
+{
+    match word {
+        Some(PartWord { number, count }) => Part {
+            rest: number.saturating_sub(1),
+            parts: count,
+        },
+        None => Part { rest: 0, parts: 1 },
     }
 }
 

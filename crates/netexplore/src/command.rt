@@ -12,12 +12,12 @@ pub struct PartWord {
     pub count: u64,
 }
 
-/// Which histories are looked at: with at most p preemptions, the first ones up to a limit, of one part.
+/// Which histories are looked at: with at most p preemptions, the first ones up to a limit, of one part or all.
 #[derive(Clone, Copy)]
 pub struct Span {
     pub preemptions: u32,
     pub limit: u64,
-    pub part: PartWord,
+    pub part: Option<PartWord>,
 }
 
 /// A command.
@@ -178,15 +178,12 @@ fn read_number(word: &[u8]) -> Option<u32>
 }
 
 /// `PART/PARTS`, or no word.
-fn read_part(words: &[String]) -> Option<PartWord>
-    ensures { option_map part_read result ≡ spec.part_words (map string_bytes words.now) }
+fn read_part(words: &[String]) -> Option<Option<PartWord>>
+    ensures { option_map (option_map part_read) result ≡ spec.part_words (map string_bytes words.now) }
 {
     match words {
-        [] => Some(PartWord {
-            number: 1,
-            count: 1,
-        }),
-        [word] => read_part_word(word.as_bytes()),
+        [] => Some(None),
+        [word] => Some(Some(read_part_word(word.as_bytes())?)),
         _ => None,
     }
 }

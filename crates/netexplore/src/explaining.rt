@@ -1,7 +1,7 @@
 //! What the program writes on standard error.
 
 use crate::stopped::Stopped;
-use diagnosis::{Call, Case, Kept, Program, Seen, explain};
+use diagnosis::{Call, Case, Explanation, Kept, Program, Seen, explain};
 use order_search::{Far, Watch};
 use std::alloc::{AllocError, Global};
 use std::fmt;
@@ -174,16 +174,21 @@ fn tell_as_run<R: Eprint>(rt: &R, alloc: Global, ending: Ending<'_>) {
     let Ok(words) = run_words(alloc) else {
         return;
     };
-    let explanation = explain(Call {
-        program: Program::Netsh,
-        words: words.as_slice(),
-        kept: ending.kept,
-        seen: ending.seen,
-        status: ending.status,
-    });
+    let explanation = explain_run(words.as_slice(), ending);
     if explanation.case != Case::Nothing {
         let _ = eprintln!(rt; "netexplore: {explanation}");
     }
+}
+
+fn explain_run<'a>(words: &'a [String], ending: Ending<'a>) -> Explanation<'a> {
+    explain(Call {
+        program: Program::Netsh,
+        words,
+        kept: ending.kept,
+        seen: ending.seen,
+        status: ending.status,
+        expected: None,
+    })
 }
 
 fn run_words(alloc: Global) -> Result<Vec<String>, AllocError> {

@@ -1,11 +1,13 @@
 //! Outcomes as lines.
-ghost use Rattle.std.specs.Prelude.{◌≡◌, ◌++◌, ℕ, All, IfOk, OnOk, Option};
+ghost use Rattle.std.specs.Prelude.{◌≡◌, ◌≤◌, ◌++◌, ℕ, None, IfOk, OnOk, Option};
 ghost use Rattle.std.specs.List.{list_all, list_any};
 ghost use Rattle.net_base.specs.declared.world.World.{World as AnyWorld};
 ghost use Rattle.order_search.specs.declared.tellings.Telling.{Telling as AnyTelling};
-ghost use Rattle.order_search.specs.Tellings.{IsSound, IsTelling};
+ghost use Rattle.order_search.specs.Exact.{IsExact};
+ghost use Rattle.order_search.specs.Tellings.{IsSound};
 ghost use Rattle.netexplore.specs.Answers.{IsOutcomesAnswer};
 ghost use Rattle.netexplore.specs.Lines as spec;
+ghost use Rattle.netexplore.specs.Words.{Span, parts_in};
 
 use crate::steps::{lines_of, step_texts};
 use net_base::{Lines, Octets, RunEnd, World};
@@ -21,43 +23,16 @@ pub fn outcomes_of(
     found: &Found,
     all: bool,
 ) -> Result<Answer, AllocError>
-    ensures { IfOk result (λ answer. (w : AnyWorld) (losses : Option ℕ) (p : ℕ)
-        → IsSound w losses p found.now → IsOutcomesAnswer w losses p answer) }
+    ensures { IfOk result (λ answer. (w : AnyWorld) (losses : Option ℕ) (span : Span) → IsSound w losses span.preemptions found.now
+        → (losses ≡ None → parts_in span.part ≤ 1 → IsExact w span.preemptions span.limit found.now) → IsOutcomesAnswer w losses span answer) }
 {
     let told = found.told.as_slice();
-    let counts = Counts {
-        histories: found.histories,
-        entries: found.entries,
-        whole: found.whole,
-    };
-    listed(alloc, world, told, counts, all)
-}
-
-/// How many histories were looked at, how many entries these have, and whether there is no other history.
-#[derive(Clone, Copy)]
-struct Counts {
-    histories: u64,
-    entries: u128,
-    whole: bool,
-}
-
-// The lines of outcomes.
-fn listed(
-    alloc: Global,
-    world: &World,
-    told: &[Telling],
-    counts: Counts,
-    all: bool,
-) -> Result<Answer, AllocError>
-    ensures { IfOk result (λ answer. (w : AnyWorld) (losses : Option ℕ) (p : ℕ)
-        → All (IsTelling w losses p) told.now → IsOutcomesAnswer w losses p answer) }
-{
     let steps = step_texts(alloc, world)?;
     let lines = lines_of(alloc, steps.as_slice(), told, all)?;
     let mut text = Octets::new(alloc);
     put_tellings(&mut text, told, &lines)?;
-    put_last(&mut text, counts.histories, counts.entries, counts.whole)?;
-    let status = status_of(told, counts.whole);
+    put_last(&mut text, found.histories, found.entries, found.whole)?;
+    let status = status_of(told, found.whole);
     let answer = Answer::new(status, text);
     Ok(answer)
 }
