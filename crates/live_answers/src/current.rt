@@ -1,4 +1,6 @@
 //! A step that has begun and is not complete.
+ghost use Rattle.std.specs.Prelude.{◌≡◌, [], None, OnOk, true};
+ghost use Rattle.live_answers.specs.Steps.{IsNoted};
 
 use live_lines::StepWord;
 use net_base::{Entry, Step};
@@ -24,7 +26,11 @@ pub struct Current {
 
 impl Current {
     /// Returns a step before its first entry.
-    pub fn new(alloc: Global, number: usize, step: &Step) -> Current {
+    pub fn new(alloc: Global, number: usize, step: &Step) -> Current
+        ensures number { result.number ≡ number }
+        ensures stamps { result.stamps.items ≡ [] }
+        ensures replaced { result.replaced ≡ None }
+    {
         Current {
             number,
             kind: kind_of(slice::from_ref(step), 0),
@@ -36,8 +42,10 @@ impl Current {
     }
 
     /// Returns whether the history has no entry of it.
-    pub fn is_waiting(&self) -> bool {
-        self.latest.is_none()
+    pub fn is_waiting(&self) -> bool
+        ensures { result ≡ true → self.now.stamps.items ≡ [] }
+    {
+        self.stamps.len() == 0
     }
 
     /// Returns the deadline in ms, if it still counts.
@@ -50,7 +58,9 @@ impl Current {
     }
 
     /// Notes an entry of the script, unless it is a follow-up event.
-    pub fn note(&mut self, stamp: usize, entry: &Entry) -> Result<(), AllocError> {
+    pub fn note(&mut self, stamp: usize, entry: &Entry) -> Result<(), AllocError>
+        ensures { OnOk result (IsNoted stamp entry.now self.old self.new) }
+    {
         if entry.cites.is_some() {
             return Ok(());
         }

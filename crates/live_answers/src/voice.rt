@@ -1,51 +1,65 @@
 //! What is written on standard output, line by line.
+ghost use Rattle.std.specs.Prelude.{◌≡◌, [], IfOk, OnOk, false};
+ghost use Rattle.live_answers.specs.Lines as a_line;
+ghost use Rattle.live_answers.specs.Speech.{Says, Writes, speech};
+ghost use Rattle.live_answers.specs.Steps.{answer_of, ended_word, removed_line};
+ghost use Rattle.live_answers.specs.Steps as spec;
+ghost use Rattle.live_lines.specs.declared.answer.StepWord.TheVariants as a_word;
 
 use crate::current::Current;
-use live_lines::{
-    AnswerHead, LiveCause, StepWord, put_bad_line, put_end, put_head, put_places, put_reply_after,
-};
+use crate::ghost_lines::{GhostLines, OutputLine};
+use crate::output_lines::{BadInputLine, FirstLine, LastLine, RemovedLine, StepLine};
+use live_lines::{AnswerHead, LiveCause, StepWord};
 use net_base::{History, Octets, RunEnd};
 use outside::{Sink, write_all};
-use replay_views::ending_of;
+use replay_views::{Ending, ending_of};
 use std::alloc::{AllocError, Global};
 
 /// A writer of lines to a sink. Once a write has failed it writes no more.
 #[derive(Drop)]
-pub struct Voice<'a, K> {
-    sink: &'a mut K,
-    failed: bool,
+pub struct Voice<K> {
+    pub sink: K,
+    pub failed: bool,
+    pub said: GhostLines,
 }
 
-impl<'a, K: Sink> Voice<'a, K> {
+impl<K: Sink> Voice<K> {
     /// Returns a voice that has written nothing.
-    pub fn new(sink: &'a mut K) -> Voice<'a, K> {
+    pub fn new(sink: K) -> Voice<K>
+        ensures sink { result.sink ≡ sink }
+        ensures failed { result.failed ≡ false }
+        ensures said { result.said.list ≡ [] }
+    {
         Voice {
             sink,
             failed: false,
+            said: GhostLines::fresh(),
         }
     }
 
     /// Returns whether a write has failed.
-    pub fn has_failed(&self) -> bool {
+    pub fn has_failed(&self) -> bool
+        ensures { result ≡ self.now.failed }
+    {
         self.failed
     }
 
-    // Writes a line.
-    fn say(&mut self, line: &[u8]) {
-        if self.failed {
-            return;
-        }
-        if write_all(self.sink, line).is_err() {
-            self.failed = true;
-        }
+    // Says a line.
+    fn say<L: OutputLine>(&mut self, alloc: Global, line: &L) -> Result<(), AllocError>
+        ensures { OnOk result (Says (speech K.held self.old) (speech K.held self.new) (L.line line.now)) }
+    {
+        let mut text = Octets::new(alloc);
+        line.put(&mut text)?;
+        self.failed = write_on(&mut self.sink, self.failed, text.as_slice());
+        self.said = self.said.with(line);
+        Ok(())
     }
 
     /// Writes the first line, with the numbers of the places.
-    pub fn say_places(&mut self, alloc: Global, places: &[u32]) -> Result<(), AllocError> {
-        let mut line = Octets::new(alloc);
-        put_places(&mut line, places)?;
-        self.say(line.as_slice());
-        Ok(())
+    pub fn say_places(&mut self, alloc: Global, places: &[u32]) -> Result<(), AllocError>
+        ensures { OnOk result (Says (speech K.held self.old) (speech K.held self.new) (a_line.First places.now)) }
+    {
+        self.say(alloc, &FirstLine { places })
     }
 
     /// Reports an invalid line, by its number from 1.
@@ -54,36 +68,24 @@ impl<'a, K: Sink> Voice<'a, K> {
         alloc: Global,
         number: u64,
         cause: LiveCause,
-    ) -> Result<(), AllocError> {
-        let mut line = Octets::new(alloc);
-        put_bad_line(&mut line, number, cause)?;
-        self.say(line.as_slice());
-        Ok(())
+    ) -> Result<(), AllocError>
+        ensures { OnOk result (Says (speech K.held self.old) (speech K.held self.new) (a_line.BadInput number cause)) }
+    {
+        self.say(alloc, &BadInputLine { number, cause })
     }
 
     /// Writes the last line: how the run has ended, and when, in ms.
-    pub fn say_end(&mut self, alloc: Global, end: RunEnd, moment: u64) -> Result<(), AllocError> {
-        let mut line = Octets::new(alloc);
-        put_end(&mut line, end, moment)?;
-        self.say(line.as_slice());
-        Ok(())
+    pub fn say_end(&mut self, alloc: Global, end: RunEnd, moment: u64) -> Result<(), AllocError>
+        ensures { OnOk result (Says (speech K.held self.old) (speech K.held self.new) (a_line.Last end moment)) }
+    {
+        self.say(alloc, &LastLine { end, moment })
     }
 
     /// Reports that the current step of a place was removed, at moment 0.
-    pub fn say_removed(&mut self, alloc: Global, place: u32) -> Result<(), AllocError> {
-        let mut line = Octets::new(alloc);
-        put_head(
-            &mut line,
-            AnswerHead {
-                place,
-                step: None,
-                moment: 0,
-                word: StepWord::Cancelled,
-            },
-        )?;
-        line.push(b'\n')?;
-        self.say(line.as_slice());
-        Ok(())
+    pub fn say_removed(&mut self, alloc: Global, place: u32) -> Result<(), AllocError>
+        ensures { OnOk result (Says (speech K.held self.old) (speech K.held self.new) (removed_line place)) }
+    {
+        self.say(alloc, &RemovedLine { place })
     }
 
     /// Reports a step that is complete at a moment, in ms.
@@ -94,7 +96,10 @@ impl<'a, K: Sink> Voice<'a, K> {
         moment: u64,
         step: &Current,
         history: &History,
-    ) -> Result<(), AllocError> {
+    ) -> Result<(), AllocError>
+        ensures { OnOk result (Says (speech K.held self.old) (speech K.held self.new)
+            (answer_of place moment (spec.word_of step.now history.now) step.now history.now)) }
+    {
         let word = word_of(alloc, step, history)?;
         self.say_step(alloc, place, moment, word, step, history)
     }
@@ -107,7 +112,10 @@ impl<'a, K: Sink> Voice<'a, K> {
         moment: u64,
         step: &Current,
         history: &History,
-    ) -> Result<(), AllocError> {
+    ) -> Result<(), AllocError>
+        ensures { OnOk result (Says (speech K.held self.old) (speech K.held self.new)
+            (answer_of place moment a_word.Unanswered step.now history.now)) }
+    {
         self.say_step(alloc, place, moment, StepWord::Unanswered, step, history)
     }
 
@@ -119,41 +127,59 @@ impl<'a, K: Sink> Voice<'a, K> {
         word: StepWord,
         step: &Current,
         history: &History,
-    ) -> Result<(), AllocError> {
-        let mut line = Octets::new(alloc);
-        put_head(
-            &mut line,
-            AnswerHead {
-                place,
-                step: Some(step.number as u64),
-                moment,
-                word,
-            },
-        )?;
-        put_replies(&mut line, &step.stamps, history)?;
-        line.push(b'\n')?;
-        self.say(line.as_slice());
-        Ok(())
+    ) -> Result<(), AllocError>
+        ensures { OnOk result (Says (speech K.held self.old) (speech K.held self.new)
+            (answer_of place moment word step.now history.now)) }
+    {
+        let head = AnswerHead {
+            place,
+            step: Some(step.number as u64),
+            moment,
+            word,
+        };
+        let line = StepLine {
+            head,
+            stamps: step.stamps.as_slice(),
+            history,
+        };
+        self.say(alloc, &line)
+    }
+}
+
+// Writes a text, unless a write has failed. Returns whether one has failed now.
+fn write_on<K: Sink>(sink: &mut K, failed: bool, text: &[u8]) -> bool
+    ensures { Writes failed result (K.held sink.old) (K.held sink.new) text.now }
+{
+    if failed {
+        return true;
+    }
+    match write_all(sink, text) {
+        Ok(()) => false,
+        Err(_) => true,
     }
 }
 
 // The way in which a step became complete.
-fn word_of(alloc: Global, step: &Current, history: &History) -> Result<StepWord, AllocError> {
+fn word_of(alloc: Global, step: &Current, history: &History) -> Result<StepWord, AllocError>
+    ensures { IfOk result (λ word. word ≡ spec.word_of step.now history.now) }
+{
     if let Some(word) = step.replaced {
         return Ok(word);
     }
     let ending = ending_of(alloc, step.kind, history.as_slice(), step.latest)?;
-    match ending {
-        Some(ending) if ending.refused => Ok(StepWord::Refused),
-        _ => Ok(StepWord::Answered),
-    }
+    Ok(ended(ending))
 }
 
-fn put_replies(line: &mut Octets, stamps: &[usize], history: &History) -> Result<(), AllocError> {
-    for stamp in stamps {
-        if let Some(entry) = history.as_slice().get(*stamp) {
-            put_reply_after(line, &entry.reply)?;
+fn ended(ending: Option<Ending>) -> StepWord
+    ensures { result ≡ ended_word ending }
+{
+    match ending {
+        Some(ending) => {
+            if ending.refused {
+                return StepWord::Refused;
+            }
+            StepWord::Answered
         }
+        None => StepWord::Answered,
     }
-    Ok(())
 }

@@ -36,7 +36,7 @@ same_or_other (suc a) (suc b) =
       | inr other ↦ inr (λ is. other (omega (arith, is)))
     ]
 
-set_other : {A : Type 0} (xs : List A) (c d : ℕ) (x : A) → (d ≡ c → ⊥) → slice_get (slice_set xs c x) d ≡ slice_get xs d
+pub set_other : {A : Type 0} (xs : List A) (c d : ℕ) (x : A) → (d ≡ c → ⊥) → slice_get (slice_set xs c x) d ≡ slice_get xs d
 set_other [] c d x other = refl
 set_other (y ∷ xs) zero zero x other = absurd (other refl)
 set_other (y ∷ xs) zero (suc d) x other = refl
@@ -78,7 +78,7 @@ module _ (w : World) (c d : ℕ) (more : List Step) (other : c ≡ d → ⊥) wh
   next_alike IsClock h = refl
   next_alike IsNobody h = refl
 
-  others_next : (h : List Entry) → next_recorded (grown w d more) h c ≡ next_recorded w h c
+  pub others_next : (h : List Entry) → next_recorded (grown w d more) h c ≡ next_recorded w h c
   others_next h = ap (λ (k : Caller). next_of (grown w d more) k h c) same_caller ∙ next_alike (caller_of w c) h
 
 others_had : (w : World) (c d : ℕ) (more others : List Step) (h : List Entry) → (c ≡ d → ⊥) → HasNextAtMoves (grown w d more) c h → HasNextAtMoves (grown w d others) c h

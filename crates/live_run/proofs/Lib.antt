@@ -5,3 +5,9 @@ pub mod Late
 pub mod Replacing
 pub mod LastSteps
 pub mod Rests
+pub mod Spoken
+pub mod Writing
+pub mod Seats
+pub mod SeatLists
+pub mod Hearing
+pub mod Shared

@@ -35,7 +35,7 @@ grown_other (s ∷ ss) zero (suc d) more other = refl
 grown_other (s ∷ ss) (suc c) zero more other = refl
 grown_other (s ∷ ss) (suc c) (suc d) more other = grown_other ss c d more (λ is. other (ap suc is))
 
-grown_here : (ss : List Script) (c : ℕ) (s : Script) (more : List Step) → slice_get ss c ≡ Some s → slice_get (grown_scripts ss c more) c ≡ Some (longer s more)
+pub grown_here : (ss : List Script) (c : ℕ) (s : Script) (more : List Step) → slice_get ss c ≡ Some s → slice_get (grown_scripts ss c more) c ≡ Some (longer s more)
 grown_here [] c s more is = absurd (none-some s is)
 grown_here (x ∷ ss) zero s more is = ap (λ (y : Script). Some (longer y more)) (same_Some x s is)
 grown_here (x ∷ ss) (suc c) s more is = grown_here ss c s more is
@@ -63,7 +63,7 @@ some_below (y ∷ xs) (suc c) x is = let below : c < length xs = some_below xs c
 
 -- The next event of a script.
 
-next_is : (w : World) (h : List Entry) (c : ℕ) (s : Script) → slice_get w.scripts c ≡ Some s → next_recorded w h c ≡ next_in w h c s
+pub next_is : (w : World) (h : List Entry) (c : ℕ) (s : Script) → slice_get w.scripts c ≡ Some s → next_recorded w h c ≡ next_in w h c s
 next_is w h c s is = ap (λ (k : Caller). next_of w k h c) (script_is w c s is)
 
 -- Another script changes.
@@ -125,7 +125,7 @@ module _ (stay : (w : World) (c : ℕ) (h : List Entry) → IsLegal w h → IsWi
 
 -- Another caller records.
 
-own_other : (h : List Entry) (c : ℕ) (x : Entry) → (x.caller == c) ≡ false → own_replies (h ++ x ∷ []) c ≡ own_replies h c
+pub own_other : (h : List Entry) (c : ℕ) (x : Entry) → (x.caller == c) ≡ false → own_replies (h ++ x ∷ []) c ≡ own_replies h c
 own_other h c x other =
     let none : by (x ∷ []) c ≡ [] = rw other refl in
     ap (map (λ (y : Entry). y.reply)) (own_push h c x ∙ (ap (λ (ys : List Entry). own_entries h c ++ filter (λ (y : Entry). is_none y.cites) ys) none ∙ append-nil (own_entries h c)))

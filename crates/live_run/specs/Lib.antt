@@ -1,5 +1,8 @@
 pub mod Deadlines
 pub mod LiveWorlds
+pub mod Currents
+pub mod Heard
+pub mod Hearing
 pub mod LiveRuns
 pub use Rattle.grown_laws.specs.Grown
 pub use Rattle.net_base.specs.Legal

@@ -4,6 +4,7 @@ use Rattle.net_base.specs.declared.history.Entry.{Entry}
 use Rattle.net_base.specs.declared.world.Script.{Script}
 use Rattle.net_base.specs.declared.world.World.{World}
 use Rattle.net_base.specs.Legal.{IsLegal, IsTimed}
+use Rattle.net_base.specs.Net.{moment}
 use Rattle.net_base.specs.Next.{is_unfinished, next_recorded}
 use Rattle.net_base.specs.Summary.{summary}
 use Rattle.net_base.specs.Transcript.{history_text}
@@ -12,6 +13,7 @@ use Rattle.plain_runner.specs.Resting.{Rests}
 use Rattle.plain_runner.specs.Tracks.{Tracks}
 use Rattle.transcript.specs.RunStatus.{IsRunStatusOf}
 use Rattle.world_writer.specs.Written.{world_file_text}
+use Rattle.live_run.specs.Currents.{IsUnheard}
 use Rattle.live_run.specs.Deadlines.{AreWaiting, MovesTo}
 use Rattle.live_run.specs.LiveWorlds.{GrownFrom, HadNext}
 use Rattle.live_run.specs.declared.live.Live.{Live}
@@ -41,6 +43,13 @@ pub record IsRest (w : World) (r : Rest) : Type 0 where
   pub waits : AreWaiting w r.run.history.entries r.places.deadlines.items
   pub moved : MovesTo r.run.history.entries r.moved
 
+-- the current step of script c, one of these places, can be withdrawn: the clock does not pass this moment before the step has an entry
+pub record CanWithdraw (r : Rest) (places : List Bool) (c last : ℕ) : Type 0 where
+  pub among : slice_get places c ≡ Some true
+  pub known : c < length r.run.callers.items
+  pub deadline : slice_get r.places.deadlines.items c ≡ Some (Some last)
+  pub unheard : IsUnheard r.places.currents.items c
+
 -- each script that can get more steps has a next event
 abbrev pub AreHeld : World → List Entry → List Bool → Type 0
 AreHeld w h grows = (c : ℕ) → slice_get grows c ≡ Some true → IsSome (next_recorded w h c)
@@ -62,7 +71,7 @@ IsFree w h _ = Unit {0}
 
 -- so after this history
 abbrev pub IsStatus : World → List Entry → LiveEnd → Type 0
-IsStatus w h e = IsRunStatusOf w h (record { answered = e.answered; end = e.end })
+IsStatus w h e = IsRunStatusOf w h (record { answered = e.answered; end = Some e.end })
 
 -- a run that has ended, whose world is the first one after its places got steps
 pub record IsLive (first : World) (l : Live) : Type 0 where
@@ -70,7 +79,9 @@ pub record IsLive (first : World) (l : Live) : Type 0 where
   pub world : IsWorld l.world
   pub legal : IsLegal l.world l.history
   pub timed : IsTimed l.world l.history
+  -- it has ended
   pub status : IsStatus l.world l.history l.end
+  pub moment : l.end.moment ≡ moment l.world l.history
 
 -- the world, the line `%history`, the history and its summary
 abbrev pub file_text : World → List Entry → List ℕ

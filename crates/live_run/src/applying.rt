@@ -1,5 +1,7 @@
 //! A line of input is read, and applied to its place.
-ghost use Rattle.std.specs.Prelude.{◌≡◌};
+ghost use Rattle.std.specs.Prelude.{◌≡◌, OnOk};
+ghost use Rattle.live_answers.specs.Speech.{speech};
+ghost use Rattle.live_run.specs.Hearing.{SaysNoAnswer};
 ghost use Rattle.live_run.specs.LiveWorlds.{Narrows};
 
 use crate::places::Places;
@@ -15,10 +17,12 @@ pub fn apply_next<S: Source, K: Sink>(
     alloc: Global,
     places: &mut Places,
     reader: &mut LineReader<'_, S>,
-    voice: &mut Voice<'_, K>,
+    voice: &mut Voice<K>,
 ) -> Result<Option<usize>, AllocError>
     ensures narrows { Narrows places.old.grows.items places.new.grows.items }
     ensures deadlines { places.new.deadlines ≡ places.old.deadlines }
+    ensures currents { places.new.currents ≡ places.old.currents }
+    ensures says { OnOk result (SaysNoAnswer (speech K.held voice.old) (speech K.held voice.new)) }
 {
     match reader.next(alloc)? {
         Some(line) => apply(alloc, places, line.as_slice(), reader.number(), voice),
@@ -35,10 +39,12 @@ fn apply<K: Sink>(
     places: &mut Places,
     text: &[u8],
     number: u64,
-    voice: &mut Voice<'_, K>,
+    voice: &mut Voice<K>,
 ) -> Result<Option<usize>, AllocError>
     ensures narrows { Narrows places.old.grows.items places.new.grows.items }
     ensures deadlines { places.new.deadlines ≡ places.old.deadlines }
+    ensures currents { places.new.currents ≡ places.old.currents }
+    ensures says { OnOk result (SaysNoAnswer (speech K.held voice.old) (speech K.held voice.new)) }
 {
     read_steps_are_steps();
     let read = match read_line(alloc, text) {
@@ -72,8 +78,10 @@ fn refuse<K: Sink>(
     alloc: Global,
     number: u64,
     cause: LiveCause,
-    voice: &mut Voice<'_, K>,
-) -> Result<Option<usize>, AllocError> {
+    voice: &mut Voice<K>,
+) -> Result<Option<usize>, AllocError>
+    ensures { OnOk result (SaysNoAnswer (speech K.held voice.old) (speech K.held voice.new)) }
+{
     voice.say_bad_line(alloc, number, cause)?;
     Ok(None)
 }

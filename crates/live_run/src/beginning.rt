@@ -5,6 +5,9 @@ ghost use Rattle.net_base.specs.declared.world.Step.{Step as AnyStep};
 ghost use Rattle.net_base.specs.declared.world.Step.TheVariants as a_step;
 ghost use Rattle.net_base.specs.StepWords.{is_step};
 ghost use Rattle.net_base.specs.declared.world.World.{World as AnyWorld};
+ghost use Rattle.live_answers.specs.Speech.{Speech};
+ghost use Rattle.live_run.specs.Heard.{steps_in};
+ghost use Rattle.live_run.specs.Hearing.{Supplies};
 ghost use Rattle.live_run.specs.LiveRuns.{IsFreeScript, IsRest, IsResting};
 ghost use Rattle.live_run.specs.LiveWorlds.{Begins, Narrows};
 ghost use Rattle.grown_laws.specs.Grown.{grown, grown_scripts, longer};
@@ -21,24 +24,10 @@ use std::alloc::{AllocError, Global};
 pub fn grow(world: World, script: usize, step: Step) -> Result<World, AllocError>
     ensures { IfOk result (λ w. w ≡ grown world script (step ∷ [])) }
 {
-    let World {
-        end,
-        seed,
-        timers,
-        media,
-        hosts,
-        scripts,
-        dbs,
-    } = world;
-    let scripts = grow_script(scripts.into_vec(), script, step)?;
+    let scripts = grow_script(world.scripts.into_vec(), script, step)?;
     Ok(World {
-        end,
-        seed,
-        timers,
-        media,
-        hosts,
         scripts: Sequence::from_vec(scripts),
-        dbs,
+        ..world
     })
 }
 
@@ -65,6 +54,7 @@ pub fn begin(
     ensures rests { IfOk result (λ w. IsRest w rest.new) }
     ensures grown { IfOk result (Begins world rest.old.places.grows.items) }
     ensures narrows { OnOk result (Narrows rest.old.places.grows.items rest.new.places.grows.items) }
+    ensures heard { IfOk result (λ w. (s : Speech) → Supplies rest.old.places.grows.items world rest.old s w rest.new s) }
 {
     grown_is_world();
     next_events_stay();
@@ -72,6 +62,9 @@ pub fn begin(
     finished_steps_stay();
     resting_runs_grow();
     if !rest.places.may_grow(script) {
+        return Ok(world);
+    }
+    if !rest.places.can_begin(script) {
         return Ok(world);
     }
     let Some((step, by)) = rest.places.take_next(script) else {
@@ -94,7 +87,9 @@ struct Start {
 // A step that begins at this moment, as the step of this number of its script. `until` replaces it if its deadline is not later.
 fn start_of(alloc: Global, number: usize, step: Step, by: Option<u64>, now: u64) -> Start
     requires { is_step step ≡ true }
-    ensures { is_step result.step ≡ true }
+    ensures step { is_step result.step ≡ true }
+    ensures number { result.current.number ≡ number }
+    ensures stamps { result.current.stamps.items ≡ [] }
 {
     if let Some(late) = late_step(by, now) {
         let mut current = Current::new(alloc, number, &late);
@@ -163,24 +158,10 @@ pub fn replace_last(world: World, script: usize, step: Step) -> Result<World, Al
     ensures { IfOk result (λ w. (base : AnyWorld) (last : AnyStep) → world ≡ grown base script (last ∷ [])
         → script < length base.scripts → w ≡ grown base script (step ∷ [])) }
 {
-    let World {
-        end,
-        seed,
-        timers,
-        media,
-        hosts,
-        scripts,
-        dbs,
-    } = world;
-    let scripts = replace_last_in(scripts.into_vec(), script, step)?;
+    let scripts = replace_last_in(world.scripts.into_vec(), script, step)?;
     Ok(World {
-        end,
-        seed,
-        timers,
-        media,
-        hosts,
         scripts: Sequence::from_vec(scripts),
-        dbs,
+        ..world
     })
 }
 
@@ -220,6 +201,7 @@ pub fn begin_all(first: World, rest: &mut Rest) -> Result<World, AllocError>
     requires { IsResting first rest.old }
     ensures rests { IfOk result (λ w. IsResting w rest.new) }
     ensures grown { IfOk result (Begins first rest.old.places.grows.items) }
+    ensures history { rest.new.history ≡ rest.old.history }
 {
     let mut world = first;
     for script in 0..rest.places.seats.len() {
@@ -236,6 +218,7 @@ fn append(world: World, rest: &mut Rest, script: usize) -> Result<World, AllocEr
     ensures rests { IfOk result (λ w. IsResting w rest.new) }
     ensures grown { IfOk result (Begins world rest.old.places.grows.items) }
     ensures grows { rest.new.places.grows ≡ rest.old.places.grows }
+    ensures history { rest.new.history ≡ rest.old.history }
 {
     grown_is_world();
     next_events_stay();
@@ -252,7 +235,9 @@ fn append(world: World, rest: &mut Rest, script: usize) -> Result<World, AllocEr
 }
 
 // How many steps a script has.
-fn steps_of(world: &World, script: usize) -> usize {
+fn steps_of(world: &World, script: usize) -> usize
+    ensures { result ≡ steps_in world.now script }
+{
     match world.scripts.as_slice().get(script) {
         Some(script) => script.steps.len(),
         None => 0,

@@ -8,7 +8,7 @@ use std::alloc::{AllocError, Global};
 use transcript::{RunStatus, summary_by, text_of};
 use world_writer::write_world;
 
-/// The text that `check` reads.
+/// Returns the text that `check` reads.
 pub fn file_of(alloc: Global, live: &Live) -> Result<Octets, AllocError>
     requires { IsStatus live.now.world live.now.history live.now.end }
     ensures { IfOk result (λ text. text ≡ file_text live.now.world live.now.history) }
@@ -18,7 +18,7 @@ pub fn file_of(alloc: Global, live: &Live) -> Result<Octets, AllocError>
     text.append(text_of(alloc, &live.history)?.as_slice())?;
     let status = RunStatus {
         answered: live.end.answered,
-        end: live.end.end,
+        end: Some(live.end.end),
     };
     text.append(summary_by(alloc, &live.world, &live.history, status)?.as_slice())?;
     Ok(text)

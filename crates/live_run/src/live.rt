@@ -1,8 +1,10 @@
 //! A live run from its first line to its last.
-ghost use Rattle.std.specs.Prelude.{◌≡◌, IfOk, OnOk};
+ghost use Rattle.std.specs.Prelude.{◌≡◌, [], IfOk, OnOk};
 ghost use Rattle.net_base.specs.declared.world.World.{World as AnyWorld};
 ghost use Rattle.net_base.specs.World.{IsWorld};
 ghost use Rattle.live_run.specs.Deadlines.{AreNone};
+ghost use Rattle.live_answers.specs.Speech.{speech};
+ghost use Rattle.live_run.specs.Hearing.{Supplies, SuppliesBoth, Tells, is_ends};
 ghost use Rattle.live_run.specs.LiveRuns.{IsFree, IsLive, IsRest};
 ghost use Rattle.live_run.specs.LiveWorlds.{ArePlaces, Begins, GrownFrom, Narrows, Supplied};
 
@@ -27,16 +29,19 @@ pub struct Live {
     pub end: LiveEnd,
 }
 
-/// Plays a world to its end, in rounds, or in an order of turns that is drawn from a seed. Reads a line whenever nothing more can happen and a place waits for it.
+/// Plays a world to its end, in rounds, or in an order of turns that is drawn from a seed.
+///
+/// Reads a line whenever nothing more can happen and a place waits for it. The voice has said nothing yet.
 pub fn run_live<S: Source, K: Sink>(
     alloc: Global,
     first: World,
     seed: Option<u64>,
     reader: &mut LineReader<'_, S>,
-    voice: &mut Voice<'_, K>,
+    voice: &mut Voice<K>,
 ) -> Result<Live, AllocError>
     requires { IsWorld first }
-    ensures { IfOk result (IsLive first) }
+    ensures live { IfOk result (IsLive first) }
+    ensures told { IfOk result (λ l. Tells first l (speech K.held voice.old) (speech K.held voice.new)) }
 {
     let places = Places::new(alloc, &first)?;
     let given = places_of(alloc, &first)?;
@@ -66,7 +71,9 @@ pub fn run_live<S: Source, K: Sink>(
     Err(AllocError)
 }
 
-fn is_end(pause: &Pause) -> bool {
+fn is_end(pause: &Pause) -> bool
+    ensures { result ≡ is_ends pause.now }
+{
     match pause {
         Pause::Ends => true,
         _ => false,
@@ -89,13 +96,15 @@ fn supply<S: Source, K: Sink>(
     pause: Pause,
     given: &[bool],
     reader: &mut LineReader<'_, S>,
-    voice: &mut Voice<'_, K>,
+    voice: &mut Voice<K>,
 ) -> Result<World, AllocError>
     requires rest { IsRest world rest.old }
     requires free { IsFree world rest.old.run.history.entries pause }
     ensures rests { IfOk result (λ w. IsRest w rest.new) }
     ensures grown { IfOk result (Supplied world rest.old.places.grows.items given.now) }
     ensures narrows { OnOk result (Narrows rest.old.places.grows.items rest.new.places.grows.items) }
+    ensures heard { IfOk result (λ w. SuppliesBoth rest.old.places.grows.items given.now world rest.old (speech K.held voice.old)
+        w rest.new (speech K.held voice.new)) }
 {
     match pause {
         Pause::Begins(at) => begin(alloc, world, rest, at.caller),
@@ -112,12 +121,13 @@ fn read_on<S: Source, K: Sink>(
     rest: &mut Rest,
     given: &[bool],
     reader: &mut LineReader<'_, S>,
-    voice: &mut Voice<'_, K>,
+    voice: &mut Voice<K>,
 ) -> Result<World, AllocError>
     requires { IsRest world rest.old }
     ensures rests { IfOk result (λ w. IsRest w rest.new) }
     ensures grown { IfOk result (Begins world given.now) }
     ensures narrows { OnOk result (Narrows rest.old.places.grows.items rest.new.places.grows.items) }
+    ensures heard { IfOk result (λ w. Supplies given.now world rest.old (speech K.held voice.old) w rest.new (speech K.held voice.new)) }
 {
     match apply_next(alloc, &mut rest.places, reader, voice)? {
         Some(script) => withdraw(alloc, world, rest, script, given, voice),
@@ -139,6 +149,7 @@ fn first_rest(alloc: Global, world: &World, places: Places) -> Result<Rest, Allo
     requires deadlines { AreNone places.deadlines.items }
     ensures rests { IfOk result (IsRest world.now) }
     ensures places { IfOk result (λ rest. rest.places ≡ places) }
+    ensures empty { IfOk result (λ rest. rest.run.history.entries ≡ []) }
 {
     let runner = Runner::new(alloc, world)?;
     let run = runner.rest()?;
@@ -154,7 +165,8 @@ fn first_rest(alloc: Global, world: &World, places: Places) -> Result<Rest, Allo
 // The run with the steps that did not begin at the ends of its scripts.
 fn finish(alloc: Global, world: World, rest: Rest) -> Result<Live, AllocError>
     requires { IsRest world rest }
-    ensures { IfOk result (λ l. (first : AnyWorld) → GrownFrom first world → ArePlaces first rest.places.grows.items → IsLive first l) }
+    ensures live { IfOk result (λ l. (first : AnyWorld) → GrownFrom first world → ArePlaces first rest.places.grows.items → IsLive first l) }
+    ensures history { IfOk result (λ l. l.history ≡ rest.run.history.entries) }
 {
     let mut rest = rest;
     let world = begin_all(world, &mut rest)?;

@@ -1,9 +1,11 @@
 //! The places of a world.
-ghost use Rattle.std.specs.Prelude.{◌≡◌, ℕ, true, IfOk, IfSome, Some, slice_get, slice_set};
+ghost use Rattle.std.specs.Prelude.{◌≡◌, ◌≤◌, ℕ, true, IfOk, IfSome, Some, length, slice_get, slice_set};
+ghost use Rattle.live_run.specs.Currents.{AllNone, ChangesAt, HasNone, IsReplaced, IsUnheard};
 ghost use Rattle.live_run.specs.LiveWorlds.{ArePlaces, Narrows};
 ghost use Rattle.live_run.specs.Deadlines.{AreNone};
 ghost use Rattle.net_base.specs.StepWords.{is_step};
 
+use crate::currents::{no_currents, replace};
 use crate::place::Place;
 use live_answers::Current;
 use live_lines::{PlaceState, StepWord};
@@ -18,6 +20,8 @@ pub struct Places {
     /// For each script whose last step has no entry, a moment in ms that the clock does not pass before. It is not later than the
     /// deadline of the step, nor than the moment that the step waits for.
     pub deadlines: Vec<Option<u64>>,
+    /// For each script its current step, if it is a place with one.
+    pub currents: Vec<Option<Current>>,
     /// For each script its place, if it is one.
     pub seats: Vec<Option<Place>>,
     /// How many bytes the accepted step lines have, with their newlines.
@@ -29,13 +33,16 @@ impl Places {
     pub fn new(alloc: Global, world: &World) -> Result<Places, AllocError>
         ensures places { IfOk result (λ places. ArePlaces world.now places.grows.items) }
         ensures deadlines { IfOk result (λ places. AreNone places.deadlines.items) }
+        ensures currents { IfOk result (λ places. AllNone (length world.now.scripts) places.currents.items) }
     {
         let grows = places_of(alloc, world)?;
         let deadlines = no_deadlines(alloc, grows.len())?;
+        let currents = no_currents(alloc, world.scripts.len())?;
         let seats = seats_of(alloc, grows.as_slice())?;
         Ok(Places {
             grows,
             deadlines,
+            currents,
             seats,
             accepted: 0,
         })
@@ -64,18 +71,44 @@ impl Places {
 
     /// Whether a place waits for a line.
     pub fn is_some_idle(&self) -> bool {
-        for seat in &self.seats {
-            if is_idle(seat) {
+        for script in 0..self.seats.len() {
+            if self.is_idle(script) {
                 return true;
             }
         }
         false
     }
 
-    /// Whether the script of this number is a place whose next step can begin.
-    pub fn can_begin(&self, script: usize) -> bool {
+    fn is_idle(&self, script: usize) -> bool {
         match self.seats.get(script) {
-            Some(Some(place)) => place.can_begin(),
+            Some(Some(place)) => place.needs_line() && self.has_none(script),
+            _ => false,
+        }
+    }
+
+    /// Whether the script of this number is a place whose next step can begin.
+    pub fn can_begin(&self, script: usize) -> bool
+        ensures { result ≡ true → HasNone self.now.currents.items script }
+    {
+        self.count(script) != 0 && self.has_none(script)
+    }
+
+    // Whether a script has no current step.
+    fn has_none(&self, script: usize) -> bool
+        ensures { result ≡ true → HasNone self.now.currents.items script }
+    {
+        match self.currents.get(script) {
+            Some(Some(_)) => false,
+            _ => true,
+        }
+    }
+
+    /// Whether a script has a current step of which the history has no entry.
+    pub fn is_waiting(&self, script: usize) -> bool
+        ensures { result ≡ true → IsUnheard self.now.currents.items script }
+    {
+        match self.currents.get(script) {
+            Some(Some(current)) => current.is_waiting(),
             _ => false,
         }
     }
@@ -83,7 +116,10 @@ impl Places {
     /// What makes a line for this place invalid. `None` if it is no place.
     pub fn state(&self, script: u32) -> Option<PlaceState> {
         match self.seats.get(script as usize) {
-            Some(Some(place)) => Some(place.state()),
+            Some(Some(place)) => Some(PlaceState {
+                ended: place.ended,
+                waits: self.is_waiting(script as usize),
+            }),
             _ => None,
         }
     }
@@ -99,6 +135,7 @@ impl Places {
         requires { is_step step ≡ true }
         ensures grows { self.new.grows ≡ self.old.grows }
         ensures deadlines { self.new.deadlines ≡ self.old.deadlines }
+        ensures currents { self.new.currents ≡ self.old.currents }
     {
         if let Some(Some(place)) = self.seats.get_mut(script as usize) {
             place.queue.push(step, by)?;
@@ -114,6 +151,7 @@ impl Places {
     pub fn end(&mut self, script: usize)
         ensures narrows { Narrows self.old.grows.items self.new.grows.items }
         ensures deadlines { self.new.deadlines ≡ self.old.deadlines }
+        ensures currents { self.new.currents ≡ self.old.currents }
     {
         if let Some(Some(place)) = self.seats.get_mut(script) {
             place.ended = true;
@@ -125,6 +163,7 @@ impl Places {
     pub fn end_all(&mut self)
         ensures narrows { Narrows self.old.grows.items self.new.grows.items }
         ensures deadlines { self.new.deadlines ≡ self.old.deadlines }
+        ensures currents { self.new.currents ≡ self.old.currents }
     {
         for script in 0..self.seats.len() {
             self.end(script);
@@ -136,6 +175,7 @@ impl Places {
     fn lower(&mut self, script: usize)
         ensures narrows { Narrows self.old.grows.items self.new.grows.items }
         ensures deadlines { self.new.deadlines ≡ self.old.deadlines }
+        ensures currents { self.new.currents ≡ self.old.currents }
     {
         if self.can_grow(script) {
             return;
@@ -165,6 +205,7 @@ impl Places {
         ensures step { IfSome result (λ taken. is_step taken.0 ≡ true) }
         ensures grows { self.new.grows ≡ self.old.grows }
         ensures deadlines { self.new.deadlines ≡ self.old.deadlines }
+        ensures currents { self.new.currents ≡ self.old.currents }
     {
         match self.seats.get_mut(script) {
             Some(Some(place)) => place.queue.pop(),
@@ -176,10 +217,9 @@ impl Places {
     pub fn begin(&mut self, script: usize, current: Current)
         ensures narrows { Narrows self.old.grows.items self.new.grows.items }
         ensures deadlines { self.new.deadlines ≡ self.old.deadlines }
+        ensures currents { self.new.currents.items ≡ slice_set self.old.currents.items script (Some current) }
     {
-        if let Some(Some(place)) = self.seats.get_mut(script) {
-            place.begin(current);
-        }
+        set(&mut self.currents, script, Some(current));
         self.lower(script);
     }
 
@@ -187,28 +227,26 @@ impl Places {
     pub fn replace(&mut self, script: usize, word: StepWord)
         ensures grows { self.new.grows ≡ self.old.grows }
         ensures deadlines { self.new.deadlines ≡ self.old.deadlines }
+        ensures currents { ChangesAt self.old.currents.items self.new.currents.items script IsReplaced }
     {
-        if let Some(Some(place)) = self.seats.get_mut(script) {
-            place.replace(word);
-        }
+        replace(&mut self.currents, script, word);
     }
 
     /// The current step of a place is removed.
     pub fn remove(&mut self, script: usize)
         ensures grows { self.new.grows ≡ self.old.grows }
         ensures deadlines { self.new.deadlines ≡ self.old.deadlines }
+        ensures currents { self.new.currents.items ≡ slice_set self.old.currents.items script None }
     {
-        if let Some(Some(place)) = self.seats.get_mut(script) {
-            place.remove();
-        }
+        set(&mut self.currents, script, None);
     }
 
     /// The place whose deadline comes first, if it comes by this moment in ms.
     pub fn first_due(&self, moment: u64) -> Option<usize> {
         let mut first = None;
         let mut least = moment;
-        for (script, seat) in self.seats.iter().enumerate() {
-            if let Some(last) = due_of(seat) {
+        for (script, current) in self.currents.iter().enumerate() {
+            if let Some(last) = due_of(current) {
                 if last < least || (last == least && first.is_none()) {
                     first = Some(script);
                     least = last;
@@ -232,6 +270,7 @@ impl Places {
     pub fn set_deadline(&mut self, script: usize, deadline: Option<u64>)
         ensures deadlines { self.new.deadlines.items ≡ slice_set self.old.deadlines.items script deadline }
         ensures grows { self.new.grows ≡ self.old.grows }
+        ensures currents { self.new.currents ≡ self.old.currents }
     {
         if let Some(place) = self.deadlines.get_mut(script) {
             *place = deadline;
@@ -240,7 +279,9 @@ impl Places {
 }
 
 /// The number of a place as lines have it. A world has at most 32 scripts.
-pub fn place_number(script: usize) -> u32 {
+pub fn place_number(script: usize) -> u32
+    ensures { script ≤ 4294967295 → result ≡ script }
+{
     u32::try_from(script).unwrap_or(u32::MAX)
 }
 
@@ -283,16 +324,17 @@ fn seat(alloc: Global, is_place: bool) -> Option<Place> {
     }
 }
 
-fn due_of(seat: &Option<Place>) -> Option<u64> {
-    match seat {
-        Some(place) => place.due(),
+fn due_of(current: &Option<Current>) -> Option<u64> {
+    match current {
+        Some(current) => current.due(),
         None => None,
     }
 }
 
-fn is_idle(seat: &Option<Place>) -> bool {
-    match seat {
-        Some(place) => place.is_idle(),
-        None => false,
+fn set(currents: &mut Vec<Option<Current>>, script: usize, current: Option<Current>)
+    ensures { currents.new.items ≡ slice_set currents.old.items script current }
+{
+    if let Some(place) = currents.get_mut(script) {
+        *place = current;
     }
 }

@@ -1,5 +1,8 @@
 //! Plays rounds until a place needs something, or the run ends.
-ghost use Rattle.std.specs.Prelude.{◌≡◌, true, IfOk, IfSome, OnOk};
+ghost use Rattle.std.specs.Prelude.{◌≡◌, ◌<◌, length, true, IfOk, IfSome, OnOk};
+ghost use Rattle.net_base.specs.Net.{moment as spec_moment};
+ghost use Rattle.live_answers.specs.Speech.{speech};
+ghost use Rattle.live_run.specs.Hearing.{Comes, Pauses, PausesIf, ReportsOne, ReportsRest};
 ghost use Rattle.live_run.specs.LiveRuns.{IsFree, IsFreeScript, IsRest, IsRunning, IsStatus};
 ghost use Rattle.live_run.specs.LiveWorlds.{Narrows};
 ghost use Rattle.plain_runner.specs.Resting.{Rests};
@@ -55,7 +58,7 @@ pub enum Pause {
 /// The end of a run.
 #[derive(Clone, Copy)]
 pub struct LiveEnd {
-    pub end: Option<RunEnd>,
+    pub end: RunEnd,
     /// How many steps of all scripts are answered.
     pub answered: u128,
     /// When, in ms.
@@ -78,12 +81,13 @@ pub fn play<K: Sink>(
     rest: Rest,
     at: At,
     order: &mut Order,
-    voice: &mut Voice<'_, K>,
+    voice: &mut Voice<K>,
 ) -> Result<(Rest, Pause), AllocError>
     requires { IsRest world.now rest }
     ensures rests { IfOk result (λ r. IsRest world.now r.0) }
     ensures narrows { IfOk result (λ r. Narrows rest.places.grows.items r.0.places.grows.items) }
     ensures free { IfOk result (λ r. IsFree world.now r.0.run.history.entries r.1) }
+    ensures heard { IfOk result (λ r. Comes world.now rest r.0 (speech K.held voice.old) (speech K.held voice.new) r.1) }
 {
     let Rest {
         run,
@@ -122,12 +126,13 @@ fn play_turns<K: Sink>(
     round: &mut Round<'_>,
     from: At,
     order: &mut Order,
-    voice: &mut Voice<'_, K>,
+    voice: &mut Voice<K>,
 ) -> Result<Pause, AllocError>
     requires { IsRunning world.now round.old }
     ensures running { OnOk result (IsRunning world.now round.new) }
     ensures narrows { Narrows round.old.places.grows.items round.new.places.grows.items }
     ensures free { IfOk result (IsFree world.now round.new.runner.history.entries) }
+    ensures heard { IfOk result (Pauses world.now round.old round.new (speech K.held voice.old) (speech K.held voice.new)) }
 {
     match order {
         Order::Rounds => play_rounds(alloc, world, round, from, voice),
@@ -141,12 +146,13 @@ fn play_drawn<K: Sink>(
     world: &World,
     round: &mut Round<'_>,
     ranks: &mut Ranks,
-    voice: &mut Voice<'_, K>,
+    voice: &mut Voice<K>,
 ) -> Result<Pause, AllocError>
     requires { IsRunning world.now round.old }
     ensures running { OnOk result (IsRunning world.now round.new) }
     ensures narrows { Narrows round.old.places.grows.items round.new.places.grows.items }
     ensures free { IfOk result (IsFree world.now round.new.runner.history.entries) }
+    ensures heard { IfOk result (Pauses world.now round.old round.new (speech K.held voice.old) (speech K.held voice.new)) }
 {
     for _ in 0..u64::MAX {
         if let Some(caller) = first_to_begin(world, round) {
@@ -193,12 +199,13 @@ fn play_rounds<K: Sink>(
     world: &World,
     round: &mut Round<'_>,
     from: At,
-    voice: &mut Voice<'_, K>,
+    voice: &mut Voice<K>,
 ) -> Result<Pause, AllocError>
     requires { IsRunning world.now round.old }
     ensures running { OnOk result (IsRunning world.now round.new) }
     ensures narrows { Narrows round.old.places.grows.items round.new.places.grows.items }
     ensures free { IfOk result (IsFree world.now round.new.runner.history.entries) }
+    ensures heard { IfOk result (Pauses world.now round.old round.new (speech K.held voice.old) (speech K.held voice.new)) }
 {
     let mut at = from;
     for _ in 0..u64::MAX {
@@ -230,12 +237,13 @@ fn end_round<K: Sink>(
     alloc: Global,
     world: &World,
     round: &mut Round<'_>,
-    voice: &mut Voice<'_, K>,
+    voice: &mut Voice<K>,
 ) -> Result<Option<Pause>, AllocError>
     requires { IsRunning world.now round.old }
     ensures running { OnOk result (IsRunning world.now round.new) }
     ensures narrows { Narrows round.old.places.grows.items round.new.places.grows.items }
     ensures free { IfOk result (λ pause. IfSome pause (IsFree world.now round.new.runner.history.entries)) }
+    ensures heard { IfOk result (PausesIf world.now round.old round.new (speech K.held voice.old) (speech K.held voice.new)) }
 {
     end_unheard(world, round, voice.has_failed());
     if round.places.is_some_idle() {
@@ -256,6 +264,8 @@ fn end_unheard(world: &World, round: &mut Round<'_>, failed: bool)
     requires { IsRunning world.now round.old }
     ensures running { IsRunning world.now round.new }
     ensures narrows { Narrows round.old.places.grows.items round.new.places.grows.items }
+    ensures runner { round.new.runner ≡ round.old.runner }
+    ensures currents { round.new.places.currents ≡ round.old.places.currents }
 {
     if failed {
         round.places.end_all();
@@ -275,27 +285,53 @@ fn is_free(world: &World, runner: &Runner<'_>, script: usize) -> bool
 fn report_unanswered<K: Sink>(
     alloc: Global,
     round: &Round<'_>,
-    voice: &mut Voice<'_, K>,
-) -> Result<(), AllocError> {
+    voice: &mut Voice<K>,
+) -> Result<(), AllocError>
+    ensures { OnOk result (ReportsRest round.now (speech K.held voice.old) (speech K.held voice.new)) }
+{
     let moment = round.runner.moment;
-    for (number, seat) in round.places.seats.iter().enumerate() {
-        if let Some(place) = seat {
-            if let Some(step) = &place.current {
-                voice.say_unanswered(alloc, place_number(number), moment, step, &round.history)?;
-            }
-        }
+    for number in 0..round.places.currents.len() {
+        report_rest(alloc, round, number, moment, voice)?;
     }
     Ok(())
+}
+
+// Reports the current step of a script, if there is one.
+fn report_rest<K: Sink>(
+    alloc: Global,
+    round: &Round<'_>,
+    script: usize,
+    moment: u64,
+    voice: &mut Voice<K>,
+) -> Result<(), AllocError>
+    requires { script < length round.now.places.currents.items }
+    ensures { OnOk result (ReportsOne round.now script (speech K.held voice.old) (speech K.held voice.new)) }
+{
+    match &round.places.currents[script] {
+        Some(step) => voice.say_unanswered(
+            alloc,
+            place_number(script),
+            moment,
+            step,
+            &round.history,
+        ),
+        None => Ok(()),
+    }
 }
 
 /// How a run ends at which it rests.
 pub fn end_of(world: &World, run: Resting) -> Result<LiveEnd, AllocError>
     requires { Rests world.now run }
-    ensures { IfOk result (IsStatus world.now run.history.entries) }
+    ensures status { IfOk result (IsStatus world.now run.history.entries) }
+    ensures moment { IfOk result (λ e. e.moment ≡ spec_moment world.now run.history.entries) }
 {
     let runner = run.resume(world)?;
+    // The run pauses for its end only after nothing more can happen, so this does not happen.
+    let Some(end) = runner.end(world) else {
+        return Err(AllocError);
+    };
     Ok(LiveEnd {
-        end: runner.end(world),
+        end,
         answered: runner.answered(world),
         moment: runner.moment,
     })

@@ -1,15 +1,18 @@
 //! A run of a world between two lines of input.
-ghost use Rattle.std.specs.Prelude.{◌≡◌, ◌&&◌, not, ◌<◌, ◌≤◌, ◌+◌, ◌==◌, ◌++◌, ◌∷◌, ℕ, [], length, true, false, Some, IfSome, OnOk};
+ghost use Rattle.std.specs.Prelude.{◌≡◌, ◌&&◌, not, ◌<◌, ◌≤◌, ◌+◌, ◌==◌, ◌++◌, ◌∷◌, ℕ, [], length, true, false, Some, slice_get, IfSome, OnOk};
+ghost use Rattle.net_base.specs.declared.world.Script.{Script as AnyScript};
 ghost use Rattle.net_base.specs.declared.world.World.{World as AnyWorld};
 ghost use Rattle.net_base.specs.Next.{is_unfinished, next_recorded};
 ghost use Rattle.plain_runner.specs.Tracks.{Tracks};
 ghost use Rattle.live_run.specs.Deadlines.{AllowsMove, AllowsOne};
+ghost use Rattle.live_answers.specs.Speech.{speech};
+ghost use Rattle.live_run.specs.Hearing.{Hears, HearsEntry, ReportsStep};
 ghost use Rattle.live_run.specs.LiveRuns.{AreHeld, HasLeft, IsRunning};
 ghost use Rattle.net_base.specs.Calm.{awaited_moment, owes};
 ghost use Rattle.net_base.specs.Net.{after};
 ghost use Rattle.plain_runner.specs.Turns.{asks_of};
 
-use crate::place::Place;
+use crate::currents::{note, take};
 use crate::places::{Places, place_number};
 use grown_laws::{next_events_stay, unfinished_scripts_ask};
 use history_laws::calm_is_that_nobody_could;
@@ -37,12 +40,13 @@ pub fn take_ready_turn<K: Sink>(
     world: &World,
     round: &mut Round<'_>,
     caller: usize,
-    voice: &mut Voice<'_, K>,
+    voice: &mut Voice<K>,
 ) -> Result<bool, AllocError>
     requires running { IsRunning world.now round.old }
     requires caller { caller < length round.old.runner.callers.items }
     ensures running { OnOk result (IsRunning world.now round.new) }
     ensures grows { round.new.places.grows ≡ round.old.places.grows }
+    ensures heard { OnOk result (Hears world.now round.old round.new (speech K.held voice.old) (speech K.held voice.new)) }
 {
     calm_is_that_nobody_could();
     callers_that_come();
@@ -59,7 +63,7 @@ pub fn take_ready_turn<K: Sink>(
         alloc,
         &round.runner,
         &mut round.history,
-        &mut round.places.seats,
+        &mut round.places.currents,
         caller,
         entry,
         voice,
@@ -83,11 +87,12 @@ pub fn take_move<K: Sink>(
     alloc: Global,
     world: &World,
     round: &mut Round<'_>,
-    voice: &mut Voice<'_, K>,
+    voice: &mut Voice<K>,
 ) -> Result<Moved, AllocError>
     requires { IsRunning world.now round.old }
     ensures running { OnOk result (IsRunning world.now round.new) }
     ensures grows { round.new.places.grows ≡ round.old.places.grows }
+    ensures heard { OnOk result (Hears world.now round.old round.new (speech K.held voice.old) (speech K.held voice.new)) }
 {
     next_events_stay();
     let Some(clock) = clock_of(&round.runner) else {
@@ -113,7 +118,7 @@ pub fn take_move<K: Sink>(
         alloc,
         &round.runner,
         &mut round.history,
-        &mut round.places.seats,
+        &mut round.places.currents,
         clock,
         entry,
         voice,
@@ -248,39 +253,58 @@ fn hear<K: Sink>(
     alloc: Global,
     runner: &Runner<'_>,
     history: &mut History,
-    seats: &mut Vec<Option<Place>>,
+    currents: &mut Vec<Option<Current>>,
     caller: usize,
     entry: Entry,
-    voice: &mut Voice<'_, K>,
+    voice: &mut Voice<K>,
 ) -> Result<(), AllocError>
     requires { caller < length runner.now.callers.items }
-    ensures { OnOk result (history.new ≡ history.old ++ entry ∷ []) }
+    ensures history { OnOk result (history.new ≡ history.old ++ entry ∷ []) }
+    ensures heard { OnOk result (HearsEntry runner.now caller entry history.old history.new currents.old.items currents.new.items
+        (speech K.held voice.old) (speech K.held voice.new)) }
 {
-    note(seats, caller, history.len(), &entry)?;
+    note(currents, caller, history.len(), &entry)?;
     history.push(entry)?;
-    let Some(step) = completed(seats, caller, runner.answered_by(caller)) else {
-        return Ok(());
-    };
-    voice.say_complete(alloc, place_number(caller), runner.moment, &step, history)
+    report(alloc, runner, history, currents, caller, voice)
 }
 
-// Notes the entry of a place.
-fn note(
-    seats: &mut Vec<Option<Place>>,
+// Reports the current step of a caller, if it is complete.
+fn report<K: Sink>(
+    alloc: Global,
+    runner: &Runner<'_>,
+    history: &History,
+    currents: &mut Vec<Option<Current>>,
     caller: usize,
-    stamp: usize,
-    entry: &Entry,
-) -> Result<(), AllocError> {
-    match seats.get_mut(caller) {
-        Some(Some(place)) => place.note(stamp, entry),
-        _ => Ok(()),
+    voice: &mut Voice<K>,
+) -> Result<(), AllocError>
+    requires { caller < length runner.now.callers.items }
+    ensures { OnOk result (ReportsStep runner.now history.now currents.old.items currents.new.items
+        (speech K.held voice.old) (speech K.held voice.new)) }
+{
+    unfinished_scripts_ask();
+    if !is_through(runner, caller) {
+        return Ok(());
+    }
+    match take(currents, caller) {
+        Some(step) => voice.say_complete(
+            alloc,
+            place_number(caller),
+            runner.moment,
+            &step,
+            history,
+        ),
+        None => Ok(()),
     }
 }
 
-// Takes the step of a place that is complete.
-fn completed(seats: &mut Vec<Option<Place>>, caller: usize, answered: usize) -> Option<Current> {
-    match seats.get_mut(caller) {
-        Some(Some(place)) => place.complete(answered),
-        _ => None,
+// Whether a script has no unfinished step and no follow-up event.
+fn is_through(runner: &Runner<'_>, caller: usize) -> bool
+    requires { caller < length runner.now.callers.items }
+    ensures { result ≡ true → (w : AnyWorld) (s : AnyScript) → Tracks w runner.now → slice_get w.scripts caller ≡ Some s
+        → is_unfinished w runner.now.history.entries caller s ≡ false }
+{
+    if runner.owes(caller) {
+        return false;
     }
+    !runner.has_left(caller)
 }

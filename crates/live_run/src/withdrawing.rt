@@ -1,9 +1,11 @@
 //! A step without events is withdrawn: by its deadline, or by a `cancel`.
-ghost use Rattle.std.specs.Prelude.{◌≡◌, ◌<◌, ◌∷◌, List, [], length, true, IfOk, OnOk, Some, slice_get};
+ghost use Rattle.std.specs.Prelude.{◌≡◌, ◌<◌, ◌∷◌, List, [], length, true, IfOk, IfSome, OnOk, Some, slice_get};
 ghost use Rattle.net_base.specs.declared.world.Script.{Script as AnyScript};
 ghost use Rattle.net_base.specs.declared.world.Step.{Step as AnyStep};
 ghost use Rattle.net_base.specs.declared.world.World.{World as AnyWorld};
-ghost use Rattle.live_run.specs.LiveRuns.{IsRest};
+ghost use Rattle.live_answers.specs.Speech.{Speech, speech};
+ghost use Rattle.live_run.specs.Hearing.{Supplies};
+ghost use Rattle.live_run.specs.LiveRuns.{CanWithdraw, IsRest};
 ghost use Rattle.live_run.specs.LiveWorlds.{Begins};
 ghost use Rattle.grown_laws.specs.Grown.{grown, grown_scripts, longer};
 
@@ -33,6 +35,7 @@ pub fn replace_late(
     ensures rests { IfOk result (λ w. IsRest w rest.new) }
     ensures grown { IfOk result (Begins world places.now) }
     ensures grows { OnOk result (rest.new.places.grows ≡ rest.old.places.grows) }
+    ensures heard { IfOk result (λ w. (s : Speech) → Supplies places.now world rest.old s w rest.new s) }
 {
     match rest.places.deadline(script) {
         Some(last) => replace(world, rest, script, last, StepWord::Late, places),
@@ -50,17 +53,17 @@ pub fn withdraw<K: Sink>(
     rest: &mut Rest,
     script: usize,
     places: &[bool],
-    voice: &mut Voice<'_, K>,
+    voice: &mut Voice<K>,
 ) -> Result<World, AllocError>
     requires { IsRest world rest.old }
     ensures rests { IfOk result (λ w. IsRest w rest.new) }
     ensures grown { IfOk result (Begins world places.now) }
     ensures grows { OnOk result (rest.new.places.grows ≡ rest.old.places.grows) }
+    ensures heard { IfOk result (λ w. Supplies places.now world rest.old (speech K.held voice.old) w rest.new (speech K.held voice.new)) }
 {
     let now = rest.moved;
     if now == 0 {
-        voice.say_removed(alloc, place_number(script))?;
-        return remove(world, rest, script, places);
+        return remove(alloc, world, rest, script, places, voice);
     }
     replace(world, rest, script, now, StepWord::Cancelled, places)
 }
@@ -80,6 +83,7 @@ fn replace(
     ensures rests { IfOk result (λ w. IsRest w rest.new) }
     ensures grown { IfOk result (Begins world places.now) }
     ensures grows { rest.new.places.grows ≡ rest.old.places.grows }
+    ensures heard { IfOk result (λ w. (s : Speech) → Supplies places.now world rest.old s w rest.new s) }
 {
     grown_is_world();
     next_events_stay();
@@ -87,10 +91,7 @@ fn replace(
     waiting_is_timed();
     deadlines_are_timed();
     moments_rise();
-    if !is_among(places, script) {
-        return Ok(world);
-    }
-    let Some(last) = rest.places.deadline(script) else {
+    let Some(last) = withdrawn(rest, script, places) else {
         return Ok(world);
     };
     if last < moment || moment < rest.moved {
@@ -99,45 +100,56 @@ fn replace(
     let Some(step) = until(moment) else {
         return Ok(world);
     };
-    if rest.run.callers.len() <= script {
-        return Ok(world);
-    }
     rest.run.forget(script);
     rest.places.set_deadline(script, None);
     rest.places.replace(script, word);
     replace_last(world, script, step)
 }
 
-// Removes the last step of a place, of which the history has no event. The clock has not moved.
-fn remove(
+// Removes the last step of a place, of which the history has no event, and reports it. The clock has not moved.
+fn remove<K: Sink>(
+    alloc: Global,
     world: World,
     rest: &mut Rest,
     script: usize,
     places: &[bool],
+    voice: &mut Voice<K>,
 ) -> Result<World, AllocError>
     requires { IsRest world rest.old }
     ensures rests { IfOk result (λ w. IsRest w rest.new) }
     ensures grown { IfOk result (Begins world places.now) }
-    ensures grows { rest.new.places.grows ≡ rest.old.places.grows }
+    ensures grows { OnOk result (rest.new.places.grows ≡ rest.old.places.grows) }
+    ensures heard { IfOk result (λ w. Supplies places.now world rest.old (speech K.held voice.old) w rest.new (speech K.held voice.new)) }
 {
     nets_are_alike();
     moments_rise();
-    if !is_among(places, script) {
-        return Ok(world);
-    }
-    let Some(_limit) = rest.places.deadline(script) else {
+    let Some(_limit) = withdrawn(rest, script, places) else {
         return Ok(world);
     };
     if rest.moved != 0 {
         return Ok(world);
     }
-    if rest.run.callers.len() <= script {
-        return Ok(world);
-    }
+    voice.say_removed(alloc, place_number(script))?;
     rest.run.forget(script);
     rest.places.set_deadline(script, None);
     rest.places.remove(script);
     Ok(drop_last(world, script))
+}
+
+// The moment that the clock does not pass before the current step of one of these places has an entry, if the step can be withdrawn.
+fn withdrawn(rest: &Rest, script: usize, places: &[bool]) -> Option<u64>
+    ensures { IfSome result (CanWithdraw rest.now places.now script) }
+{
+    if !is_among(places, script) {
+        return None;
+    }
+    if rest.run.callers.len() <= script {
+        return None;
+    }
+    if !rest.places.is_waiting(script) {
+        return None;
+    }
+    rest.places.deadline(script)
 }
 
 // Whether a script is one of these places.
@@ -155,24 +167,10 @@ fn drop_last(world: World, script: usize) -> World
     ensures { (base : AnyWorld) (last : AnyStep) → world ≡ grown base script (last ∷ [])
         → script < length base.scripts → result ≡ grown base script [] }
 {
-    let World {
-        end,
-        seed,
-        timers,
-        media,
-        hosts,
-        scripts,
-        dbs,
-    } = world;
-    let scripts = drop_last_in(scripts.into_vec(), script);
+    let scripts = drop_last_in(world.scripts.into_vec(), script);
     World {
-        end,
-        seed,
-        timers,
-        media,
-        hosts,
         scripts: Sequence::from_vec(scripts),
-        dbs,
+        ..world
     }
 }
 

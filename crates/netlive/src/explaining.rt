@@ -1,6 +1,6 @@
 //! What the program writes on standard error.
 
-use diagnosis::{Call, Case, Kept, Program, Seen, explain};
+use diagnosis::{Call, Case, Explanation, Kept, Program, Seen, explain};
 use std::alloc::{AllocError, Global};
 use std::io::Eprint;
 
@@ -14,6 +14,16 @@ pub fn tell_usage_note<R: Eprint>(rt: &R) {
 /// Reports a world that cannot be opened.
 pub fn tell_no_world<R: Eprint>(rt: &R, path: &str) {
     let _ = eprintln!(rt; "netlive: the world file {path} cannot be opened");
+}
+
+/// Reports a world that cannot be read.
+pub fn tell_unread_world<R: Eprint>(rt: &R, path: &str) {
+    let _ = eprintln!(rt; "netlive: the world file {path} cannot be read");
+}
+
+/// Reports a file OUT that is the world file.
+pub fn tell_same_file<R: Eprint>(rt: &R, path: &str) {
+    let _ = eprintln!(rt; "netlive: OUT would replace the world file {path}: give it another name");
 }
 
 /// Reports a file OUT that cannot be created.
@@ -32,16 +42,26 @@ pub fn tell_bad_world<R: Eprint>(
     let Ok(words) = run_words(alloc) else {
         return;
     };
-    let explanation = explain(Call {
-        program: Program::Netsh,
-        words: words.as_slice(),
-        kept,
-        seen,
-        status,
-    });
+    let explanation = explain_run(words.as_slice(), kept, seen, status);
     if explanation.case != Case::Nothing {
         let _ = eprintln!(rt; "netlive: {explanation}");
     }
+}
+
+fn explain_run<'a>(
+    words: &'a [String],
+    kept: Kept<'a>,
+    seen: Seen<'a>,
+    status: u8,
+) -> Explanation<'a> {
+    explain(Call {
+        program: Program::Netsh,
+        words,
+        kept,
+        seen,
+        status,
+        expected: None,
+    })
 }
 
 fn run_words(alloc: Global) -> Result<Vec<String>, AllocError> {

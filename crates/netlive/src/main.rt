@@ -7,10 +7,12 @@ mod top;
 
 use crate::command::read_command;
 use crate::explaining::{
-    tell_bad_world, tell_end, tell_no_memory, tell_no_out, tell_no_world, tell_usage_note,
+    tell_bad_world, tell_end, tell_no_memory, tell_no_out, tell_no_world, tell_same_file,
+    tell_unread_world, tell_usage_note,
 };
 use crate::top::{read_given, serve};
 use diagnosis::{KeptSource, SeenSink};
+use live_answers::Voice;
 use net_model::{tell_answer, tell_usage, words_after_path};
 use outside::{ReadSource, StdSink, StdSource, TakeError, WriteSink};
 use std::fs::File;
@@ -21,6 +23,9 @@ const NO_MEMORY: u8 = 8;
 
 /// The status where OUT cannot be created.
 const NOT_WRITTEN: u8 = 7;
+
+/// The status where WORLD cannot be read.
+const NOT_READ: u8 = 6;
 
 /// A file that has no bytes. If a standard stream is closed, it takes the place of the stream, so that OUT cannot.
 const EMPTY: &str = "/dev/null";
@@ -48,11 +53,19 @@ fn main(rt: HostRuntime) -> ExitCode {
     let mut given = KeptSource::new(rt.alloc(), ReadSource::new(file));
     let world = match read_given(rt.alloc(), &mut given, &mut sink) {
         Ok(world) => world,
+        Err(NOT_READ) => {
+            tell_unread_world(&rt, command.world);
+            return ExitCode::from(NOT_READ);
+        }
         Err(status) => {
             tell_bad_world(&rt, rt.alloc(), given.kept(), sink.seen(), status);
             return ExitCode::from(status);
         }
     };
+    if command.out == command.world {
+        tell_same_file(&rt, command.out);
+        return ExitCode::from(NOT_WRITTEN);
+    }
     let opened = File::options()
         .write(true)
         .create(true)
@@ -64,13 +77,13 @@ fn main(rt: HostRuntime) -> ExitCode {
     };
     let mut out = WriteSink::new(file);
     let mut source = StdSource::new(rt.stdin());
-    let mut lines = StdSink::new(rt.stdout());
+    let mut voice = Voice::new(StdSink::new(rt.stdout()));
     let status = serve(
         rt.alloc(),
         world,
         command.seed,
         &mut source,
-        &mut lines,
+        &mut voice,
         &mut out,
     );
     tell_end(&rt, command.out, status);

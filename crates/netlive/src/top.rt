@@ -1,14 +1,16 @@
 //! A live run from its world to OUT and the status.
-ghost use Rattle.std.specs.Prelude.{◌≡◌, IfOk};
+ghost use Rattle.std.specs.Prelude.{◌≡◌, ℕ, List, Option, IfOk};
 ghost use Rattle.net_base.specs.declared.world.World.{World as AnyWorld};
 ghost use Rattle.net_base.specs.World.{IsWorld};
+ghost use Rattle.live_answers.specs.Speech.{speech};
+ghost use Rattle.live_run.specs.Heard.{AreTold};
 ghost use Rattle.live_run.specs.LiveRuns.{IsLive, IsStatus};
 ghost use Rattle.netlive.specs.Ends as spec;
-ghost use Rattle.netlive.specs.Ends.{Ends};
+ghost use Rattle.netlive.specs.Ends.{Ends, IsFresh};
 
 use live_answers::Voice;
 use live_lines::LineReader;
-use live_run::{Live, file_of, run_live};
+use live_run::{Live, LiveEnd, file_of, run_live};
 use net_base::{RunEnd, World};
 use net_model::{Answer, tell_answer};
 use outside::{Sink, Source, TakeError, read_to_end, write_all};
@@ -45,30 +47,31 @@ fn refuse<K: Sink>(alloc: Global, sink: &mut K, line: u64, cause: u32) -> u8 {
     }
 }
 
-/// Plays a world with the lines of a source, in rounds or in an order of turns that is drawn from a seed, reports on a sink, writes OUT, and gives the status.
+/// Plays a world with the lines of a source, in rounds or in an order of turns that is drawn from a seed. Reports by a voice, writes OUT,
+/// and gives the status.
 pub fn serve<S: Source, K: Sink, O: Sink>(
     alloc: Global,
     world: World,
     seed: Option<u64>,
     source: &mut S,
-    sink: &mut K,
+    voice: &mut Voice<K>,
     out: &mut O,
 ) -> u8
-    requires { IsWorld world }
+    requires world { IsWorld world }
+    requires fresh { IsFresh (speech K.held voice.old) }
     ensures { Ends world
         (record {
           held = O.held out.old;
           holds = O.held out.new;
           before = O.faults out.old;
           after = O.faults out.new;
-        }) result }
+        }) (K.held voice.old.sink) (speech K.held voice.new) result }
 {
     let mut reader = LineReader::new(source);
-    let mut voice = Voice::new(sink);
-    let Ok(ended) = run_live(alloc, world, seed, &mut reader, &mut voice) else {
+    let Ok(ended) = run_live(alloc, world, seed, &mut reader, voice) else {
         return 8;
     };
-    tell_run(alloc, &ended, reader.has_failed(), &mut voice, out)
+    tell_run(alloc, &ended, reader.has_failed(), voice, out)
 }
 
 // Writes OUT, and then the last line. Gives the status.
@@ -76,17 +79,18 @@ fn tell_run<K: Sink, O: Sink>(
     alloc: Global,
     ended: &Live,
     unread: bool,
-    voice: &mut Voice<'_, K>,
+    voice: &mut Voice<K>,
     out: &mut O,
 ) -> u8
     requires { IsStatus ended.now.world ended.now.history ended.now.end }
-    ensures { (first : AnyWorld) → IsLive first ended.now → Ends first
+    ensures { (first : AnyWorld) (before : Option (List ℕ)) → IsLive first ended.now
+        → AreTold first before ended.now.history (speech K.held voice.old) → Ends first
         (record {
           held = O.held out.old;
           holds = O.held out.new;
           before = O.faults out.old;
           after = O.faults out.new;
-        }) result }
+        }) before (speech K.held voice.new) result }
 {
     let Ok(text) = file_of(alloc, ended) else {
         return 8;
@@ -94,25 +98,14 @@ fn tell_run<K: Sink, O: Sink>(
     if write_all(out, text.as_slice()).is_err() {
         return 7;
     }
-    if say_end(alloc, ended, voice).is_err() {
+    let LiveEnd { end, moment, .. } = ended.end;
+    if voice.say_end(alloc, end, moment).is_err() {
         return 8;
     }
-    final_status(ended.end.end, unread, voice.has_failed())
+    final_status(end, unread, voice.has_failed())
 }
 
-// Writes the last line.
-fn say_end<K: Sink>(
-    alloc: Global,
-    ended: &Live,
-    voice: &mut Voice<'_, K>,
-) -> Result<(), AllocError> {
-    match ended.end.end {
-        Some(end) => voice.say_end(alloc, end, ended.end.moment),
-        None => Ok(()),
-    }
-}
-
-fn final_status(end: Option<RunEnd>, unread: bool, unwritten: bool) -> u8
+fn final_status(end: RunEnd, unread: bool, unwritten: bool) -> u8
     ensures { result ≡ spec.final_status end unread unwritten }
 {
     if unwritten {
@@ -124,12 +117,12 @@ fn final_status(end: Option<RunEnd>, unread: bool, unwritten: bool) -> u8
     end_status(end)
 }
 
-fn end_status(end: Option<RunEnd>) -> u8
+fn end_status(end: RunEnd) -> u8
     ensures { result ≡ spec.end_status end }
 {
     match end {
-        Some(RunEnd::Done) => 0,
-        Some(RunEnd::Stopped) => 3,
-        _ => 4,
+        RunEnd::Done => 0,
+        RunEnd::Stopped => 3,
+        RunEnd::Limit => 4,
     }
 }

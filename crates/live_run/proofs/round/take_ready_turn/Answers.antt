@@ -1,4 +1,6 @@
-use Rattle.std.proofs.Common.{◌≡◌, ◌∙◌, Bool, Vec, Global, ap, refl, sym}
+use Rattle.std.proofs.Common.{◌≡◌, ◌∙◌, Bool, Option, Vec, Global, ap, refl, sym}
+use Rattle.live_answers.specs.declared.current.Current.{Current}
+use Rattle.live_run.proofs.Hearing.{hears_turn}
 use Rattle.live_run.proofs.Rounds.{ready_stays, ready_turned}
 use Rattle.live_run.proofs.round.take_ready_turn.Goals as goal
 
@@ -19,8 +21,22 @@ returns-clause-running g c =
     (record {
       runner = c.take_turn.new.runner;
       history = c.hear.new.history;
-      places = record { grows = kept.grows; deadlines = kept.deadlines; seats = c.hear.new.seats; accepted = kept.accepted };
+      places = record { grows = kept.grows; deadlines = kept.deadlines; currents = c.hear.new.currents; seats = kept.seats; accepted = kept.accepted };
       moved = old.moved;
     })
-    c.args.caller c.in_ok-entry.entry c.requires.running c.in_ok-entry.ensures c.in_ok-hear.ensures
+    c.args.caller c.in_ok-entry.entry c.requires.running c.in_ok-entry.ensures c.in_ok-hear.ensures.history
     (ap (λ (v : Vec Bool Global). v.items) c.set_deadline.ensures.grows) c.set_deadline.ensures.deadlines still refl
+
+pub returns-clause-heard : goal.returns-clause-heard
+returns-clause-heard g c =
+    let old = c.args.round.now in
+    let kept = c.set_deadline.new.self in
+    hears_turn c.args.world.now old
+    (record {
+      runner = c.take_turn.new.runner;
+      history = c.hear.new.history;
+      places = record { grows = kept.grows; deadlines = kept.deadlines; currents = c.hear.new.currents; seats = kept.seats; accepted = kept.accepted };
+      moved = old.moved;
+    })
+    c.args.caller c.in_ok-entry.entry kept.currents.items _ _ c.requires.running c.in_ok-entry.ensures c.in_ok-hear.ensures.history
+    (ap (λ (v : Vec (Option Current) Global). v.items) c.set_deadline.ensures.currents) c.in_ok-hear.ensures.heard
