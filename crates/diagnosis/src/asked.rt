@@ -44,7 +44,7 @@ fn input_of_netsh(name: &[u8]) -> Input {
 fn input_of_netview(name: &[u8]) -> Input {
     match name {
         b"lint" => Input::Database,
-        b"pcap" | b"json" | b"chart" | b"page" | b"steps" | b"words" => Input::History,
+        b"pcap" | b"pcapng" | b"json" | b"chart" | b"page" | b"steps" | b"words" => Input::History,
         _ => Input::Nothing,
     }
 }

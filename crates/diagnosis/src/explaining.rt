@@ -25,6 +25,8 @@ pub struct Call<'a> {
     pub kept: Kept<'a>,
     pub seen: Seen<'a>,
     pub status: u8,
+    /// What was expected in the place of an entry that breaks a rule, or of a summary, with a newline after each line, if it is known.
+    pub expected: Option<&'a [u8]>,
 }
 
 /// An explanation of a call that has ended: its case, and what is known of it.
@@ -79,7 +81,9 @@ fn detail_of<'a>(call: Call<'a>, case: Case) -> Detail<'a> {
         Case::TooLong => Detail::MostBytes(most_bytes(input, name)),
         Case::BadLine { line, cause } => Detail::Line(bad_line(input, call.kept, line, cause)),
         Case::Stopped => Detail::End(call.seen.end),
-        Case::BrokenRule { stamp, rule } => Detail::Rule(broken_rule(call.kept, stamp, rule)),
+        Case::BrokenRule { stamp, rule } => {
+            Detail::Rule(broken_rule(call.kept, stamp, rule, call.expected))
+        }
         Case::NoAnswer => Detail::Finding(finding_of(input, call.words, call.kept, None)),
         Case::Refused { number } => {
             Detail::Finding(finding_of(input, call.words, call.kept, Some(number)))

@@ -92,6 +92,7 @@ fn explained(alloc: Global, row: Row) -> Result<String, AllocError> {
         kept: source.kept(),
         seen: sink.seen(),
         status,
+        expected: None,
     });
     format!(in alloc; "{explanation}")
 }

@@ -59,6 +59,7 @@ const NETSH: &[Form] = &[
 
 const NETVIEW: &[Form] = &[
     ("pcap", "pcap < FILE, or pcap MEDIUM < FILE", 2, true),
+    ("pcapng", "pcapng < FILE", 1, true),
     ("json", "json < FILE", 1, true),
     (
         "chart",
@@ -155,7 +156,7 @@ impl fmt::Display for Commands {
             ),
             Program::Netview => write!(
                 f,
-                "the commands are pcap, json, chart, page, steps, words and lint"
+                "the commands are pcap, pcapng, json, chart, page, steps, words and lint"
             ),
         }
     }
