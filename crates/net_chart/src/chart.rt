@@ -32,7 +32,7 @@ line.again{stroke-dasharray:5 3}
 <rect width='100%' height='100%' fill='#fff'/>
 ";
 
-/// The chart of a history of a world, as a page of SVG. A page of more than 400 rows shows the first and the last frame of each
+/// Draws the chart of a history of a world, as a page of SVG. A page of more than 400 rows shows the first and the last frame of each
 /// moment, and how many are between. It goes three times through the history.
 pub fn chart_of(alloc: Global, world: &World, history: &History) -> Result<Octets, AllocError>
     ensures { IfOk result (λ text. text ≡ spec.chart world.now history.now) }

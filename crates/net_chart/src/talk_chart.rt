@@ -16,7 +16,7 @@ use net_base::{ActorName, Entry, History, HostSpec, Octets, Proto, World};
 use std::alloc::{AllocError, Global};
 use words::{proto_name, put_decimal};
 
-/// The chart of a history of a world with a column for each conversation, as a page of SVG: its operations, and the frames between
+/// Draws the chart of a history of a world with a column for each conversation, as a page of SVG: its operations, and the frames between
 /// conversations. Rows are those of `chart_of`. It goes four times through the history.
 pub fn chart_of_talks(alloc: Global, world: &World, history: &History) -> Result<Octets, AllocError>
     ensures { IfOk result (λ text. text ≡ spec.talk_chart world.now history.now) }

@@ -1,4 +1,4 @@
--- What is answered to an input, from what is told of it.
+-- What is answered to an input, from what is reported of it.
 use Rattle.std.proofs.Common.{◌≡◌, ℕ, ◌≤◌, ◌<◌, ◌^◌, List, length, Option, Some, None, sym, ◌∙◌, ap, subst, inl, inr, arith}
 use Rattle.net_base.specs.declared.history.Entry.{Entry}
 use Rattle.net_base.specs.declared.world.World.{World}
@@ -9,7 +9,7 @@ use Rattle.netcheck.specs.Told.{HandsIn, IsFirstTold, RefusesInput}
 use Rattle.netcheck.specs.declared.fault.InputError.TheVariants as error
 use Rattle.net_base.specs.NdbBundle.{bad_line}
 use Rattle.netview.specs.Views.{asking, input_limit, command_view, whole_view, IsAnswer, IsShown}
-use Rattle.netview.specs.Words.{Lint, Show, View, Chart, ChartOfTalks, Json, Page, Pcap, Steps, Words}
+use Rattle.netview.specs.Words.{Lint, Show, View, Chart, ChartOfTalks, Json, Page, Pcap, Pcapng, Steps, Words}
 use Rattle.net_model.specs.Asking.{IsGiven}
 use Rattle.net_model.proofs.Shared.{answer_within, within_limit}
 
@@ -41,6 +41,7 @@ module _ (asked : View) (input : List ℕ) (w : World) (h : List Entry) (answer 
 -- an input within the limit of a view has fewer than 2^32 bytes
 pub view_fits : (asked : View) (input : List ℕ) → length input ≤ input_limit (Show asked) → length input < 2 ^ 32
 view_fits (Pcap medium) input fits = omega (arith, fits)
+view_fits Pcapng input fits = omega (arith, fits)
 view_fits Json input fits = omega (arith, fits)
 view_fits (Page head tail) input fits = omega (arith, fits)
 view_fits Chart input fits = omega (arith, fits)
@@ -78,7 +79,7 @@ answers_fault asked input stamp rule answer not_legal one fits (w, h, told, hand
 
 -- Notes on a bundle.
 
--- one that is read has no bad line, and one that is refused is told of by its bad line
+-- one that is read has no bad line, and one that is refused is known by its bad line
 bundle_told : (input : List ℕ) (found : Option (ℕ × ℕ)) (answer : Answer) → length input ≤ input_limit Lint → bad_line input ≡ found
     → IsGiven asking found Lint input answer
     → IsAnswer Lint input answer

@@ -6,7 +6,7 @@ use Rattle.net_base.specs.Legal.{IsLegal, IsTimed}
 use Rattle.net_model.specs.Answers.{Answer}
 use Rattle.netcheck.specs.Input.{Handed}
 use Rattle.netview.specs.Views.{asking, capture_on, medium_named, command_view, IsAnswer, IsFirstBad, IsGood as IsGoodOf, IsShown, IsShownOf}
-use Rattle.netview.specs.Words.{Command, Lint, Show, View, Chart, ChartOfTalks, Json, Page, Pcap, Steps, Words}
+use Rattle.netview.specs.Words.{Command, Lint, Show, View, Chart, ChartOfTalks, Json, Page, Pcap, Pcapng, Steps, Words}
 use Rattle.net_model.specs.Calls.{Intake, Output}
 use Rattle.net_model.specs.Ends.{IsStatusOf, TookAll}
 use Rattle.net_model.proofs.Shared.{given_good, IsGood, Sound}
@@ -31,6 +31,7 @@ shown_status (Pcap (Some name)) input w h = by (medium_named name w.media)
     by (Some m) = inl refl
 shown_status Chart input w h = inl refl
 shown_status ChartOfTalks input w h = inl refl
+shown_status Pcapng input w h = inl refl
 shown_status Json input w h = inl refl
 shown_status (Page head tail) input w h = inl refl
 shown_status Steps input w h = inl refl

@@ -10,6 +10,7 @@ use Rattle.netview.specs.declared.command.View.TheVariants as view
 abbrev pub view_read : View → words.View
 view_read view.Capture = words.Pcap None
 view_read (view.CaptureOf name) = words.Pcap (Some name.now)
+view_read view.CaptureInBlocks = words.Pcapng
 view_read view.Json = words.Json
 view_read (view.Page head tail) = words.Page head.now tail.now
 view_read view.Chart = words.Chart

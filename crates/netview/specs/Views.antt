@@ -17,12 +17,13 @@ use Rattle.netcheck.specs.Input.{Handed, IsBadHanded, parts_of}
 use Rattle.history_json.specs.HistoryJson.{history_json}
 use Rattle.history_words.specs.HistoryWords.{history_words}
 use Rattle.replay_views.specs.Capture.{capture}
+use Rattle.pcapng.specs.Frames.{pcapng}
 use Rattle.net_chart.specs.Chart.{chart}
 use Rattle.net_chart.specs.TalkChart.{talk_chart}
 use Rattle.replay_views.specs.Steps.{steps_text}
 use Rattle.net_page.specs.Page.{page}
 use Rattle.net_base.specs.NdbBundle.{bad_line}
-use Rattle.netview.specs.Words.{Command, Lint, Show, View, Chart, ChartOfTalks, Json, Page, Pcap, Steps, Words}
+use Rattle.netview.specs.Words.{Command, Lint, Show, View, Chart, ChartOfTalks, Json, Page, Pcap, Pcapng, Steps, Words}
 
 -- Bad lines.
 
@@ -64,6 +65,7 @@ capture_on (Some medium) w h = whole_view (capture w h (Some medium))
 abbrev pub command_view : View → List ℕ → World → List Entry → Answer
 command_view (Pcap None) input w h = whole_view (capture w h None)
 command_view (Pcap (Some name)) input w h = capture_on (medium_named name w.media) w h
+command_view Pcapng input w h = whole_view (pcapng w h)
 command_view Json input w h = whole_view (history_json h)
 command_view (Page head tail) input w h = whole_view (page head tail input w h)
 command_view Chart input w h = whole_view (chart w h)

@@ -5,6 +5,8 @@ use Rattle.std.specs.Prelude.{◌&&◌, ℕ, List, [], ◌∷◌, Option, Some, 
 pub data View : Type 0 where
   -- `pcap`, or `pcap MEDIUM`: a capture of all media, or of one
   Pcap : Option (List ℕ) → View
+  -- `pcapng`: a capture of all media, with their names and with stamps
+  Pcapng : View
   -- `json`: the history as JSON
   Json : View
   -- `page`: a page on which a reader steps through the history, with its head and its tail
@@ -32,6 +34,7 @@ one_medium (b ∷ name) = Some (Show (Pcap (Some (b ∷ name))))
 abbrev pub one_word : List ℕ → List ℕ → List ℕ → Option Command
 one_word head tail name =
     if bytes_eq name (codes "pcap") then Some (Show (Pcap None))
+    else if bytes_eq name (codes "pcapng") then Some (Show Pcapng)
     else if bytes_eq name (codes "json") then Some (Show Json)
     else if bytes_eq name (codes "page") then Some (Show (Page head tail))
     else if bytes_eq name (codes "chart") then Some (Show Chart)

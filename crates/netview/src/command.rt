@@ -10,6 +10,8 @@ pub enum View<'a> {
     Capture,
     /// `pcap MEDIUM`
     CaptureOf(&'a [u8]),
+    /// `pcapng`
+    CaptureInBlocks,
     /// `json`
     Json,
     /// `page`, with the texts before and after its payload.
@@ -50,6 +52,9 @@ fn read_one<'a>(name: &[u8], head: &'a [u8], tail: &'a [u8]) -> Option<Command<'
 {
     if name == b"pcap".as_slice() {
         return Some(Command::Show(View::Capture));
+    }
+    if name == b"pcapng".as_slice() {
+        return Some(Command::Show(View::CaptureInBlocks));
     }
     if name == b"json".as_slice() {
         return Some(Command::Show(View::Json));

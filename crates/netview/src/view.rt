@@ -15,6 +15,7 @@ use net_chart::{chart_of, chart_of_talks};
 use net_model::Answer;
 use net_page::page_of;
 use netcheck::{CheckedInput, InputError, a_fault_is_one, check_input};
+use pcapng::pcapng_of;
 use replay_views::{capture_of, steps_of};
 use std::alloc::{AllocError, Global};
 use std::mem;
@@ -58,6 +59,7 @@ fn show(
             Some(medium) => Ok(Answer::whole(capture_of(alloc, world, history, Some(medium))?)),
             None => Answer::nothing(alloc),
         },
+        View::CaptureInBlocks => Ok(Answer::whole(pcapng_of(alloc, world, history)?)),
         View::Json => Ok(Answer::whole(json_of(alloc, history)?)),
         View::Page { head, tail } => Ok(Answer::whole(page_of(
             alloc, head, tail, input, world, history,
